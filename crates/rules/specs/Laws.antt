@@ -1,0 +1,4 @@
+pub mod Tests
+pub mod Lookups
+pub mod Members
+pub mod Table

@@ -1,0 +1,67 @@
+-- What can be asked of a plugin and of the registry. R's getters are queries by id, answering 1 if it isn't registered.
+use Prim.Native.Nat.{ℕ}
+use mathlib.Core.Bool.{Bool}
+use mathlib.Core.List.{List, [], _∷_}
+use mathlib.Core.Option.{Option, none, some}
+use lib.Dec.{ltb}
+use Rattle.rules.specs.Basics.{pick, yesNo, one}
+use Rattle.rules.specs.Holds.{Plugin, Registry, plugins, count, rowsInUse}
+use Rattle.rules.specs.Holds.{Phase, Idle, Loading, Active, Unloading, Root, Unissued, Queued, Spent}
+use Rattle.rules.specs.Outcomes.{Outcome, answers, known}
+use Rattle.rules.specs.Ports.{flat}
+
+-- phases in table order
+abbrev pub phaseNumber : Phase → ℕ
+phaseNumber Idle = 0
+phaseNumber Loading = 1
+phaseNumber Active = 2
+phaseNumber Unloading = 3
+
+-- 0 Unissued, 1 Queued with revision and argument, 2 Spent
+abbrev pub rootNumbers : Root → List ℕ
+rootNumbers Unissued = 0 ∷ []
+rootNumbers (Queued v a) = 1 ∷ v ∷ a ∷ []
+rootNumbers Spent = 2 ∷ []
+
+pub data Field : Type 0 where
+  Parent Anchor PhaseOf RetiredMark Generation Revision Payload RootOf : Field
+
+abbrev pub fieldOf : Field → Plugin → List ℕ
+fieldOf Parent p = one (p .parent)
+fieldOf Anchor p = flat (p .anchor ∷ [])
+fieldOf PhaseOf p = phaseNumber (p .phase) ∷ []
+fieldOf RetiredMark p = yesNo (p .retired) ∷ []
+fieldOf Generation p = p .generation ∷ []
+fieldOf Revision p = p .revision ∷ []
+fieldOf Payload p = p .payload ∷ []
+fieldOf RootOf p = rootNumbers (p .root)
+
+unfoldable pub askPlugin : Registry → Field → ℕ → Outcome
+askPlugin r f id = known r id λ p. answers (fieldOf f p)
+
+-- Rows in use, and what else the registry as a whole answers.
+pub data Total : Type 0 where
+  Domain FirstId NextId Registered RowsInUse : Total
+
+abbrev pub totalOf : Total → Registry → ℕ
+totalOf Domain r = r .domain
+totalOf FirstId r = r .first
+totalOf NextId r = r .next
+totalOf Registered r = count r
+totalOf RowsInUse r = rowsInUse r
+
+unfoldable pub askRegistry : Registry → Total → Outcome
+askRegistry r t = answers (totalOf t r ∷ [])
+
+-- the lowest id above a number, or none
+abbrev pub lower : ℕ → Option ℕ → Option ℕ
+lower x none = some x
+lower x (some y) = some (pick (ltb x y) x y)
+
+abbrev pub lowestAbove : ℕ → List Plugin → Option ℕ
+lowestAbove n [] = none
+lowestAbove n (p ∷ ps) = pick (ltb n (p .id)) (lower (p .id) (lowestAbove n ps)) (lowestAbove n ps)
+
+-- The next registered id above a number, so that a host can go through the plugins by rising id.
+unfoldable pub nextAbove : Registry → ℕ → Outcome
+nextAbove r n = answers (one (lowestAbove n (plugins r)))

@@ -1,0 +1,54 @@
+-- Document 01, "Refusal numbers". The names are those of the source's enum.
+use Prim.Native.Nat.{ℕ}
+pub use Rattle.rules.specs.declared.Refusal.{Refusal}
+pub use Rattle.rules.specs.declared.Refusal.the-variants.{Unknown, Retired, InvalidState, BadRealms, TooManyKeys, DuplicateDependency, DuplicateProvision, Taken}
+pub use Rattle.rules.specs.declared.Refusal.the-variants.{NoId, Full, TooLong, NoRows, Stale, Unavailable, InUse, Exhausted}
+pub use Rattle.rules.specs.declared.Refusal.the-variants.{NotRun, HasChildren, Closed, Undeclared, Duplicate, Missing, ShortBuffer}
+
+abbrev pub number : Refusal → ℕ
+-- id not registered; in child retirement, never issued
+number Unknown = 1
+-- plugin or parent is retired
+number Retired = 2
+-- foreign domain, wrong kind, parent or phase, root already issued, slot decided
+number InvalidState = 3
+-- realm list of odd length, over 16 rows, or keys not strictly rising
+number BadRealms = 4
+-- over 16 dependency or over 15 provision keys
+number TooManyKeys = 5
+-- two declared dependencies resolve alike
+number DuplicateDependency = 6
+-- the same among provisions with the anchor
+number DuplicateProvision = 7
+-- one of those is provided by a registered plugin, anchors counted
+number Taken = 8
+-- next id is 2^64 − 1
+number NoId = 9
+-- 32 plugins registered
+number Full = 10
+-- finished dependency list over 48 ports
+number TooLong = 11
+-- rows in use + rows needed > 1,024
+number NoRows = 12
+-- ticket or invocation is not the live one
+number Stale = 13
+-- a dependency has no Active provider
+number Unavailable = 14
+-- a Loading or Active plugin depends on one of its provisions or its anchor
+number InUse = 15
+-- revision or generation is 2^64 − 1
+number Exhausted = 16
+-- root not Spent
+number NotRun = 17
+-- a registered plugin names it as parent
+number HasChildren = 18
+-- wrong phase for values
+number Closed = 19
+-- port not in the list concerned
+number Undeclared = 20
+-- value already offered
+number Duplicate = 21
+-- value absent
+number Missing = 22
+-- lent room too small
+number ShortBuffer = 23
