@@ -19,3 +19,4 @@ pub mod Reached
 pub mod History
 pub mod Laws
 pub mod Demand3
+pub mod Built
