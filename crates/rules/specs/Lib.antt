@@ -16,6 +16,7 @@ pub mod Queries
 pub mod Steps
 pub mod Examples
 pub mod Reached
+pub mod Demand1
 pub mod History
 pub mod Laws
 pub mod Demand3
