@@ -43,7 +43,7 @@ admit r t a =
     (stores (withRoot (Queued (p .revision) a) p) (r .domain ∷ p .id ∷ p .generation ∷ p .revision ∷ a ∷ [])))
 
 abbrev pub isAccepted : Answer → Bool
-isAccepted (Refused x vs) = false
+isAccepted (Refused n vs) = false
 isAccepted (Accepted vs) = true
 
 -- Whether a ticket would be admitted (R's accepts_root_invocation).

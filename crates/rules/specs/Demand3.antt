@@ -14,7 +14,7 @@ use lib.ListN.{length}
 use borrow.Author.Tests.{eqb-true, eqb-false, not-true}
 use Rattle.rules.specs.Basics.{all, sameNumbers, isSome}
 use Rattle.rules.specs.Holds.{Plugin, Registry, lookup, opened, plugins, Root, Unissued, Queued, Spent, withRoot}
-use Rattle.rules.specs.Refusals.{Refusal, Unknown, Retired, InvalidState, Stale}
+use Rattle.rules.specs.Refusals.{Retired, InvalidState, Stale}
 use Rattle.rules.specs.Outcomes.{Answer, Refused, Accepted, Outcome, stores, answerOf, after, _⇒_, checked, found}
 use Rattle.rules.specs.Admission.{Invocation, five, receipt, isQueued, isLive, call}
 use Rattle.rules.specs.Steps.{Op, Call, Event, Run, run, runFresh, step, answerTo, goOn, goOnWith}

@@ -5,7 +5,6 @@ use mathlib.Core.Bool.{false}
 use mathlib.Core.List.{List, [], _∷_}
 use mathlib.Core.Option.{Option, none, some}
 use Rattle.rules.specs.Holds.{Port, port, Plugin, Registry, Phase, Idle, Unissued, opened, freePlaces, lookup, count, provider, rowsInUse}
-use Rattle.rules.specs.Refusals.{BadRealms, Stale, Unavailable}
 use Rattle.rules.specs.Outcomes.{Answer, Refused, Accepted, after, lentAfter, checked, found, handingBack}
 use Rattle.rules.specs.Ports.{badRealms, resolve, resolveKey}
 use Rattle.rules.specs.Dependencies.{dependencyList, dependencyPort}
@@ -13,7 +12,7 @@ use Rattle.rules.specs.Registration.{dependenciesOf, newPlugin, register
 use Rattle.rules.specs.Phases.{begin}
 use Rattle.rules.specs.Replacement.{replace, fits}
 use Rattle.rules.specs.Admission.{Ticket, Invocation, admit, isLive, call}
-use Rattle.rules.specs.Lists.{Dependencies, list}
+use Rattle.rules.specs.Lists.{Dependencies, listing, list}
 use Rattle.rules.specs.Queries.{RowsInUse, askRegistry}
 use Rattle.rules.specs.Steps.{Op, ResolveKey, DependencyPort, Register, Begin, Replace, Fits, Admit, Call, Listed, AskRegistry, step, answerTo, afterStep, lentAfterStep, run}
 
@@ -121,7 +120,7 @@ pub record Examples : Type 0 where
   pub E2 : listed E2-plugins 2 (0 ∷ 0 ∷ 0 ∷ 0 ∷ 0 ∷ 0 ∷ []) ≡ 9 ∷ 1 ∷ 2 ∷ 0 ∷ 2 ∷ 5 ∷ []
   pub E3 : listed E3-plugins 2 (0 ∷ 0 ∷ []) ≡ 2 ∷ 5 ∷ []
   pub E4 : listed E4-plugins 2 (0 ∷ 0 ∷ []) ≡ 4 ∷ 0 ∷ []
-  pub E4-begin : answerTo (run fresh E4-plugins .registry) (Begin 2) ≡ Refused Unavailable []
+  pub E4-begin : answerTo (run fresh E4-plugins .registry) (Begin 2) ≡ Refused 14 []
   pub E5 : listed E5-plugins 3 (0 ∷ 0 ∷ 0 ∷ 0 ∷ 0 ∷ 0 ∷ []) ≡ 2 ∷ 0 ∷ 2 ∷ 5 ∷ 2 ∷ 7 ∷ []
   pub E5-key : answerTo (run fresh E5-plugins .registry) (DependencyPort 3 2) ≡ Accepted (2 ∷ 0 ∷ [])
   pub E6 : answersFrom E6-registry (Fits 1 3 ∷ Fits 1 4 ∷ []) ≡ Accepted (1 ∷ []) ∷ Accepted (0 ∷ []) ∷ []
@@ -130,17 +129,17 @@ pub record Examples : Type 0 where
       ≡ Accepted (1 ∷ []) ∷ Accepted (0 ∷ []) ∷ Accepted (1 ∷ []) ∷ []
   pub E8
       : answersTo (registers none (port 100 0) (2 ∷ 5 ∷ 2 ∷ 1 ∷ []) [] [] ∷ registers none (port 100 0) (9 ∷ 1 ∷ 2 ∷ 5 ∷ []) [] [] ∷ [])
-      ≡ Refused BadRealms [] ∷ Refused BadRealms [] ∷ []
+      ≡ Refused 4 [] ∷ Refused 4 [] ∷ []
   pub E9
       : answersTo (plain ∷ Begin 1 ∷ Admit (ticket 1 1) 24 ∷ Replace 1 40 ∷ Call (invocation 1 1 0 24) ∷ [])
-      ≡ Accepted (1 ∷ []) ∷ Accepted (7 ∷ 1 ∷ 1 ∷ 1 ∷ []) ∷ Accepted (7 ∷ 1 ∷ 1 ∷ 0 ∷ 24 ∷ []) ∷ Accepted (40 ∷ []) ∷ Refused Stale [] ∷ []
+      ≡ Accepted (1 ∷ []) ∷ Accepted (7 ∷ 1 ∷ 1 ∷ 1 ∷ []) ∷ Accepted (7 ∷ 1 ∷ 1 ∷ 0 ∷ 24 ∷ []) ∷ Accepted (40 ∷ []) ∷ Refused 13 [] ∷ []
   pub E10
       : answersTo (plain ∷ Begin 1 ∷ Admit (ticket 1 1) 24 ∷ Call (invocation 1 1 0 24) ∷ Call (invocation 1 1 0 24) ∷ [])
       ≡ Accepted (1 ∷ []) ∷ Accepted (7 ∷ 1 ∷ 1 ∷ 1 ∷ []) ∷ Accepted (7 ∷ 1 ∷ 1 ∷ 0 ∷ 24 ∷ [])
-      ∷ Accepted (7 ∷ 1 ∷ 1 ∷ 0 ∷ 40 ∷ 24 ∷ []) ∷ Refused Stale [] ∷ []
+      ∷ Accepted (7 ∷ 1 ∷ 1 ∷ 0 ∷ 40 ∷ 24 ∷ []) ∷ Refused 13 [] ∷ []
 
 pub examples : Examples
-unfolding step after lentAfter checked found handingBack lookup count provider rowsInUse badRealms resolve resolveKey dependencyList dependencyPort dependenciesOf newPlugin register begin replace fits admit isLive call list askRegistry
+unfolding step after lentAfter checked found handingBack lookup count provider rowsInUse badRealms resolve resolveKey dependencyList dependencyPort dependenciesOf newPlugin register begin replace fits admit isLive call listing list askRegistry
 examples = record {
   E1 = refl;
   E2 = refl;

@@ -8,7 +8,6 @@ use lib.Dec.{eqb}
 use lib.ListN.{getD}
 use Rattle.rules.specs.Basics.{pick, all, sameNumbers}
 use Rattle.rules.specs.Holds.{Plugin, Registry, lookup}
-use Rattle.rules.specs.Refusals.{Refusal, Unknown, Retired, InvalidState, Stale}
 use Rattle.rules.specs.Outcomes.{Answer, Refused, Accepted}
 use Rattle.rules.specs.Admission.{Invocation, five, receipt}
 use Rattle.rules.specs.Steps.{Op, Event, ResolveKey, DependencyPort, Register, Begin, Ready, Fail, Unload, Finish, Replace, Fits, Admit, Admits, Call}
@@ -67,7 +66,7 @@ told (NextAbove n) vs = none
 
 -- A refused operation tells nothing.
 abbrev pub noted : Op → Answer → Option Note
-noted o (Refused x vs) = none
+noted o (Refused n vs) = none
 noted o (Accepted vs) = told o vs
 
 abbrev pub addTo : ℕ → Option Note → List Told → List Told
@@ -134,8 +133,8 @@ pub record Open (t : Invocation) (h : List Told) (v : ℕ) : Type 0 where
   pub payload : stored before ≡ v
 
 -- 3 for a foreign domain, 1 for an unregistered plugin, 2 for a retired one, 13 otherwise.
-abbrev pub refusalFor : ℕ → Invocation → List Told → Refusal
-refusalFor d t h = pick (not (eqb (t .domain) d)) InvalidState (pick (not (isRegistered h)) Unknown (pick (isRetired h) Retired Stale))
+abbrev pub refusalFor : ℕ → Invocation → List Told → ℕ
+refusalFor d t h = pick (not (eqb (t .domain) d)) 3 (pick (not (isRegistered h)) 1 (pick (isRetired h) 2 13))
 
 -- What is demanded of the answer to a call, over the story h of its plugin in a registry of domain d.
 pub record Demand3 (d : ℕ) (t : Invocation) (h : List Told) (answer : Answer) : Type 0 where

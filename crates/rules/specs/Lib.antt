@@ -21,3 +21,4 @@ pub mod History
 pub mod Laws
 pub mod Demand3
 pub mod Built
+pub mod Kept

@@ -18,9 +18,12 @@ listOf Provisions p = provided p
 listOf RealmRows p = p .realms .rows
 
 -- Listed from the place in the lent buffer that the caller names, as alternating numbers; answers the count.
--- 1, then 23 if the place is past the end or fewer than 2 × count numbers stand from it to the end.
-unfoldable pub list : Registry → Which → ℕ → ℕ → List ℕ → Outcome
-list r w id place buffer = known r id λ p.
-    let ports = listOf w p in
+-- 23 if the place is past the end or fewer than 2 × count numbers stand from it to the end.
+unfoldable pub listing : List Port → ℕ → List ℕ → Outcome
+listing ports place buffer =
     checked ((ltb (length buffer) place || ltb (length buffer - place) (2 * length ports) ⇒ ShortBuffer) ∷ [])
     (writes place (flat ports) (length ports ∷ []))
+
+-- 1, then the listing.
+unfoldable pub list : Registry → Which → ℕ → ℕ → List ℕ → Outcome
+list r w id place buffer = known r id λ p. listing (listOf w p) place buffer

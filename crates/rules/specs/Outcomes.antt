@@ -7,13 +7,13 @@ use lib.Dec.{eqb}
 use lib.ListN.{length, take, drop}
 use Rattle.rules.specs.Basics.{pick}
 use Rattle.rules.specs.Holds.{Plugin, Places, Registry, lookup}
-use Rattle.rules.specs.Refusals.{Refusal, Unknown}
+use Rattle.rules.specs.Refusals.{Refusal, number, Unknown}
 
 infix 20 _⇒_
--- An answer: a refusal, with the offered payload where that is handed back; or the numbers of an acceptance.
+-- An answer: a refusal's number, with the offered payload where that is handed back; or the numbers of an acceptance.
 -- What is absent (document 01's none) is no number.
 pub data Answer : Type 0 where
-  Refused : Refusal → List ℕ → Answer
+  Refused : ℕ → List ℕ → Answer
   Accepted : List ℕ → Answer
 
 -- What an operation comes to. All but the first are acceptances with the numbers answered.
@@ -60,7 +60,7 @@ handingBack v (adds p vs) = adds p vs
 handingBack v (removes id vs) = removes id vs
 
 abbrev pub answerOf : Outcome → Answer
-answerOf (refuses x vs) = Refused x vs
+answerOf (refuses x vs) = Refused (number x) vs
 answerOf (answers vs) = Accepted vs
 answerOf (writes place l vs) = Accepted vs
 answerOf (stores p vs) = Accepted vs

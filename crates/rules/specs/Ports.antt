@@ -47,9 +47,12 @@ resolveIn other (row ∷ rows) k = pick (eqb (row .key) k) row (resolveIn other 
 unfoldable pub resolve : Realms → ℕ → Port
 resolve z k = resolveIn (z .other) (z .rows) k
 
--- The table that a lent realm list makes: any other key gets realm 0.
+-- The table that a lent realm list makes; any other key gets realm 0.
+abbrev pub realmsWith : ℕ → List ℕ → Realms
+realmsWith other l = record { rows = pairs l; other = other }
+
 abbrev pub realmsOf : List ℕ → Realms
-realmsOf l = record { rows = pairs l; other = defaultRealm }
+realmsOf l = realmsWith defaultRealm l
 
 -- A lookup in a list that breaks row 4 answers 4.
 unfoldable pub resolveKey : List ℕ → ℕ → Outcome

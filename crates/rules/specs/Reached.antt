@@ -20,7 +20,7 @@ use Rattle.rules.specs.Replacement.{replace, fits}
 use Rattle.rules.specs.Admission.{Ticket, Invocation, admit, admits, isAccepted, isLive, call}
 use Rattle.rules.specs.Retirement.{Identity, retire, retireChild, childIdentity, remove}
 use Rattle.rules.specs.Values.{offer, read, visible, own, missing, matching, declares}
-use Rattle.rules.specs.Lists.{Dependencies, Provisions, RealmRows, list}
+use Rattle.rules.specs.Lists.{Dependencies, Provisions, RealmRows, listing, list}
 use Rattle.rules.specs.Queries.{Parent, Anchor, PhaseOf, RetiredMark, Generation, Revision, Payload, RootOf, askPlugin}
 use Rattle.rules.specs.Queries.{Domain, FirstId, NextId, Registered, RowsInUse, askRegistry, nextAbove}
 use Rattle.rules.specs.Steps.{Op, ResolveKey, DependencyPort, Register, Begin, Ready, Fail, Unload, Finish, Replace, Fits, Admit, Admits, Call}
@@ -41,12 +41,12 @@ abbrev pub ok : List ℕ → Answer
 ok vs = Accepted vs
 
 abbrev pub refused : Refusal → Answer
-refused x = Refused x []
+refused x = Refused (number x) []
 
 abbrev pub sameAnswer : Answer → Answer → Bool
-sameAnswer (Refused x vs) (Refused y ws) = eqb (number x) (number y) && sameNumbers vs ws
-sameAnswer (Refused x vs) (Accepted ws) = false
-sameAnswer (Accepted vs) (Refused y ws) = false
+sameAnswer (Refused n vs) (Refused m ws) = eqb n m && sameNumbers vs ws
+sameAnswer (Refused n vs) (Accepted ws) = false
+sameAnswer (Accepted vs) (Refused m ws) = false
 sameAnswer (Accepted vs) (Accepted ws) = sameNumbers vs ws
 
 -- What the rules answer, line by line, is what the transcript says.
@@ -202,7 +202,7 @@ abbrev pub family : List Line
 family =
     plain ↝ ok (1 ∷ [])
     ∷ registers (some 1) (port 101 0) [] [] [] ↝ ok (2 ∷ [])
-    ∷ Replace 9 41 ↝ Refused Unknown (41 ∷ [])
+    ∷ Replace 9 41 ↝ Refused (number Unknown) (41 ∷ [])
     ∷ Replace 1 41 ↝ ok (40 ∷ [])
     ∷ Fits 9 1 ↝ refused Unknown
     ∷ Fits 1 (2 ^ 64 - 2) ↝ ok (1 ∷ [])
@@ -271,7 +271,7 @@ questions =
 -- Numbers at their end: an Idle plugin with the last revision and generation that depends on a port without provider.
 abbrev pub exhausted : List Line
 exhausted =
-    Replace 1 41 ↝ Refused Exhausted (41 ∷ [])
+    Replace 1 41 ↝ Refused (number Exhausted) (41 ∷ [])
     ∷ Fits 1 0 ↝ ok (1 ∷ [])
     ∷ Begin 1 ↝ refused Exhausted
     ∷ []
@@ -349,7 +349,7 @@ kind (AskRegistry t) = 26
 kind (NextAbove n) = 27
 
 abbrev pub isRefusal : ℕ → Answer → Bool
-isRefusal n (Refused x vs) = eqb (number x) n
+isRefusal n (Refused m vs) = eqb m n
 isRefusal n (Accepted vs) = false
 
 abbrev pub everyLine : List Line
@@ -377,7 +377,7 @@ pub record Reached : Type 0 where
   pub every-refusal : all givenSomewhere (keys 23 1) ≡ true
 
 pub reached : Reached
-unfolding step after lentAfter checked found handingBack lookup count provider rowsInUse badRealms resolve resolveKey dependencyList dependencyPort dependenciesOf newPlugin register begin ready fail unload finish replace fits admit admits isLive call retire retireChild childIdentity remove offer read visible own missing matching declares list askPlugin askRegistry nextAbove
+unfolding step after lentAfter checked found handingBack lookup count provider rowsInUse badRealms resolve resolveKey dependencyList dependencyPort dependenciesOf newPlugin register begin ready fail unload finish replace fits admit admits isLive call retire retireChild childIdentity remove offer read visible own missing matching declares listing list askPlugin askRegistry nextAbove
 reached = record {
   registrations = refl;
   lastId = refl;

@@ -1,9 +1,10 @@
--- Document 01, "Refusal numbers". The names are those of the source's enum.
+-- Document 01, "Refusal numbers".
 use Prim.Native.Nat.{ℕ}
-pub use Rattle.rules.specs.declared.Refusal.{Refusal}
-pub use Rattle.rules.specs.declared.Refusal.the-variants.{Unknown, Retired, InvalidState, BadRealms, TooManyKeys, DuplicateDependency, DuplicateProvision, Taken}
-pub use Rattle.rules.specs.declared.Refusal.the-variants.{NoId, Full, TooLong, NoRows, Stale, Unavailable, InUse, Exhausted}
-pub use Rattle.rules.specs.declared.Refusal.the-variants.{NotRun, HasChildren, Closed, Undeclared, Duplicate, Missing, ShortBuffer}
+
+pub data Refusal : Type 0 where
+  Unknown Retired InvalidState BadRealms TooManyKeys DuplicateDependency DuplicateProvision Taken : Refusal
+  NoId Full TooLong NoRows Stale Unavailable InUse Exhausted : Refusal
+  NotRun HasChildren Closed Undeclared Duplicate Missing ShortBuffer : Refusal
 
 abbrev pub number : Refusal → ℕ
 -- id not registered; in child retirement, never issued

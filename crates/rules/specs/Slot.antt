@@ -6,7 +6,7 @@ use mathlib.Core.List.{[]}
 use mathlib.Core.Option.{Option, none, some}
 use lib.Dec.{eqb}
 use Rattle.rules.specs.Basics.{pick}
-use Rattle.rules.specs.Refusals.{InvalidState}
+use Rattle.rules.specs.Refusals.{number, InvalidState}
 use Rattle.rules.specs.Outcomes.{Answer, Refused, Accepted}
 use Rattle.rules.specs.Retirement.{Identity}
 
@@ -49,7 +49,7 @@ pub record Decided : Type 0 where
 abbrev pub decided : Slot → Bool → Decision → Decided
 decided s agrees v = pick (isPending (s .decision) && agrees)
     (record { slot = withDecision s v; answer = Accepted [] })
-    (record { slot = s; answer = Refused InvalidState [] })
+    (record { slot = s; answer = Refused (number InvalidState) [] })
 
 -- Assign: 3 unless Pending and domain and parent agree.
 unfoldable pub assign : Slot → Identity → Decided

@@ -1,8 +1,49 @@
 // The types of document 01 that the rules and the code share.
+ghost use mathlib.Core.Path.{_≡_};
+ghost use Rattle.rules.specs.Holds.{port, defaultRealm, neverBegun};
+
+pub mod refusal;
 
 pub struct Port {
     pub key: u64,
     pub realm: u64,
+}
+
+impl Port {
+    pub const DEFAULT_REALM: u64 = 0;
+
+    pub fn new(key: u64, realm: u64) -> Port
+        ensures { λ r. ⌜ r ≡ port key realm ⌝ }
+    {
+        Port {
+            key: key,
+            realm: realm,
+        }
+    }
+
+    pub fn in_default_realm(key: u64) -> Port
+        ensures { λ r. ⌜ r ≡ port key defaultRealm ⌝ }
+    {
+        Port::new(key, Port::DEFAULT_REALM)
+    }
+}
+
+pub struct Generation(pub u64);
+
+impl Generation {
+    pub const NEVER_BEGUN: Generation = Generation(0);
+
+    pub fn never_begun() -> Generation
+        ensures { λ r. ⌜ r .0 ≡ neverBegun ⌝ }
+    {
+        Generation::NEVER_BEGUN
+    }
+
+    pub fn of(number: u64) -> Generation
+        ensures { λ r. ⌜ r .0 ≡ number ⌝ }
+    {
+        Generation(number)
+    }
 }
 
 pub enum Phase {
@@ -17,30 +58,4 @@ pub enum Root {
     Unissued,
     Queued(u64, u64),
     Spent,
-}
-
-pub enum Refusal {
-    Unknown,
-    Retired,
-    InvalidState,
-    BadRealms,
-    TooManyKeys,
-    DuplicateDependency,
-    DuplicateProvision,
-    Taken,
-    NoId,
-    Full,
-    TooLong,
-    NoRows,
-    Stale,
-    Unavailable,
-    InUse,
-    Exhausted,
-    NotRun,
-    HasChildren,
-    Closed,
-    Undeclared,
-    Duplicate,
-    Missing,
-    ShortBuffer,
 }

@@ -17,7 +17,7 @@ use Rattle.rules.specs.Replacement.{replace, fits}
 use Rattle.rules.specs.Admission.{Ticket, Invocation, five, isLive, admit, admits, call}
 use Rattle.rules.specs.Retirement.{Identity, retire, retireFound, retireChild, childIdentity, remove}
 use Rattle.rules.specs.Values.{offer, read, visible, own, missing, matching, declares}
-use Rattle.rules.specs.Lists.{Which, list}
+use Rattle.rules.specs.Lists.{Which, listing, list}
 use Rattle.rules.specs.Queries.{askPlugin, askRegistry, nextAbove}
 use Rattle.rules.specs.Steps.{Op, Event, step, ResolveKey, DependencyPort, Register, Begin, Ready, Fail, Unload, Finish, Replace, Fits, Admit, Admits, Call}
 use Rattle.rules.specs.Steps.{Retire, RetireChild, ChildIdentity, Remove, Offer, Read, Visible, Own, FirstMissing, Matching, Declares}
@@ -146,7 +146,7 @@ module _ (s : Registry) (es : List Event) (r : Registry) (w : Linked s es r) whe
   read-kept id q = knows _ _ _ λ p e. passes _ _ _ λ c. answered s es r w _ _ refl
 
   list-kept : (w : Which) (id place : ℕ) (l : List ℕ) → Good s es r (Listed w id place l) (list r w id place l)
-  unfolding list
+  unfolding list listing
   list-kept k id place l = knows _ _ _ λ p e. passes _ _ _ λ c. wrote s es r w _ place _ _ refl
 
   resolve-kept : (l : List ℕ) (k : ℕ) → Good s es r (ResolveKey l k) (resolveKey l k)

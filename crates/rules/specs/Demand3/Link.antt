@@ -11,7 +11,7 @@ use lib.ListN.{length}
 use borrow.Author.Tests.{eqb-true, eqb-false, eq-eqb, ne-eqb, leb-true, leb-false}
 use Rattle.rules.specs.Basics.{pick, sameNumbers}
 use Rattle.rules.specs.Holds.{Plugin, Registry, lookup, count, Queued}
-use Rattle.rules.specs.Refusals.{Refusal}
+use Rattle.rules.specs.Refusals.{Refusal, number}
 use Rattle.rules.specs.Outcomes.{Answer, Refused, Accepted, Outcome, refuses, answers, writes, stores, adds, removes, answerOf, after, lentAfter}
 use Rattle.rules.specs.Admission.{Invocation, five, isLive}
 use Rattle.rules.specs.Steps.{Op, Event, lent}
@@ -140,7 +140,7 @@ module _ (s : Registry) (es : List Event) (r : Registry) (w : Linked s es r) whe
 
   pub refused : (o : Op) (x : Refusal) (vs : List ℕ) → Good s es r o (refuses x vs)
   unfolding Good after
-  refused o x vs = still o (Refused x vs) _ refl
+  refused o x vs = still o (Refused (number x) vs) _ refl
 
   pub answered : (o : Op) (vs : List ℕ) → told o vs ≡ none → Good s es r o (answers vs)
   unfolding Good after

@@ -1,0 +1,156 @@
+//! What a script can reach.
+
+use super::checks::{Check, check};
+
+/// An operation, its kinds of acceptance, and the checks that can refuse it.
+pub type Expected = (&'static str, &'static [&'static str], &'static [Check]);
+
+const PLAIN: &[&str] = &[""];
+const NONE: &[&str] = &["", "none"];
+const YES_NO: &[&str] = &["yes", "no"];
+const UNKNOWN: &[Check] = &[check(1, "")];
+const LIST: &[Check] = &[check(1, ""), check(23, "past the end"), check(23, "too little room")];
+const REALMS: &[Check] =
+    &[check(4, "odd"), check(4, "rows"), check(4, "equal keys"), check(4, "falling keys")];
+
+/// Every operation with all that it can answer on a registry built from an
+/// opening. Refusal 16 is in no row: it needs 2^64 - 1 replacements or
+/// generations.
+pub const EXPECTED: &[Expected] = &[
+    ("open", PLAIN, &[]),
+    (
+        "register",
+        &["child", "no parent"],
+        &[
+            check(4, "odd"),
+            check(4, "rows"),
+            check(4, "equal keys"),
+            check(4, "falling keys"),
+            check(5, "dependencies"),
+            check(5, "provisions"),
+            check(1, ""),
+            check(2, ""),
+            check(3, ""),
+            check(6, ""),
+            check(7, "keys"),
+            check(7, "anchor"),
+            check(8, "provision by provision"),
+            check(8, "provision by anchor"),
+            check(8, "anchor by provision"),
+            check(8, "anchor by anchor"),
+            check(9, ""),
+            check(10, ""),
+            check(11, ""),
+            check(12, ""),
+        ],
+    ),
+    ("begin", PLAIN, &[check(1, ""), check(2, ""), check(3, ""), check(14, "")]),
+    (
+        "ready",
+        PLAIN,
+        &[
+            check(1, ""),
+            check(2, ""),
+            check(3, ""),
+            check(17, "unissued"),
+            check(17, "queued"),
+            check(22, ""),
+        ],
+    ),
+    ("fail", PLAIN, &[check(1, ""), check(3, "")]),
+    ("unload", PLAIN, &[check(1, ""), check(3, ""), check(15, "provision"), check(15, "anchor")]),
+    ("finish", PLAIN, &[check(1, ""), check(3, "")]),
+    ("replace", PLAIN, UNKNOWN),
+    ("fits", YES_NO, UNKNOWN),
+    (
+        "admit",
+        PLAIN,
+        &[
+            check(3, "domain"),
+            check(3, "kind"),
+            check(1, ""),
+            check(2, ""),
+            check(13, "phase"),
+            check(13, "generation"),
+            check(3, "queued"),
+            check(3, "spent"),
+        ],
+    ),
+    (
+        "call",
+        PLAIN,
+        &[
+            check(3, "domain"),
+            check(1, ""),
+            check(2, ""),
+            check(13, "phase"),
+            check(13, "unissued"),
+            check(13, "spent"),
+            check(13, "generation"),
+            check(13, "current revision"),
+            check(13, "queued revision"),
+            check(13, "argument"),
+        ],
+    ),
+    ("retire", PLAIN, &[check(1, ""), check(2, "")]),
+    (
+        "retire_child",
+        &["registered", "removed before"],
+        &[
+            check(3, "domain"),
+            check(1, "below first"),
+            check(1, "not below next"),
+            check(3, "other parent"),
+            check(3, "no parent"),
+            check(2, ""),
+        ],
+    ),
+    ("remove", PLAIN, &[check(1, ""), check(3, "phase"), check(3, "not retired"), check(18, "")]),
+    ("child", NONE, UNKNOWN),
+    (
+        "offer",
+        PLAIN,
+        &[
+            check(1, ""),
+            check(19, "phase"),
+            check(19, "retired"),
+            check(20, "anchor"),
+            check(20, "other"),
+            check(21, ""),
+        ],
+    ),
+    (
+        "read",
+        PLAIN,
+        &[
+            check(1, ""),
+            check(19, ""),
+            check(20, "own provision"),
+            check(20, "other"),
+            check(22, ""),
+        ],
+    ),
+    ("visible", NONE, &[]),
+    ("missing", NONE, UNKNOWN),
+    ("matches", YES_NO, UNKNOWN),
+    ("declares", YES_NO, UNKNOWN),
+    ("lookup", NONE, UNKNOWN),
+    ("resolve", PLAIN, REALMS),
+    ("deps", PLAIN, LIST),
+    ("provs", PLAIN, LIST),
+    ("realms", PLAIN, LIST),
+    ("buffer", PLAIN, &[]),
+    ("rows", PLAIN, &[]),
+    ("count", PLAIN, &[]),
+    ("next", PLAIN, &[]),
+    ("show", PLAIN, UNKNOWN),
+    ("slot pending", PLAIN, &[]),
+    ("slot assigned", PLAIN, &[]),
+    (
+        "slot assign",
+        PLAIN,
+        &[check(3, "decided"), check(3, "other domain"), check(3, "other parent")],
+    ),
+    ("slot reject", PLAIN, &[check(3, "decided")]),
+    ("slot cancel", PLAIN, &[check(3, "decided")]),
+];

@@ -1,0 +1,167 @@
+//! The console's example, and its lines that are bad or only look so.
+
+use plain::console::{Console, Lines};
+
+fn answers(script: &[u8]) -> Vec<String> {
+    let mut console = Console::new();
+    let mut lines = Lines::new(script);
+    let mut out = Vec::new();
+    while let Some(line) = lines.next_line().unwrap() {
+        console.answer(line, &mut out);
+    }
+    String::from_utf8(out).unwrap().lines().map(str::to_string).collect()
+}
+
+/// Asks one line of a fresh console.
+fn answer(line: impl AsRef<[u8]>) -> Vec<String> {
+    answers(line.as_ref())
+}
+
+#[test]
+fn the_example() {
+    let example = [
+        ("open 7 0", "ok"),
+        ("register none 9 0 40 realms 2 5 deps provs 2", "ok 0"),
+        ("begin 0", "ok 7 0 1 1"),
+        ("admit 7 0 1 1 5", "ok 7 0 1 0 5"),
+        ("replace 0 40", "ok 40"),
+        ("call 7 0 1 0 5", "no 13"),
+        ("fail 0", "ok"),
+        ("finish 0", "ok"),
+        ("begin 0", "ok 7 0 2 1"),
+        ("admit 7 0 2 1 5", "ok 7 0 2 1 5"),
+        ("call 7 0 2 1 5", "ok 7 0 2 0 40 5"),
+        ("call 7 0 2 1 5", "no 13"),
+    ];
+    let script: String = example.iter().map(|(line, _)| format!("{line}\n")).collect();
+    let wanted: Vec<&str> = example.iter().map(|(_, answer)| *answer).collect();
+    assert_eq!(answers(script.as_bytes()), wanted);
+}
+
+#[test]
+fn every_form_of_answer() {
+    let example = [
+        ("next", "ok 0"),
+        ("register none 9 0 40 realms 2 5 deps provs 2", "ok 0"),
+        ("register 0 3 1 41 realms deps 2 provs", "ok 1"),
+        ("show 0", "ok none 0 0 0 0 40 0 none 9 0"),
+        ("show 1", "ok 0 0 0 0 0 41 0 none 3 1"),
+        ("show 2", "no 1"),
+        ("child 0", "ok none"),
+        ("child 1", "ok 0 0 1"),
+        ("replace 2 77", "no 1 77"),
+        ("replace 0 41", "ok 40"),
+        ("fits 0 18446744073709551615", "ok no"),
+        ("fits 0 18446744073709551614", "ok yes"),
+        ("begin 0", "ok 0 0 1 1"),
+        ("admit 0 0 1 1 6", "ok 0 0 1 1 6"),
+        ("show 0", "ok none 1 0 1 1 41 1 1 6 9 0"),
+        ("ready 0", "no 17"),
+        ("call 0 0 1 1 6", "ok 0 0 1 0 41 6"),
+        ("show 0", "ok none 1 0 1 1 41 2 none 9 0"),
+        ("missing 0", "ok 2 5"),
+        ("visible 2 5", "ok none"),
+        ("offer 0 2 5 8", "ok"),
+        ("missing 0", "ok none"),
+        ("ready 0", "ok"),
+        ("visible 2 5", "ok 8"),
+        ("matches 0 2 5", "ok yes"),
+        ("matches 0 2", "ok no"),
+        ("declares 1 2 0", "ok no"),
+        ("lookup 1 2", "ok 2 0"),
+        ("lookup 1 3", "ok none"),
+        ("resolve 2 2 5", "ok 2 5"),
+        ("resolve 2 2", "no 4"),
+        ("realms 0 97", "ok 1"),
+        ("buffer 96 99", "ok 0 2 5"),
+        ("buffer 98 18446744073709551615", "ok 5 0"),
+        ("buffer 3 3", "ok"),
+        ("buffer 200 300", "ok"),
+        ("provs 0 99", "no 23"),
+        ("rows", "ok 4"),
+        ("count", "ok 2"),
+        ("slot assign 0 0 4", "ok 0 0 0 assigned 0 0 4"),
+        ("slot reject", "no 3"),
+        ("slot assigned 1 2 3", "ok 1 2 none assigned 1 2 3"),
+        ("slot pending 1 2 3", "ok 1 2 3 pending"),
+        ("slot cancel", "ok 1 2 3 cancelled"),
+        ("open 1 5", "ok"),
+        ("next", "ok 5"),
+        ("slot cancel", "no 3"),
+        ("buffer 97 99", "ok 2 5"),
+        ("slot pending 1 2 3", "ok 1 2 3 pending"),
+        ("slot reject", "ok 1 2 3 failed"),
+    ];
+    let script: String = example.iter().map(|(line, _)| format!("{line}\n")).collect();
+    for ((line, wanted), answer) in example.iter().zip(answers(script.as_bytes())) {
+        assert_eq!(&answer, wanted, "{line}");
+    }
+}
+
+#[test]
+fn lines_passed_over() {
+    for line in ["", "\n", "\n\n", "#", "#rows\n", "# a remark"] {
+        assert!(answer(line).is_empty(), "{line:?}");
+    }
+    assert!(answer(format!("#{}\n", "x".repeat(100_000))).is_empty());
+}
+
+#[test]
+fn the_last_line_may_lack_byte_10() {
+    assert_eq!(answer("rows\nnext"), ["ok 0", "ok 0"]);
+    assert_eq!(answer("rows\nnext\n"), ["ok 0", "ok 0"]);
+}
+
+#[test]
+fn spaces_part_words_and_nothing_else_does() {
+    for line in ["  rows", "rows  ", " begin   3 "] {
+        assert_ne!(answer(line), ["bad"], "{line:?}");
+    }
+    for line in [" ", "   ", "rows\t", "begin\t3", "rows\r\n", "\r\n", " # x", "\t", "rows\0"] {
+        assert_eq!(answer(line), ["bad"], "{line:?}");
+    }
+    assert_eq!(answer(b"rows \xff"), ["bad"]);
+}
+
+#[test]
+fn bad_lines() {
+    for line in [
+        "begin",
+        "begin 1 2",
+        "begin none",
+        "begin 00",
+        "begin 01",
+        "begin +1",
+        "begin -1",
+        "begin 18446744073709551616",
+        "rows 1",
+        "Rows",
+        "slot",
+        "slot open",
+        "slot reject 1",
+        "register none 1 0 5",
+        "register none 1 0 5 realms deps",
+        "register none 1 0 5 deps realms provs",
+        "register none 1 0 5 realms deps provs x",
+        "register no 1 0 5 realms deps provs",
+        "matches",
+        "resolve",
+    ] {
+        assert_eq!(answer(line), ["bad"], "{line}");
+    }
+    assert_eq!(answer("begin 0"), ["no 1"]);
+    assert_eq!(answer("begin 18446744073709551615"), ["no 1"]);
+}
+
+#[test]
+fn a_line_has_4096_bytes_at_most() {
+    for end in ["", "\n", "\nnext\n"] {
+        let line = |length: usize| format!("rows{}{end}", " ".repeat(length - 4));
+        assert_eq!(answer(line(4096))[0], "ok 0");
+        assert_eq!(answer(line(4097))[0], "bad");
+        assert_eq!(answer(line(4098))[0], "bad");
+        assert_eq!(answer(line(1_000_000))[0], "bad");
+        assert_eq!(answer(line(4097)).len(), if end.len() > 1 { 2 } else { 1 });
+    }
+    assert_eq!(answer(format!(" #{}", "x".repeat(5000))), ["bad"]);
+}

@@ -1,0 +1,115 @@
+//! Random scripts reach everything, and three writings of the rules agree.
+
+use std::collections::{BTreeMap, HashMap};
+
+use plain::Invocation;
+use plain::console::{Console, Lines, Operation, is_passed_over, parse};
+use plain::coverage::Coverage;
+
+fn script(seed: u64, lines: u64) -> Vec<u8> {
+    let mut text = Vec::new();
+    plain::script::write(seed, lines, &mut text).unwrap();
+    text
+}
+
+#[test]
+fn a_seed_gives_the_same_script_again() {
+    let text = script(5, 2000);
+    assert_eq!(text, script(5, 2000));
+    assert_ne!(text, script(6, 2000));
+    assert_eq!(text.iter().filter(|&&byte| byte == b'\n').count(), 2000);
+    // Every fourth seed leaves the last line open.
+    let open = script(7, 2000);
+    assert_eq!(open.iter().filter(|&&byte| byte == b'\n').count(), 1999);
+}
+
+#[test]
+fn scripts_reach_every_answer_in_the_order_of_checks() {
+    let mut coverage = Coverage::new();
+    for seed in 100..104 {
+        coverage.start_script();
+        let text = script(seed, 50_000);
+        let mut lines = Lines::new(&text[..]);
+        while let Some(line) = lines.next_line().unwrap() {
+            coverage.line(line);
+        }
+    }
+    assert_eq!(coverage.gaps(), Vec::<String>::new());
+    assert_eq!(coverage.disagreements(), Vec::<String>::new());
+}
+
+/// Demand 3, by its own words: what admissions are still good, and for which
+/// payload.
+#[derive(Default)]
+struct Admissions {
+    good: HashMap<[u64; 5], u64>,
+    payloads: BTreeMap<u64, u64>,
+}
+
+impl Admissions {
+    fn spoil(&mut self, id: u64) {
+        self.good.retain(|key, _| key[1] != id);
+    }
+
+    /// What a call must answer, or none if it must be refused.
+    fn receipt(&self, call: &Invocation) -> Option<String> {
+        let Invocation { domain, id, generation, revision, argument } = *call;
+        let payload = self.good.get(&[domain, id, generation, revision, argument])?;
+        Some(format!("ok {domain} {id} {generation} 0 {payload} {argument}"))
+    }
+
+    /// Follows an accepted operation.
+    fn follow(&mut self, operation: &Operation<'_>, answer: &str, registered: bool) {
+        let numbers: Vec<u64> = answer.split(' ').filter_map(|word| word.parse().ok()).collect();
+        match *operation {
+            Operation::Open { .. } => *self = Self::default(),
+            Operation::Register(new) => {
+                self.payloads.insert(numbers[0], new.payload);
+            }
+            Operation::Replace { id, payload } => {
+                self.payloads.insert(id, payload);
+                self.spoil(id);
+            }
+            Operation::Ready(id) | Operation::Fail(id) | Operation::Retire(id) => self.spoil(id),
+            Operation::RetireChild(child) if registered => self.spoil(child.id),
+            Operation::Admit { ticket, .. } => {
+                let payload = self.payloads[&ticket.id];
+                self.good.insert(numbers.try_into().unwrap(), payload);
+            }
+            Operation::Call(call) => {
+                let Invocation { domain, id, generation, revision, argument } = call;
+                self.good.remove(&[domain, id, generation, revision, argument]);
+            }
+            _ => {}
+        }
+    }
+}
+
+#[test]
+fn a_call_is_accepted_exactly_for_an_admission_that_is_still_good() {
+    for seed in 200..204 {
+        let text = script(seed, 50_000);
+        let mut console = Console::new();
+        let mut admissions = Admissions::default();
+        let (mut numbers, mut answer) = (Vec::new(), Vec::new());
+        let mut lines = Lines::new(&text[..]);
+        while let Some(line) = lines.next_line().unwrap() {
+            let operation = parse(line, &mut numbers).filter(|_| !is_passed_over(line));
+            let Some(operation) = operation else { continue };
+            let registered = match operation {
+                Operation::RetireChild(child) => console.registry().plugin(child.id).is_ok(),
+                _ => false,
+            };
+            answer.clear();
+            console.answer(line, &mut answer);
+            let answer = str::from_utf8(&answer).unwrap().trim_end();
+            if let Operation::Call(call) = operation {
+                let accepted = answer.starts_with("ok").then(|| answer.to_string());
+                assert_eq!(accepted, admissions.receipt(&call), "{call:?}");
+            }
+            if answer.starts_with("ok") {
+                admissions.follow(&operation, answer, registered);
+            }
+        }
+    }
+}

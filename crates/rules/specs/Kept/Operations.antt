@@ -1,0 +1,223 @@
+-- What each operation comes to: nothing changes, or a plugin turns, joins or leaves.
+use Prim.Native.Nat.{ℕ, _+_}
+use native.Mathlib.Omega.{arith}
+use native.Mathlib.Nat.{le-refl}
+use mathlib.Core.Path.{_≡_, refl, sym, ap, _∙_, subst⁻¹}
+use mathlib.Core.Bool.{Bool, true, false, _||_, true≢false}
+use mathlib.Core.List.{List, [], _∷_, map-map}
+use mathlib.Core.Option.{Option, none, some}
+use borrow.Author.Tests.{eqb-false, not-false}
+use Rattle.rules.specs.Basics.{all, last}
+use Rattle.rules.specs.Holds.{Port, Plugin, Registry, lookup, Phase, Idle, Loading, Active, Unloading, isLoading, isActive, Root, Unissued, Queued, Spent, withRetired}
+use Rattle.rules.specs.Outcomes.{Outcome, refuses, answers, writes, stores, adds, removes, Check, checked, known, handingBack}
+use Rattle.rules.specs.Ports.{resolveKey}
+use Rattle.rules.specs.Dependencies.{dependencyPort}
+use Rattle.rules.specs.Registration.{Definition, register}
+use Rattle.rules.specs.Phases.{available, inUse, isSpent, dropped, begin, ready, fail, unload, finish}
+use Rattle.rules.specs.Replacement.{replace, fits}
+use Rattle.rules.specs.Admission.{Ticket, Invocation, isLive, admit, admits, call}
+use Rattle.rules.specs.Retirement.{Identity, retire, retireFound, retireChild, childIdentity, remove}
+use Rattle.rules.specs.Values.{offered, offer, read, visible, own, missing, matching, declares}
+use Rattle.rules.specs.Lists.{listing, list}
+use Rattle.rules.specs.Queries.{askPlugin, askRegistry, nextAbove}
+use Rattle.rules.specs.Steps.{Op, step, ResolveKey, DependencyPort, Register, Begin, Ready, Fail, Unload, Finish, Replace, Fits, Admit, Admits, Call}
+use Rattle.rules.specs.Steps.{Retire, RetireChild, ChildIdentity, Remove, Offer, Read, Visible, Own, FirstMissing, Matching, Declares}
+use Rattle.rules.specs.Steps.{Listed, AskPlugin, AskRegistry, NextAbove}
+use Rattle.rules.specs.History.{told}
+use Rattle.rules.specs.Laws.Tests.{both, neither, Passed, checked-elim, found-elim}
+use Rattle.rules.specs.Laws.Lookups.{lookup-id}
+use Rattle.rules.specs.Laws.Table.{begins, readies, fails, unloads, finishes, is-loading}
+use Rattle.rules.specs.Built.{Lively}
+use Rattle.rules.specs.Kept.Ids.{issuedBy}
+use Rattle.rules.specs.Kept.Plugins.{Alike, alike, lively-begun, lively-ready, lively-failed, lively-unloaded, lively-finished, lively-noted, lively-rooted, lively-offered}
+use Rattle.rules.specs.Kept.Moves.{Turn, Join, Leave}
+use Rattle.rules.specs.Kept.New.{new-joins}
+
+-- the ids that it issues, with the numbers that it answered
+abbrev pub issues : Op → List ℕ → List ℕ
+issues o vs = issuedBy (told o vs)
+
+-- What the operation o may come to. A new id is issued only where a plugin joins, and it is the next one.
+unfoldable pub Lawful : Registry → Op → Outcome → Type 0
+Lawful r o (refuses x vs) = Unit {0}
+Lawful r o (answers vs) = issues o vs ≡ []
+Lawful r o (writes place l vs) = issues o vs ≡ []
+Lawful r o (stores q vs) = (issues o vs ≡ []) × (p : Plugin) × (lookup r (q .id) ≡ some p) × Turn r p q
+Lawful r o (adds q vs) = (issues o vs ≡ r .next ∷ []) × Join r q
+Lawful r o (removes id vs) = (issues o vs ≡ []) × (p : Plugin) × (lookup r id ≡ some p) × Leave r id p
+
+is-spent : (o : Root) → isSpent o ≡ true → o ≡ Spent
+is-spent Unissued e = cc
+is-spent (Queued v a) e = cc
+is-spent Spent e = refl
+
+live-loading : (p : Plugin) (t : Invocation) → isLive p t ≡ true → p .phase ≡ Loading
+unfolding isLive
+live-loading p t e = is-loading (p .phase) (both _ _ (both _ _ (both _ _ e .0) .0) .0)
+
+abbrev runs : Phase → Bool
+runs h = isLoading h || isActive h
+
+module _ (r : Registry) where
+  -- the id is found; the checks are passed
+  knows : (o : Op) (id : ℕ) (f : Plugin → Outcome) → ((p : Plugin) → lookup r id ≡ some p → Lawful r o (f p)) → Lawful r o (known r id f)
+  unfolding Lawful
+  knows o id f g = found-elim (Lawful r o) (lookup r id) f tt g
+
+  passes : (o : Op) (cs : List Check) (u : Outcome) → (Passed cs → Lawful r o u) → Lawful r o (checked cs u)
+  unfolding Lawful
+  passes o cs u g = checked-elim (Lawful r o) cs u (λ x. tt) g
+
+  answered : (o : Op) (vs : List ℕ) → issues o vs ≡ [] → Lawful r o (answers vs)
+  unfolding Lawful
+  answered o vs n = n
+
+  wrote : (o : Op) (place : ℕ) (l vs : List ℕ) → issues o vs ≡ [] → Lawful r o (writes place l vs)
+  unfolding Lawful
+  wrote o place l vs n = n
+
+  -- the plugin p, found under id, becomes q
+  module _ (o : Op) (vs : List ℕ) (id : ℕ) (p q : Plugin) (e : lookup r id ≡ some p) (n : issues o vs ≡ []) (a : Alike p q) (l : Lively p → Lively q) where
+    -- from one phase to another
+    moves : (from to : Phase) → p .phase ≡ from → q .phase ≡ to
+        → (runs from ≡ false → runs to ≡ true → all (available r) (p .dependencies) ≡ true)
+        → (isActive from ≡ true → isActive to ≡ false → inUse r p ≡ false) → Lawful r o (stores q vs)
+    unfolding Lawful
+    moves from to i j f g = (
+      n,
+      p,
+      subst⁻¹ (λ x. lookup r x ≡ some p) (a .id ∙ lookup-id r id p e) e,
+      record {
+        alike = a;
+        lively = l;
+        starts = λ m y. f (sym (ap runs i) ∙ m) (sym (ap runs j) ∙ y);
+        stops = λ y m. g (sym (ap isActive i) ∙ y) (sym (ap isActive j) ∙ m);
+      },
+    )
+
+    -- its phase stays
+    rests : q .phase ≡ p .phase → Lawful r o (stores q vs)
+    rests i = moves (p .phase) (p .phase) refl i (λ m y. absurd (true≢false (sym y ∙ m))) (λ y m. absurd (true≢false (sym y ∙ m)))
+
+  begin-lawful : (id : ℕ) → Lawful r (Begin id) (begin r id)
+  unfolding begin
+  begin-lawful id = knows _ _ _ λ p e. passes _ _ _ λ c.
+      let h = begins (p .phase) (c .1 .0) in
+      moves _ _ _ p _ e refl (alike p refl) (λ l. lively-begun p l h (eqb-false _ _ (c .1 .1 .0))) Idle Loading h (rw h) (λ n y. not-false _ (c .1 .1 .1 .0)) (λ y n. cc)
+
+  ready-lawful : (id : ℕ) → Lawful r (Ready id) (ready r id)
+  unfolding ready
+  ready-lawful id = knows _ _ _ λ p e. passes _ _ _ λ c.
+      let h = readies (p .phase) (c .1 .0) in
+      moves _ _ _ p _ e refl (alike p refl) (λ l. lively-ready p l h (is-spent (p .root) (not-false _ (c .1 .1 .0))) (c .1 .1 .1 .0))
+      Loading Active h (rw h) (λ n y. cc) (λ y n. cc)
+
+  fail-lawful : (id : ℕ) → Lawful r (Fail id) (fail r id)
+  unfolding fail
+  fail-lawful id = knows _ _ _ λ p e. passes _ _ _ λ c.
+      let h = fails (p .phase) (c .0) in
+      moves _ _ _ p _ e refl (alike p refl) (λ l. lively-failed p l h) Loading Unloading h (rw h) (λ n y. cc) (λ y n. cc)
+
+  unload-lawful : (id : ℕ) → Lawful r (Unload id) (unload r id)
+  unfolding unload
+  unload-lawful id = knows _ _ _ λ p e. passes _ _ _ λ c.
+      let h = unloads (p .phase) (c .0) in
+      moves _ _ _ p _ e refl (alike p refl) (λ l. lively-unloaded p l h) Active Unloading h (rw h) (λ n y. cc) (λ y n. c .1 .0)
+
+  finish-lawful : (id : ℕ) → Lawful r (Finish id) (finish r id)
+  unfolding finish
+  finish-lawful id = knows _ _ _ λ p e. passes _ _ _ λ c.
+      let h = finishes (p .phase) (c .0) in
+      moves _ _ _ p _ e refl (alike p (map-map _ dropped (p .provisions))) (λ l. lively-finished p l h) Unloading Idle h (rw h) (λ n y. cc) (λ y n. cc)
+
+  handing : (o : Op) (v : ℕ) (u : Outcome) → Lawful r o u → Lawful r o (handingBack v u)
+  unfolding handingBack Lawful
+  handing o v (refuses x vs) g = tt
+  handing o v (answers vs) g = g
+  handing o v (writes place l vs) g = g
+  handing o v (stores p vs) g = g
+  handing o v (adds p vs) g = g
+  handing o v (removes id vs) g = g
+
+  replace-lawful : (id v : ℕ) → Lawful r (Replace id v) (replace r id v)
+  unfolding replace
+  replace-lawful id v = handing _ v _ (knows _ _ _ λ p e. passes _ _ _ λ c.
+      let n = eqb-false (p .revision) last (c .0) in
+      rests _ _ _ p _ e refl (alike p refl) (λ l. lively-noted p l (p .revision + 1) v (p .retired) (omega arith) (omega (arith, n, l .revision))) refl)
+
+  admit-lawful : (t : Ticket) (a : ℕ) → Lawful r (Admit t a) (admit r t a)
+  unfolding admit
+  admit-lawful t a = passes _ _ _ λ c. knows _ _ _ λ p e. passes _ _ _ λ f.
+      let h = is-loading (p .phase) (not-false _ (neither _ _ (f .1 .0) .0)) in
+      rests _ _ _ p _ e refl (alike p refl) (λ l. lively-rooted p l (Queued (p .revision) a) h (λ v b i. let j : p .revision ≡ v = cc in omega arith)) refl
+
+  call-lawful : (t : Invocation) → Lawful r (Call t) (call r t)
+  unfolding call
+  call-lawful t = passes _ _ _ λ c. knows _ _ _ λ p e. passes _ _ _ λ f.
+      let h = live-loading p t (not-false _ (f .1 .0)) in
+      rests _ _ _ p _ e refl (alike p refl) (λ l. lively-rooted p l Spent h (λ v b i. let z : _≡_ {A = ℕ} 0 1 = cc in omega arith)) refl
+
+  retires : (o : Op) (id : ℕ) (p : Plugin) → lookup r id ≡ some p → issues o [] ≡ [] → Lawful r o (stores (withRetired true p) [])
+  retires o id p e n = rests o [] id p _ e n (alike p refl) (λ l. lively-noted p l (p .revision) (p .payload) true (le-refl _) (l .revision)) refl
+
+  retire-lawful : (id : ℕ) → Lawful r (Retire id) (retire r id)
+  unfolding retire
+  retire-lawful id = knows _ _ _ λ p e. passes _ _ _ λ c. retires _ _ p e refl
+
+  retire-child-lawful : (c : Identity) → Lawful r (RetireChild c) (retireChild r c)
+  unfolding retireChild
+  retire-child-lawful c = passes _ _ _ λ f. go (lookup r (c .id)) refl
+    where
+      go : (u : Option Plugin) → lookup r (c .id) ≡ u → Lawful r (RetireChild c) (retireFound (c .parent) u)
+      go none e = answered _ [] refl
+      go (some p) e = passes _ _ _ λ f. retires _ _ p e refl
+
+  offer-lawful : (id : ℕ) (q : Port) (v : ℕ) → Lawful r (Offer id q v) (offer r id q v)
+  unfolding offer
+  offer-lawful id q v = knows _ _ _ λ p e. passes _ _ _ λ c.
+      let h = is-loading (p .phase) (both _ _ (not-false _ (c .0)) .0) in
+      rests _ _ _ p _ e refl (alike p (map-map _ (offered q v) (p .provisions))) (λ l. lively-offered p l _ h) refl
+
+  remove-lawful : (id : ℕ) → Lawful r (Remove id) (remove r id)
+  unfolding remove Lawful
+  remove-lawful id = knows _ _ _ λ p e. passes _ _ _ λ c.
+      (refl, p, e, record { idle = both _ _ (not-false _ (c .0)) .0; childless = c .1 .0 })
+
+  register-lawful : (d : Definition) → Lawful r (Register d) (register r d)
+  unfolding register Lawful
+  register-lawful d = passes _ _ _ λ c. (refl, new-joins r d c)
+
+  -- the questions
+  asks : (o : Op) (id : ℕ) (f : Plugin → List ℕ) → ((vs : List ℕ) → issues o vs ≡ []) → Lawful r o (known r id (λ p. answers (f p)))
+  asks o id f n = knows o id _ λ p e. answered o (f p) (n (f p))
+
+  pub lawful : (o : Op) → Lawful r o (step r o)
+  unfolding step resolveKey dependencyPort fits admits childIdentity read visible own missing matching declares list listing askPlugin askRegistry nextAbove
+  lawful (ResolveKey realms key) = passes _ _ _ λ c. answered _ _ refl
+  lawful (DependencyPort id key) = asks _ id _ (λ vs. refl)
+  lawful (Register d) = register-lawful d
+  lawful (Begin id) = begin-lawful id
+  lawful (Ready id) = ready-lawful id
+  lawful (Fail id) = fail-lawful id
+  lawful (Unload id) = unload-lawful id
+  lawful (Finish id) = finish-lawful id
+  lawful (Replace id payload) = replace-lawful id payload
+  lawful (Fits id times) = asks _ id _ (λ vs. refl)
+  lawful (Admit t argument) = admit-lawful t argument
+  lawful (Admits t) = answered _ _ refl
+  lawful (Call t) = call-lawful t
+  lawful (Retire id) = retire-lawful id
+  lawful (RetireChild c) = retire-child-lawful c
+  lawful (ChildIdentity id) = asks _ id _ (λ vs. refl)
+  lawful (Remove id) = remove-lawful id
+  lawful (Offer id q value) = offer-lawful id q value
+  lawful (Read id q) = knows _ _ _ λ p e. passes _ _ _ λ c. answered _ _ refl
+  lawful (Visible q) = answered _ _ refl
+  lawful (Own id q) = asks _ id _ (λ vs. refl)
+  lawful (FirstMissing id) = asks _ id _ (λ vs. refl)
+  lawful (Matching id ports) = asks _ id _ (λ vs. refl)
+  lawful (Declares id q) = asks _ id _ (λ vs. refl)
+  lawful (Listed w id place buffer) = knows _ _ _ λ p e. passes _ _ _ λ c. wrote _ place _ _ refl
+  lawful (AskPlugin f id) = asks _ id _ (λ vs. refl)
+  lawful (AskRegistry t) = answered _ _ refl
+  lawful (NextAbove n) = answered _ _ refl
