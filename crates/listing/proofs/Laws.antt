@@ -1,0 +1,63 @@
+-- Pairs in a list of numbers, the answers of a listing, and a tail written in its place. Assumes nothing.
+use mathlib.Core.Path.{_≡_, refl, ap, _∙_}
+use mathlib.Core.Bool.{or-true}
+use mathlib.Core.List.{List, [], _∷_, _++_, append-nil, append-assoc}
+use Prim.Native.Nat.{ℕ, suc, _+_, _-_, _*_, _/_, _≤_, _<_}
+use native.Mathlib.Nat.{zero-add}
+use native.Mathlib.Numerals.{add-one}
+use native.Mathlib.Omega.{arith}
+use lib.ListN.{length, getD, take, drop, set, length-drop, drop-of-length-le}
+use lib.Seq.{paste-suc, take-all, drop-drop}
+use borrow.Author.Tests.{lt-ltb, le-ltb}
+use borrow.Rule.Slice.PartMut.{midOf, putMid}
+use Rattle.rules.specs.declared.Port.{Port}
+use Rattle.rules.specs.Refusals.{ShortBuffer}
+use Rattle.rules.specs.Outcomes.{refuses, writes, checked, written}
+use Rattle.rules.specs.Ports.{pairs, flat}
+use Rattle.rules.specs.Lists.{listing}
+
+flat-length : (ps : List Port) → length (flat ps) ≡ 2 * length ps
+flat-length [] = refl
+flat-length (p ∷ ps) = omega (arith, flat-length ps)
+
+pub pairs-length : (l : List ℕ) → length (pairs l) ≡ length l / 2
+pairs-length [] = refl
+pairs-length (k ∷ []) = refl
+pairs-length (k ∷ r ∷ l) = omega (arith, pairs-length l)
+
+pub numbers : (l : List ℕ) → length (flat (pairs l)) ≡ length l / 2 * 2
+numbers l = omega (arith, flat-length (pairs l), pairs-length l)
+
+flat-pairs : (l : List ℕ) → flat (pairs l) ≡ take (length l / 2 * 2) l
+flat-pairs [] = refl
+flat-pairs (k ∷ []) = refl
+flat-pairs (k ∷ r ∷ l) =
+    let e : suc (suc (length l)) / 2 * 2 ≡ suc (suc (length l / 2 * 2)) = omega arith in
+    rw (e, flat-pairs l)
+
+-- A turn of the pair writer's loop, and its end.
+pub turn : (l d : List ℕ) (i : ℕ) → i < length d → i < length l → set (take i l ++ drop i d) i (getD l i 0) ≡ take (i + 1) l ++ drop (i + 1) d
+turn l d i hd hl = rw add-one (simp zero-add at (paste-suc d 0 l i 0 (omega arith) hl))
+
+pub all : (l d : List ℕ) (i : ℕ) → i ≡ length l / 2 * 2 → take i l ++ drop i d ≡ flat (pairs l) ++ drop (length (flat (pairs l))) d
+all l d i e = rw (numbers, flat-pairs, e)
+
+-- The tail from p on, written by a callee, in its place in the whole.
+pub whole : (b l last : List ℕ) (p : ℕ) → p ≤ length b → last ≡ l ++ drop (length l) (midOf p (length b - p) b) → putMid p (length b - p) b last ≡ written b p l
+whole b l last p h e =
+    let long : length (drop p b) ≤ length b - p = simp length-drop (omega arith) in
+    ap (λ (t : List ℕ). take p b ++ (last ++ t)) (drop-of-length-le (drop p b) long)
+    ∙ rw (append-nil, e, take-all (length b - p) (drop p b) long, drop-drop, append-assoc)
+
+module _ (ps : List Port) (p : ℕ) (b : List ℕ) where
+  pub past : length b < p → listing ps p b ≡ refuses ShortBuffer []
+  unfolding listing checked
+  past h = rw (lt-ltb (length b) p h)
+
+  pub short : length b - p < 2 * length ps → listing ps p b ≡ refuses ShortBuffer []
+  unfolding listing checked
+  short h = rw (lt-ltb (length b - p) (2 * length ps) h, or-true)
+
+  pub fits : p ≤ length b → 2 * length ps ≤ length b - p → listing ps p b ≡ writes p (flat ps) (length ps ∷ [])
+  unfolding listing checked
+  fits h k = rw (le-ltb (length b) p h, le-ltb (length b - p) (2 * length ps) k)

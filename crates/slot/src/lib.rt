@@ -1,0 +1,125 @@
+// Document 01, "Child slot": a slot goes in and comes back as a plain value. A decision never changes.
+ghost use mathlib.Core.Path.{_≡_};
+ghost use mathlib.Core.Bool.{true};
+ghost use Rattle.rules.specs.Slot as rules;
+ghost use Rattle.slot.specs.Slots.{slotOf, identityOf, decisionOf, decidedOf, refusedOf};
+use rules::refusal;
+
+// A child identity.
+pub struct Identity {
+    pub domain: u64,
+    pub parent: u64,
+    pub id: u64,
+}
+
+// The generation of a slot's origin, or none.
+pub enum Episode {
+    Of(u64),
+    Nowhere,
+}
+
+pub enum Decision {
+    Pending,
+    Assigned(Identity),
+    Failed,
+    Cancelled,
+}
+
+pub struct Slot {
+    pub domain: u64,
+    pub parent: u64,
+    pub generation: Episode,
+    pub decision: Decision,
+}
+
+pub enum Verdict {
+    Taken,
+    Refused(u64),
+}
+
+pub struct Decided {
+    pub slot: Slot,
+    pub verdict: Verdict,
+}
+
+impl Slot {
+    pub fn pending(domain: u64, parent: u64, generation: u64) -> Slot
+        ensures { λ r. ⌜ slotOf r ≡ rules.pending domain parent generation ⌝ }
+    {
+        Slot {
+            domain: domain,
+            parent: parent,
+            generation: Episode::Of(generation),
+            decision: Decision::Pending,
+        }
+    }
+
+    pub fn assigned(child: Identity) -> Slot
+        ensures { λ r. ⌜ slotOf r ≡ rules.assigned (identityOf child) ⌝ }
+    {
+        Slot {
+            domain: child.domain,
+            parent: child.parent,
+            generation: Episode::Nowhere,
+            decision: Decision::Assigned(child),
+        }
+    }
+
+    pub fn assign(self, child: Identity) -> Decided
+        ensures { λ r. ⌜ decidedOf r ≡ rules.assign (slotOf self) (identityOf child) ⌝ }
+    {
+        if child.domain != self.domain {
+            return self.refused();
+        }
+        if child.parent != self.parent {
+            return self.refused();
+        }
+        self.decided(Decision::Assigned(child))
+    }
+
+    pub fn reject(self) -> Decided
+        ensures { λ r. ⌜ decidedOf r ≡ rules.reject (slotOf self) ⌝ }
+    {
+        self.decided(Decision::Failed)
+    }
+
+    pub fn cancel(self) -> Decided
+        ensures { λ r. ⌜ decidedOf r ≡ rules.cancel (slotOf self) ⌝ }
+    {
+        self.decided(Decision::Cancelled)
+    }
+
+    // The slot as it was, with refusal 3.
+    fn refused(self) -> Decided
+        ensures { λ r. ⌜ decidedOf r ≡ refusedOf (slotOf self) ⌝ }
+    {
+        Decided {
+            slot: self,
+            verdict: Verdict::Refused(refusal::INVALID_STATE),
+        }
+    }
+
+    // Only a Pending slot takes a decision.
+    fn decided(self, next: Decision) -> Decided
+        ensures { λ r. ⌜ decidedOf r ≡ rules.decided (slotOf self) true (decisionOf next) ⌝ }
+    {
+        let generation = self.generation;
+        let taken = Decided {
+            slot: Slot {
+                domain: self.domain,
+                parent: self.parent,
+                generation: generation,
+                decision: next,
+            },
+            verdict: Verdict::Taken,
+        };
+        let kept = self.refused();
+        let standing = self.decision;
+        match standing {
+            Decision::Pending => taken,
+            Decision::Assigned(_) => kept,
+            Decision::Failed => kept,
+            Decision::Cancelled => kept,
+        }
+    }
+}
