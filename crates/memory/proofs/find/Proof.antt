@@ -1,0 +1,67 @@
+use mathlib.Core.Path.{_≡_, refl, sym, _∙_}
+use Prim.Native.Nat.{_≤_, _-_}
+use Rattle.memory.specs.Writes.{findAt, findFrom}
+use Rattle.memory.proofs.Search.{find-here, find-next, find-end}
+use native.Mathlib.Omega.{arith}
+use borrow.Author.Needs.{needs}
+use Rattle.memory.proofs.find.Statement.{statement}
+use Rattle.memory.proofs.find.Tie as tie
+use Rattle.memory.proofs.find.Reads as reads
+use Rattle.memory.proofs.find.Lts as lts
+use Rattle.memory.proofs.names.Reads as names-reads
+
+abbrev Inv-loop : tie.InvT-loop
+Inv-loop m id i₀ i = (i ≤ 32) × (findAt m id ≡ findFrom (32 - i) m id i)
+
+abbrev μ-loop : tie.MeasureT-loop
+μ-loop m id i₀ i = 32 - i
+
+-- src/lib.rt:75:5
+loop-holds : tie.Need-loop-holds Inv-loop μ-loop
+unfolding findAt
+loop-holds c = (omega arith, refl)
+
+-- src/lib.rt:76:12
+names-requires : tie.Need-names-requires Inv-loop μ-loop
+names-requires c κs = search needs
+
+-- src/lib.rt:77:13
+returns : tie.Need-returns Inv-loop μ-loop
+returns c =
+    sym
+    (c .before .before .before .loop .inv .1
+    ∙ find-here _ _ _ (omega arith) (sym (c .before .names .ensures) ∙ c .if1 .taken))
+
+-- src/lib.rt:79:9
+add-i : tie.Need-add-i Inv-loop μ-loop
+add-i c = search needs
+
+-- src/lib.rt:75:5
+loop-less : tie.Need-loop-less Inv-loop μ-loop
+loop-less c = search needs
+
+-- src/lib.rt:75:5
+loop-again : tie.Need-loop-again Inv-loop μ-loop
+loop-again c = (
+  omega arith,
+  c .before .before .before .loop .inv .1
+      ∙ find-next _ _ _ (omega arith) (sym (c .before .names .ensures) ∙ c .if1 .left),
+)
+
+-- src/lib.rt:71:1
+returns-2 : tie.Need-returns-2 Inv-loop μ-loop
+returns-2 c = sym (c .before .loop .inv .1 ∙ find-end _ _ _ (omega arith))
+
+pub find-spec : {M : Type 1} → statement M
+find-spec =
+    tie.close
+    (tie.spec
+    Inv-loop
+    μ-loop
+    loop-holds
+    names-requires
+    returns
+    add-i
+    loop-less
+    loop-again
+    returns-2)

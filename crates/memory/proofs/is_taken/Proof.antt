@@ -1,0 +1,34 @@
+use borrow.Author.Tests.{lt-ltb, le-ltb}
+use Rattle.memory.specs.Layout.{taken}
+use native.Mathlib.Omega.{arith}
+use borrow.Author.Needs.{needs}
+use Rattle.memory.proofs.is_taken.Statement.{statement}
+use Rattle.memory.proofs.is_taken.Tie as tie
+use Rattle.memory.proofs.is_taken.Reads as reads
+use Rattle.memory.proofs.is_taken.Lts as lts
+use Rattle.memory.proofs.occupied.Reads as occupied-reads
+
+-- src/lib.rt:58:10
+occupied-requires : tie.Need-occupied-requires
+occupied-requires c κs = search needs
+
+-- src/lib.rt:58:25
+cast-result : tie.Need-cast-result
+cast-result c = search needs
+
+-- src/lib.rt:58:10
+shr-result : tie.Need-shr-result
+shr-result c = search needs
+
+-- src/lib.rt:54:1
+returns : tie.Need-returns
+unfolding taken
+returns c = simp (lt-ltb _ _ (c .before .if1 .taken), c .occupied .ensures)
+
+-- src/lib.rt:54:1
+returns-2 : tie.Need-returns-2
+unfolding taken
+returns-2 c = simp (le-ltb _ _ (c .if1 .left))
+
+pub is-taken-spec : {M : Type 1} → statement M
+is-taken-spec = tie.close (tie.spec occupied-requires cast-result shr-result returns returns-2)

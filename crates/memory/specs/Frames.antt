@@ -1,0 +1,190 @@
+-- What a change of the words leaves of what is read at a place.
+use Prim.Native.Nat.{ℕ, zero, suc, _+_, _*_, _-_, _<_, _≤_, min}
+use native.Mathlib.Omega.{arith}
+use native.Mathlib.Nat.{le-of-suc-le-suc, not-suc-le-zero}
+use mathlib.Core.Path.{_≡_, refl, sym, ap, _∙_}
+use mathlib.Core.Logic.{_≢_}
+use mathlib.Core.Bool.{Bool, true, false, not}
+use mathlib.Core.List.{List, [], _∷_}
+use lib.Dec.{eqb, ltb, lit<}
+use borrow.Author.Tests.{ltb-true, ltb-false}
+use lib.ListN.{length, getD, set, take, drop, length-set, length-take, length-drop}
+use lib.Seq.{getD-set-same, getD-set-other, getD-take, getD-drop, ext-getD}
+use mir.Val.{boolByte}
+use Rattle.rules.specs.Holds.{Plugin, Provision, changed}
+use Rattle.rules.specs.declared.Port.{Port}
+use Rattle.rules.specs.declared.Phase.{Phase}
+use Rattle.rules.specs.declared.Phase.the-variants.{Idle, Loading, Active, Unloading}
+use Rattle.rules.specs.declared.Root.{Root}
+use Rattle.rules.specs.declared.Root.the-variants.{Unissued, Queued, Spent}
+use Rattle.rules.specs.Ports.{pairs}
+use Rattle.memory.specs.Layout.{word, idAt, startAt, depsAt, provsAt, realmsAt, part, rowWord, anchorWord, depPart, provPart, realmPart, taken}
+use Rattle.memory.specs.View.{phaseOf, rootOf, wordsAt, decoded, lifeAt, valueAt, valued, pluginAt}
+use Rattle.memory.specs.Writes.{puts, phaseWord, rootTag, rootRevision, rootArgument, lifeWords, putWords, encoded, putLife}
+use Rattle.memory.specs.declared.Life.{Life}
+use Rattle.memory.specs.declared.Words.{Words}
+
+-- A part is read word by word.
+pub part-same : (m m′ : List ℕ) (a b n : ℕ) → a + n ≤ length m′ → b + n ≤ length m → ((k : ℕ) → k < n → word m′ (a + k) ≡ word m (b + k)) → part m′ a n ≡ part m b n
+part-same m m′ a b n la lb h =
+    let whole : (l : List ℕ) (c : ℕ) → c + n ≤ length l → length (part l c n) ≡ n = λ l c le. simp (length-take, length-drop) (omega arith) in
+    ext-getD 0 (part m′ a n) (part m b n) (whole m′ a la ∙ sym (whole m b lb)) λ i l.
+    let k : i < n = omega (arith, whole m′ a la) in
+    (getD-take n (drop a m′) i 0 k ∙ getD-drop a m′ i 0) ∙ h i k ∙ sym (getD-take n (drop b m) i 0 k ∙ getD-drop b m i 0)
+
+-- A run of stores.
+pub puts-length : (vs m : List ℕ) (b k : ℕ) → length (puts m b k vs) ≡ length m
+puts-length [] m b k = refl
+puts-length (v ∷ vs) m b k = puts-length vs (set m (b + k) v) b (k + 1) ∙ length-set m (b + k) v
+
+pub puts-before : (vs m : List ℕ) (b k j : ℕ) → j < b + k → word (puts m b k vs) j ≡ word m j
+puts-before [] m b k j h = refl
+puts-before (v ∷ vs) m b k j h =
+    puts-before vs (set m (b + k) v) b (k + 1) j (omega arith) ∙ getD-set-other m (b + k) j v 0 (omega arith)
+
+pub puts-after : (vs m : List ℕ) (b k j : ℕ) → b + k + length vs ≤ j → word (puts m b k vs) j ≡ word m j
+puts-after [] m b k j h = refl
+puts-after (v ∷ vs) m b k j h =
+    puts-after vs (set m (b + k) v) b (k + 1) j (omega arith) ∙ getD-set-other m (b + k) j v 0 (omega arith)
+
+pub puts-same : (vs m : List ℕ) (b k n : ℕ) → n < length vs → b + k + length vs ≤ length m → word (puts m b k vs) (b + (k + n)) ≡ getD vs n 0
+puts-same [] m b k n h f = absurd (not-suc-le-zero h)
+puts-same (v ∷ vs) m b k zero h f =
+    let e : b + (k + zero) ≡ b + k = omega arith in
+    rw e (puts-before vs (set m (b + k) v) b (k + 1) (b + k) (omega arith) ∙ getD-set-same m (b + k) v 0 (omega arith))
+puts-same (v ∷ vs) m b k (suc n) h f =
+    let e : b + (k + suc n) ≡ b + (k + 1 + n) = omega arith in
+    let g : length (set m (b + k) v) ≡ length m = length-set m (b + k) v in
+    rw e (puts-same vs (set m (b + k) v) b (k + 1) n (le-of-suc-le-suc h) (omega arith))
+
+-- What is read at a place, but for its life.
+pub record Kept (m m′ : List ℕ) (i : ℕ) : Type 0 where
+  pub id : word m′ (i * 72 + 8) ≡ word m (i * 72 + 8)
+  pub tag : word m′ (i * 72 + 9) ≡ word m (i * 72 + 9)
+  pub parent : word m′ (i * 72 + 10) ≡ word m (i * 72 + 10)
+  pub anchor-key : word m′ (anchorWord m′ i) ≡ word m (anchorWord m i)
+  pub anchor-realm : word m′ (anchorWord m′ i + 1) ≡ word m (anchorWord m i + 1)
+  pub realms : realmPart m′ i ≡ realmPart m i
+  pub dependencies : depPart m′ i ≡ depPart m i
+  pub provisions : provPart m′ i ≡ provPart m i
+  pub mask : word m′ (i * 72 + 23) ≡ word m (i * 72 + 23)
+  pub values : (j : ℕ) → j < 15 → word m′ (i * 72 + 24 + j) ≡ word m (i * 72 + 24 + j)
+
+abbrev pub withLife : Plugin → Life → Plugin
+withLife p l = changed p (p .provisions) (l .revision) (l .payload) (l .phase) (l .retired) (l .generation) (l .root)
+
+pairs-half : (l : List ℕ) (n : ℕ) → length l ≤ n * 2 → length (pairs l) ≤ n
+pairs-half [] n h = omega arith
+pairs-half (a ∷ []) n h = omega arith
+pairs-half (a ∷ b ∷ l) zero h = absurd (omega arith)
+pairs-half (a ∷ b ∷ l) (suc n) h = let r = pairs-half l n (omega arith) in omega arith
+
+value-same : (m m′ : List ℕ) (i : ℕ) → Kept m m′ i → (j : ℕ) → j < 15 → valueAt m′ i j ≡ valueAt m i j
+unfolding valueAt
+value-same m m′ i w j h = rw (w .mask, w .values j h)
+
+valued-same : (m m′ : List ℕ) (i : ℕ) → Kept m m′ i → (qs : List Port) (j : ℕ) → j + length qs ≤ 15 → valued m′ i j qs ≡ valued m i j qs
+valued-same m m′ i w [] j h = refl
+valued-same m m′ i w (q ∷ qs) j h =
+    let e = value-same m m′ i w j (omega arith) in
+    let r = valued-same m m′ i w qs (j + 1) (omega arith) in
+    rw (e, r)
+
+few : (m : List ℕ) (i : ℕ) → length (pairs (provPart m i)) ≤ 15
+few m i = pairs-half (provPart m i) 15 (simp (length-take, length-drop) (omega arith))
+
+-- A place that is kept reads as before, but for its life.
+pub plugin-kept : (m m′ : List ℕ) (i : ℕ) → Kept m m′ i → pluginAt m′ i ≡ withLife (pluginAt m i) (lifeAt m′ i)
+unfolding pluginAt
+plugin-kept m m′ i w =
+    rw (w .id, w .tag, w .parent, w .anchor-key, w .anchor-realm, w .realms, w .dependencies, w .provisions, valued-same m m′ i w (pairs (provPart m i)) 0 (omega (arith, few m i)))
+
+-- The codes.
+phase-code : (p : Phase) → phaseOf (phaseWord p) ≡ p
+phase-code Idle = refl
+phase-code Loading = refl
+phase-code Active = refl
+phase-code Unloading = refl
+
+root-code : (r : Root) → rootOf (rootTag r) (rootRevision r) (rootArgument r) ≡ r
+root-code Unissued = refl
+root-code (Queued v a) = refl
+root-code Spent = refl
+
+flag-code : (b : Bool) → not (eqb (boolByte b) 0) ≡ b
+flag-code true = refl
+flag-code false = refl
+
+decoded-encoded : (l : Life) → decoded (encoded l) ≡ l
+unfolding decoded encoded
+decoded-encoded l = λ x. record {
+  revision = l .revision;
+  payload = l .payload;
+  phase = phase-code (l .phase) x;
+  retired = flag-code (l .retired) x;
+  generation = l .generation;
+  root = root-code (l .root) x;
+}
+
+-- The words of a life: what is stored is what is read, and nothing else changes.
+module _ (m : List ℕ) (i : ℕ) (l : Life) where
+  pub life-length : length (putLife m i l) ≡ length m
+  unfolding putLife
+  life-length = puts-length (lifeWords (encoded l)) m (i * 72) 11
+
+  pub life-before : (k : ℕ) → k < i * 72 + 11 → word (putLife m i l) k ≡ word m k
+  unfolding putLife
+  life-before k h = puts-before (lifeWords (encoded l)) m (i * 72) 11 k h
+
+  pub life-after : (k : ℕ) → i * 72 + 19 ≤ k → word (putLife m i l) k ≡ word m k
+  unfolding putLife
+  life-after k h = puts-after (lifeWords (encoded l)) m (i * 72) 11 k (omega arith)
+
+  -- a word outside the place's life
+  pub life-apart : (k : ℕ) → (i * 72 + 11 ≤ k → k < i * 72 + 19 → ⊥) → word (putLife m i l) k ≡ word m k
+  life-apart k n = go (ltb k (i * 72 + 11)) refl
+    where
+      go : (b : Bool) → ltb k (i * 72 + 11) ≡ b → word (putLife m i l) k ≡ word m k
+      go true e = life-before k (ltb-true _ _ e)
+      go false e = go′ (ltb k (i * 72 + 19)) refl
+        where
+          go′ : (b : Bool) → ltb k (i * 72 + 19) ≡ b → word (putLife m i l) k ≡ word m k
+          go′ true f = absurd (n (ltb-false _ _ e) (ltb-true _ _ f))
+          go′ false f = life-after k (ltb-false _ _ f)
+
+  module _ (h : i < 32) (s : length m ≡ 4488) where
+    one-same : (n : ℕ) → n < 8 → word (putLife m i l) (i * 72 + (11 + n)) ≡ getD (lifeWords (encoded l)) n 0
+    unfolding putLife
+    one-same n k = puts-same (lifeWords (encoded l)) m (i * 72) 11 n k (omega arith)
+
+    words-put : wordsAt (putLife m i l) i ≡ encoded l
+    words-put = λ x. record {
+      revision = one-same 0 (lit< tt) x;
+      payload = one-same 1 (lit< tt) x;
+      phase = one-same 2 (lit< tt) x;
+      retired = one-same 3 (lit< tt) x;
+      generation = one-same 4 (lit< tt) x;
+      root = one-same 5 (lit< tt) x;
+      «root_revision» = one-same 6 (lit< tt) x;
+      «root_argument» = one-same 7 (lit< tt) x;
+    }
+
+    pub life-put : lifeAt (putLife m i l) i ≡ l
+    unfolding lifeAt
+    life-put = ap decoded words-put ∙ decoded-encoded l
+
+  words-other : (j : ℕ) → i ≢ j → wordsAt (putLife m i l) j ≡ wordsAt m j
+  words-other j d = λ x. record {
+    revision = life-apart (j * 72 + 11) (λ a b. d (omega arith)) x;
+    payload = life-apart (j * 72 + 12) (λ a b. d (omega arith)) x;
+    phase = life-apart (j * 72 + 13) (λ a b. d (omega arith)) x;
+    retired = life-apart (j * 72 + 14) (λ a b. d (omega arith)) x;
+    generation = life-apart (j * 72 + 15) (λ a b. d (omega arith)) x;
+    root = life-apart (j * 72 + 16) (λ a b. d (omega arith)) x;
+    «root_revision» = life-apart (j * 72 + 17) (λ a b. d (omega arith)) x;
+    «root_argument» = life-apart (j * 72 + 18) (λ a b. d (omega arith)) x;
+  }
+
+  pub life-other : (j : ℕ) → i ≢ j → lifeAt (putLife m i l) j ≡ lifeAt m j
+  unfolding lifeAt
+  life-other j d = ap decoded (words-other j d)

@@ -1,0 +1,6 @@
+pub mod Layout
+pub mod View
+pub mod Writes
+pub mod Frames
+pub mod Lookups
+pub mod Stores

@@ -1,0 +1,109 @@
+-- The registry after a life is stored.
+use Prim.Native.Nat.{ℕ, zero, suc, _+_, _*_, _<_, _≤_, min}
+use native.Mathlib.Omega.{arith}
+use mathlib.Core.Path.{_≡_, refl, sym, ap, _∙_, subst}
+use mathlib.Core.Logic.{_≢_}
+use mathlib.Core.Bool.{Bool, true, false, _&&_}
+use mathlib.Core.List.{List, [], _∷_, map}
+use mathlib.Core.Option.{Option, none, some}
+use lib.Dec.{eqb}
+use lib.ListN.{length}
+use borrow.Author.Tests.{eq-eqb, ne-eqb, eqb-true, eqb-false}
+use Rattle.rules.specs.Holds.{Plugin, Places, Registry}
+use Rattle.rules.specs.Outcomes.{stores, after, storedAt}
+use Rattle.rules.specs.Laws.Tests.{by-test}
+use Rattle.memory.specs.Layout.{word, taken, idAt, startAt, depsAt, provsAt, realmsAt, rowWord, anchorWord, depPart, provPart, realmPart}
+use Rattle.memory.specs.View.{lifeAt, pluginAt, placeAt, placesFrom, view}
+use Rattle.memory.specs.Writes.{putLife}
+use Rattle.memory.specs.Frames.{part-same, Kept, withLife, plugin-kept, life-length, life-before, life-after, life-apart, life-put, life-other}
+use Rattle.memory.specs.declared.Life.{Life}
+
+-- An id stands at one taken place only.
+abbrev pub Alone : List ℕ → Type 0
+Alone m = (i j : ℕ) → taken m i ≡ true → taken m j ≡ true → idAt m i ≡ idAt m j → i ≡ j
+
+id-of : (m : List ℕ) (i : ℕ) → pluginAt m i .id ≡ idAt m i
+unfolding pluginAt
+id-of m i = refl
+
+-- A place is kept where its own words but for its life, and its rows, are.
+module _ (m m′ : List ℕ) (j : ℕ) (h : j < 32) (l : length m ≡ 4488) (l′ : length m′ ≡ 4488)
+    (front : (k : ℕ) → 8 ≤ k → k < 11 → word m′ (j * 72 + k) ≡ word m (j * 72 + k))
+    (back : (k : ℕ) → 19 ≤ k → k < 80 → word m′ (j * 72 + k) ≡ word m (j * 72 + k))
+    (rows : (k : ℕ) → rowWord (startAt m j) ≤ k → k < rowWord (startAt m j + depsAt m j + 1 + provsAt m j) → word m′ k ≡ word m k) where
+  start-kept : startAt m′ j ≡ startAt m j
+  start-kept = ap (λ x. min x 1024) (back 19 (omega arith) (omega arith))
+
+  deps-kept : depsAt m′ j ≡ depsAt m j
+  deps-kept = ap (λ x. min x 48) (back 20 (omega arith) (omega arith))
+
+  provs-kept : provsAt m′ j ≡ provsAt m j
+  provs-kept = ap (λ x. min x 15) (back 21 (omega arith) (omega arith))
+
+  realms-kept : realmsAt m′ j ≡ realmsAt m j
+  realms-kept = ap (λ x. min x 16) (back 22 (omega arith) (omega arith))
+
+  pub kept-frame : Kept m m′ j
+  kept-frame = record {
+    id = front 8 (omega arith) (omega arith);
+    tag = front 9 (omega arith) (omega arith);
+    parent = front 10 (omega arith) (omega arith);
+    anchor-key = rw (start-kept, deps-kept) (rows (anchorWord m j) (omega arith) (omega arith));
+    anchor-realm = rw (start-kept, deps-kept) (rows (anchorWord m j + 1) (omega arith) (omega arith));
+    realms = rw realms-kept (part-same m m′ (j * 72 + 39) (j * 72 + 39) (realmsAt m j * 2) (omega arith) (omega arith) (λ k u. let e : j * 72 + 39 + k ≡ j * 72 + (39 + k) = omega arith in rw e (back (39 + k) (omega arith) (omega arith))));
+    dependencies = rw (start-kept, deps-kept) (part-same m m′ (rowWord (startAt m j)) (rowWord (startAt m j)) (depsAt m j * 2) (omega arith) (omega arith)
+        (λ k u. rows (rowWord (startAt m j) + k) (omega arith) (omega arith)));
+    provisions = rw (start-kept, deps-kept, provs-kept) (part-same m m′ (anchorWord m j + 2) (anchorWord m j + 2) (provsAt m j * 2) (omega arith) (omega arith)
+        (λ k u. rows (anchorWord m j + 2 + k) (omega arith) (omega arith)));
+    mask = back 23 (omega arith) (omega arith);
+    values = λ k u. let e : j * 72 + 24 + k ≡ j * 72 + (24 + k) = omega arith in rw e (back (24 + k) (omega arith) (omega arith));
+  }
+
+module _ (m : List ℕ) (i : ℕ) (l : Life) (h : i < 32) (size : length m ≡ 4488) where
+  put-kept : (j : ℕ) → j < 32 → Kept m (putLife m i l) j
+  put-kept j k = kept-frame m (putLife m i l) j k size (life-length m i l ∙ size)
+      (λ n a b. life-apart m i l (j * 72 + n) (λ c d. omega arith))
+      (λ n a b. life-apart m i l (j * 72 + n) (λ c d. omega arith))
+      (λ n a b. life-after m i l n (omega arith))
+
+  pub plugin-put : pluginAt (putLife m i l) i ≡ withLife (pluginAt m i) l
+  plugin-put = plugin-kept m (putLife m i l) i (put-kept i h) ∙ ap (withLife (pluginAt m i)) (life-put m i l h size)
+
+  pub plugin-other : (j : ℕ) → j < 32 → i ≢ j → pluginAt (putLife m i l) j ≡ pluginAt m j
+  unfolding pluginAt
+  plugin-other j k d = plugin-kept m (putLife m i l) j (put-kept j k) ∙ ap (withLife (pluginAt m j)) (life-other m i l j d)
+
+  taken-put : (j : ℕ) → taken (putLife m i l) j ≡ taken m j
+  unfolding taken
+  taken-put j = rw (life-before m i l 3 (omega arith))
+
+  -- place by place, the plugin that changed is stored
+  module _ (alone : Alone m) (there : taken m i ≡ true) where
+    here : placeAt (putLife m i l) i ≡ storedAt (withLife (pluginAt m i) l) (placeAt m i)
+    unfolding placeAt
+    here = rw (taken-put i, there, plugin-put) (rw (eq-eqb (pluginAt m i .id) (pluginAt m i .id) refl))
+
+    place-put : (j : ℕ) → j < 32 → placeAt (putLife m i l) j ≡ storedAt (withLife (pluginAt m i) l) (placeAt m j)
+    unfolding placeAt
+    place-put j k = by-test (taken m j)
+        (λ t. by-test (eqb i j)
+        (λ y. subst (λ x. placeAt (putLife m i l) x ≡ storedAt (withLife (pluginAt m i) l) (placeAt m x)) (eqb-true i j y) here)
+        (λ d. let n = eqb-false i j d in
+        rw (taken-put j, t, plugin-other j k n)
+        (rw (ne-eqb (pluginAt m j .id) (pluginAt m i .id) (λ e. n (sym (alone j i t there (sym (id-of m j) ∙ e ∙ id-of m i))))))))
+        (λ f. rw (taken-put j, f))
+
+  places-put : (n j : ℕ) (q : Plugin) → j + n ≤ 32 → ((k : ℕ) → k < 32 → placeAt (putLife m i l) k ≡ storedAt q (placeAt m k))
+      → placesFrom n (putLife m i l) j ≡ map (storedAt q) (placesFrom n m j)
+  unfolding placesFrom
+  places-put zero j q b f = refl
+  places-put (suc n) j q b f = let r = places-put n (j + 1) q (omega arith) f in let e = f j (omega arith) in rw (e, r)
+
+  pub store-view : Alone m → taken m i ≡ true → (vs : List ℕ) → view (putLife m i l) ≡ after (view m) (stores (withLife (pluginAt m i) l) vs)
+  unfolding view after
+  store-view alone there vs = λ x. record {
+    domain = life-before m i l 0 (omega arith) x;
+    first = life-before m i l 1 (omega arith) x;
+    next = life-before m i l 2 (omega arith) x;
+    places = places-put 32 0 (withLife (pluginAt m i) l) (omega arith) (place-put alone there) x;
+  }

@@ -1,0 +1,93 @@
+-- The words as document 01's registry, place by place.
+use Prim.Native.Nat.{ℕ, zero, suc, _+_, _*_, _/_, _%_, _^_}
+use mathlib.Core.Bool.{Bool, not}
+use mathlib.Core.List.{List, [], _∷_}
+use mathlib.Core.Option.{Option, none, some}
+use lib.Dec.{eqb}
+use Rattle.rules.specs.Basics.{pick}
+use Rattle.rules.specs.Holds.{port, Realms, Provision, Plugin, Places, Registry, defaultRealm}
+use Rattle.rules.specs.declared.Port.{Port}
+use Rattle.rules.specs.declared.Phase.{Phase}
+use Rattle.rules.specs.declared.Phase.the-variants.{Idle, Loading, Active, Unloading}
+use Rattle.rules.specs.declared.Root.{Root}
+use Rattle.rules.specs.declared.Root.the-variants.{Unissued, Queued, Spent}
+use Rattle.rules.specs.Ports.{pairs}
+use Rattle.memory.specs.Layout.{word, taken, idAt, anchorWord, depPart, provPart, realmPart}
+use Rattle.memory.specs.declared.Life.{Life}
+use Rattle.memory.specs.declared.Words.{Words}
+
+abbrev pub parentOf : ℕ → ℕ → Option ℕ
+parentOf zero id = none
+parentOf (suc n) id = some id
+
+abbrev pub phaseOf : ℕ → Phase
+phaseOf zero = Idle
+phaseOf (suc zero) = Loading
+phaseOf (suc (suc zero)) = Active
+phaseOf (suc (suc (suc n))) = Unloading
+
+abbrev pub rootOf : ℕ → ℕ → ℕ → Root
+rootOf zero v a = Unissued
+rootOf (suc zero) v a = Queued v a
+rootOf (suc (suc n)) v a = Spent
+
+-- what operations on one plugin change, but for its values: its words, and what they say
+abbrev pub wordsAt : List ℕ → ℕ → Words
+wordsAt m i = record {
+  revision = word m (i * 72 + 11);
+  payload = word m (i * 72 + 12);
+  phase = word m (i * 72 + 13);
+  retired = word m (i * 72 + 14);
+  generation = word m (i * 72 + 15);
+  root = word m (i * 72 + 16);
+  «root_revision» = word m (i * 72 + 17);
+  «root_argument» = word m (i * 72 + 18);
+}
+
+unfoldable pub decoded : Words → Life
+decoded w = record {
+  revision = w .revision;
+  payload = w .payload;
+  phase = phaseOf (w .phase);
+  retired = not (eqb (w .retired) 0);
+  generation = w .generation;
+  root = rootOf (w .root) (w .«root_revision») (w .«root_argument»);
+}
+
+unfoldable pub lifeAt : List ℕ → ℕ → Life
+lifeAt m i = decoded (wordsAt m i)
+
+-- the value of provision j, or none
+unfoldable pub valueAt : List ℕ → ℕ → ℕ → Option ℕ
+valueAt m i j = pick (eqb (word m (i * 72 + 23) / 2 ^ j % 2) 1) (some (word m (i * 72 + 24 + j))) none
+
+abbrev pub valued : List ℕ → ℕ → ℕ → List Port → List Provision
+valued m i j [] = []
+valued m i j (q ∷ qs) = record { port = q; value = valueAt m i j } ∷ valued m i (j + 1) qs
+
+unfoldable pub pluginAt : List ℕ → ℕ → Plugin
+pluginAt m i = record {
+  id = idAt m i;
+  parent = parentOf (word m (i * 72 + 9)) (word m (i * 72 + 10));
+  anchor = port (word m (anchorWord m i)) (word m (anchorWord m i + 1));
+  realms = record { rows = pairs (realmPart m i); other = defaultRealm };
+  dependencies = pairs (depPart m i);
+  provisions = valued m i 0 (pairs (provPart m i));
+  revision = lifeAt m i .revision;
+  payload = lifeAt m i .payload;
+  phase = lifeAt m i .phase;
+  retired = lifeAt m i .retired;
+  generation = lifeAt m i .generation;
+  root = lifeAt m i .root;
+}
+
+unfoldable pub placeAt : List ℕ → ℕ → Option Plugin
+placeAt m i = pick (taken m i) (some (pluginAt m i)) none
+
+-- n places from i on
+unfoldable pub placesFrom : ℕ → List ℕ → ℕ → Places
+placesFrom zero m i = []
+placesFrom (suc n) m i = placeAt m i ∷ placesFrom n m (i + 1)
+
+unfoldable pub view : List ℕ → Registry
+view m = record { domain = word m 0; first = word m 1; next = word m 2; places = placesFrom 32 m 0 }

@@ -1,0 +1,77 @@
+-- What this crate's functions leave in the words.
+use Prim.Native.Nat.{ℕ, zero, suc, _+_, _*_}
+use mathlib.Core.Bool.{Bool, _&&_}
+use mathlib.Core.List.{List, [], _∷_}
+use lib.Dec.{eqb}
+use lib.ListN.{set}
+use mir.Val.{boolByte}
+use Rattle.rules.specs.Basics.{pick}
+use Rattle.rules.specs.declared.Phase.{Phase}
+use Rattle.rules.specs.declared.Phase.the-variants.{Idle, Loading, Active, Unloading}
+use Rattle.rules.specs.declared.Root.{Root}
+use Rattle.rules.specs.declared.Root.the-variants.{Unissued, Queued, Spent}
+use Rattle.memory.specs.declared.Place.{Place}
+use Rattle.memory.specs.declared.Place.the-variants.{At, Nowhere}
+use Rattle.memory.specs.Layout.{taken, idAt}
+use Rattle.memory.specs.declared.Life.{Life}
+use Rattle.memory.specs.declared.Words.{Words}
+
+-- the plugin of this place has the id
+unfoldable pub namesAt : List ℕ → ℕ → ℕ → Bool
+namesAt m id i = taken m i && eqb (idAt m i) id
+
+-- the first such place, of n places from i on
+unfoldable pub findFrom : ℕ → List ℕ → ℕ → ℕ → Place
+findFrom zero m id i = Nowhere
+findFrom (suc n) m id i = pick (namesAt m id i) (At i) (findFrom n m id (i + 1))
+
+unfoldable pub findAt : List ℕ → ℕ → Place
+findAt m id = findFrom 32 m id 0
+
+-- numbers stored from word b + k on, one after the other
+abbrev pub puts : List ℕ → ℕ → ℕ → List ℕ → List ℕ
+puts m b k [] = m
+puts m b k (v ∷ vs) = puts (set m (b + k) v) b (k + 1) vs
+
+abbrev pub phaseWord : Phase → ℕ
+phaseWord Idle = 0
+phaseWord Loading = 1
+phaseWord Active = 2
+phaseWord Unloading = 3
+
+abbrev pub rootTag : Root → ℕ
+rootTag Unissued = 0
+rootTag (Queued v a) = 1
+rootTag Spent = 2
+
+abbrev pub rootRevision : Root → ℕ
+rootRevision Unissued = 0
+rootRevision (Queued v a) = v
+rootRevision Spent = 0
+
+abbrev pub rootArgument : Root → ℕ
+rootArgument Unissued = 0
+rootArgument (Queued v a) = a
+rootArgument Spent = 0
+
+abbrev pub lifeWords : Words → List ℕ
+lifeWords w =
+    w .revision ∷ w .payload ∷ w .phase ∷ w .retired ∷ w .generation ∷ w .root ∷ w .«root_revision» ∷ w .«root_argument» ∷ []
+
+abbrev pub putWords : List ℕ → ℕ → Words → List ℕ
+putWords m i w = puts m (i * 72) 11 (lifeWords w)
+
+unfoldable pub encoded : Life → Words
+encoded l = record {
+  revision = l .revision;
+  payload = l .payload;
+  phase = phaseWord (l .phase);
+  retired = boolByte (l .retired);
+  generation = l .generation;
+  root = rootTag (l .root);
+  «root_revision» = rootRevision (l .root);
+  «root_argument» = rootArgument (l .root);
+}
+
+unfoldable pub putLife : List ℕ → ℕ → Life → List ℕ
+putLife m i l = putWords m i (encoded l)
