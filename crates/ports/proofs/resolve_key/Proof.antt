@@ -1,0 +1,33 @@
+-- The checks of a lookup: row 4, then the port that `resolve` answers.
+use mathlib.Core.Path.{_≡_, sym, ap, _∙_}
+use mathlib.Core.Bool.{true, false}
+use mathlib.Core.List.{[], _∷_}
+use borrow.Author.Needs.{needs}
+use Rattle.rules.specs.declared.Port.{Port}
+use Rattle.rules.specs.Ports.{badRealms, resolve, resolveKey, flat}
+use Rattle.rules.specs.Outcomes.{checked, Accepted}
+use Rattle.ports.proofs.resolve_key.Statement.{statement}
+use Rattle.ports.proofs.resolve_key.Tie as tie
+
+bad-realms-requires : tie.Need-bad-realms-requires
+bad-realms-requires c κs = search needs
+
+returns : tie.Need-returns
+unfolding resolveKey checked
+returns c =
+    let l = c .before .before .before .args .realms .now in
+    let b : badRealms l ≡ true = sym (c .before .bad-realms .ensures) ∙ c .if1 .taken in
+    sym (rw b)
+
+resolve-requires : tie.Need-resolve-requires
+resolve-requires c κs = search needs
+
+returns-2 : tie.Need-returns-2
+unfolding resolveKey resolve checked
+returns-2 c =
+    let l = c .before .before .before .before .args .realms .now in
+    let b : badRealms l ≡ false = sym (c .before .before .bad-realms .ensures) ∙ c .before .if1 .left in
+    sym (rw b (ap (λ (q : Port). Accepted (flat (q ∷ []))) (sym (c .resolve .ensures))))
+
+pub resolve-key-spec : {M : Type 1} → statement M
+resolve-key-spec = tie.close (tie.spec bad-realms-requires returns resolve-requires returns-2)

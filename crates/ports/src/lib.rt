@@ -1,0 +1,135 @@
+// Document 01, "Ports and realms": lists of ports are lent as key, realm, key, realm. Every function takes any list.
+ghost use mathlib.Core.Path.{_≡_};
+ghost use mathlib.Core.Bool.{not, _&&_};
+ghost use Rattle.rules.specs.Holds.{port, isIn};
+ghost use Rattle.rules.specs.Outcomes.{answerOf};
+ghost use Rattle.rules.specs.Ports.{badRealms, resolveIn, resolveKey, pairs, oddLength, samePorts};
+ghost use Rattle.rules.specs.Registration.{repeats};
+ghost use Rattle.ports.specs.Answers.{resolvedAnswer, firstFrom};
+use rules::Port;
+use rules::refusal;
+
+pub enum Resolved {
+    To(Port),
+    Refused(u64),
+}
+
+pub enum Found {
+    At(usize),
+    Nothing,
+}
+
+// Row 4: a realm list of odd length, over 16 rows, or with keys that do not rise strictly.
+pub fn bad_realms(realms: &[u64]) -> bool
+    ensures { λ r. ⌜ r ≡ badRealms (now (realms .entry)) ⌝ }
+{
+    if realms.len() % 2 != 0 {
+        return true;
+    }
+    if 32 < realms.len() {
+        return true;
+    }
+    let mut i: usize = 2;
+    while i < realms.len() {
+        if realms[i] <= realms[i - 2] {
+            return true;
+        }
+        i += 2;
+    }
+    false
+}
+
+// A key found in the list gets its realm; any other gets the other realm.
+pub fn resolve(realms: &[u64], other: u64, key: u64) -> Port
+    ensures { λ r. ⌜ r ≡ resolveIn other (pairs (now (realms .entry))) key ⌝ }
+{
+    let mut i: usize = 1;
+    while i < realms.len() {
+        if realms[i - 1] == key {
+            return Port::new(key, realms[i]);
+        }
+        i += 2;
+    }
+    Port::new(key, other)
+}
+
+// A lookup in a list that breaks row 4 answers 4.
+pub fn resolve_key(realms: &[u64], key: u64) -> Resolved
+    ensures { λ r. ⌜ resolvedAnswer r ≡ answerOf (resolveKey (now (realms .entry)) key) ⌝ }
+{
+    if bad_realms(realms) {
+        return Resolved::Refused(refusal::BAD_REALMS);
+    }
+    Resolved::To(resolve(realms, Port::DEFAULT_REALM, key))
+}
+
+// Whether a port is in the list.
+pub fn has_port(ports: &[u64], key: u64, realm: u64) -> bool
+    ensures { λ r. ⌜ r ≡ isIn (port key realm) (pairs (now (ports .entry))) ⌝ }
+{
+    let mut i: usize = 1;
+    while i < ports.len() {
+        if ports[i - 1] == key {
+            if ports[i] == realm {
+                return true;
+            }
+        }
+        i += 2;
+    }
+    false
+}
+
+// The place of the first port with the key: the search stops there.
+pub fn first_port(ports: &[u64], key: u64) -> Found
+    ensures { λ r. ⌜ r ≡ firstFrom 0 key (pairs (now (ports .entry))) ⌝ }
+{
+    let mut i: usize = 0;
+    let at = loop {
+        if ports.len() / 2 <= i {
+            break i;
+        }
+        if ports[i * 2] == key {
+            break i;
+        }
+        i += 1;
+    };
+    if at < ports.len() / 2 {
+        Found::At(at)
+    } else {
+        Found::Nothing
+    }
+}
+
+// Whether a list is these ports in order; an odd length answers no.
+pub fn same_ports(list: &[u64], ports: &[u64]) -> bool
+    ensures { λ r. ⌜ r ≡ (not (oddLength (now (list .entry))) && samePorts (pairs (now (list .entry))) (pairs (now (ports .entry)))) ⌝ }
+{
+    if list.len() % 2 != 0 {
+        return false;
+    }
+    if list.len() / 2 != ports.len() / 2 {
+        return false;
+    }
+    let mut i: usize = 0;
+    while i < list.len() {
+        if list[i] != ports[i] {
+            return false;
+        }
+        i += 1;
+    }
+    true
+}
+
+// Whether two of the ports are alike.
+pub fn repeated(ports: &[u64]) -> bool
+    ensures { λ r. ⌜ r ≡ repeats (pairs (now (ports .entry))) ⌝ }
+{
+    let mut i: usize = 1;
+    while i < ports.len() {
+        if has_port(&ports[i + 1..], ports[i - 1], ports[i]) {
+            return true;
+        }
+        i += 2;
+    }
+    false
+}
