@@ -4,3 +4,4 @@ pub mod Writes
 pub mod Frames
 pub mod Lookups
 pub mod Stores
+pub mod Known

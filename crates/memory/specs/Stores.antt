@@ -12,7 +12,7 @@ use borrow.Author.Tests.{eq-eqb, ne-eqb, eqb-true, eqb-false}
 use Rattle.rules.specs.Holds.{Plugin, Places, Registry}
 use Rattle.rules.specs.Outcomes.{stores, after, storedAt}
 use Rattle.rules.specs.Laws.Tests.{by-test}
-use Rattle.memory.specs.Layout.{word, taken, idAt, startAt, depsAt, provsAt, realmsAt, rowWord, anchorWord, depPart, provPart, realmPart}
+use Rattle.memory.specs.Layout.{word, part, taken, idAt, startAt, depsAt, provsAt, realmsAt, rowWord, anchorWord, depPart, provPart, realmPart}
 use Rattle.memory.specs.View.{lifeAt, pluginAt, placeAt, placesFrom, view}
 use Rattle.memory.specs.Writes.{putLife}
 use Rattle.memory.specs.Frames.{part-same, Kept, withLife, plugin-kept, life-length, life-before, life-after, life-apart, life-put, life-other}
@@ -26,14 +26,11 @@ id-of : (m : List ℕ) (i : ℕ) → pluginAt m i .id ≡ idAt m i
 unfolding pluginAt
 id-of m i = refl
 
--- A place is kept where its own words but for its life, and its rows, are.
+-- A place is kept where its own words but for its life and its first row are, and its rows, wherever they stand.
 module _ (m m′ : List ℕ) (j : ℕ) (h : j < 32) (l : length m ≡ 4488) (l′ : length m′ ≡ 4488)
     (front : (k : ℕ) → 8 ≤ k → k < 11 → word m′ (j * 72 + k) ≡ word m (j * 72 + k))
-    (back : (k : ℕ) → 19 ≤ k → k < 80 → word m′ (j * 72 + k) ≡ word m (j * 72 + k))
-    (rows : (k : ℕ) → rowWord (startAt m j) ≤ k → k < rowWord (startAt m j + depsAt m j + 1 + provsAt m j) → word m′ k ≡ word m k) where
-  start-kept : startAt m′ j ≡ startAt m j
-  start-kept = ap (λ x. min x 1024) (back 19 (omega arith) (omega arith))
-
+    (back : (k : ℕ) → 20 ≤ k → k < 80 → word m′ (j * 72 + k) ≡ word m (j * 72 + k))
+    (rows : (k : ℕ) → k < (depsAt m j + 1 + provsAt m j) * 2 → word m′ (rowWord (startAt m′ j) + k) ≡ word m (rowWord (startAt m j) + k)) where
   deps-kept : depsAt m′ j ≡ depsAt m j
   deps-kept = ap (λ x. min x 48) (back 20 (omega arith) (omega arith))
 
@@ -43,18 +40,34 @@ module _ (m m′ : List ℕ) (j : ℕ) (h : j < 32) (l : length m ≡ 4488) (l�
   realms-kept : realmsAt m′ j ≡ realmsAt m j
   realms-kept = ap (λ x. min x 16) (back 22 (omega arith) (omega arith))
 
+  -- the k-th word behind the dependencies
+  behind : (k : ℕ) → k < (1 + provsAt m j) * 2 → word m′ (anchorWord m′ j + k) ≡ word m (anchorWord m j + k)
+  behind k u =
+      let e : anchorWord m′ j + k ≡ rowWord (startAt m′ j) + (depsAt m j * 2 + k) = omega (arith, deps-kept) in
+      let f : anchorWord m j + k ≡ rowWord (startAt m j) + (depsAt m j * 2 + k) = omega arith in
+      ap (word m′) e ∙ rows (depsAt m j * 2 + k) (omega arith) ∙ sym (ap (word m) f)
+
   pub kept-frame : Kept m m′ j
   kept-frame = record {
     id = front 8 (omega arith) (omega arith);
     tag = front 9 (omega arith) (omega arith);
     parent = front 10 (omega arith) (omega arith);
-    anchor-key = rw (start-kept, deps-kept) (rows (anchorWord m j) (omega arith) (omega arith));
-    anchor-realm = rw (start-kept, deps-kept) (rows (anchorWord m j + 1) (omega arith) (omega arith));
-    realms = rw realms-kept (part-same m m′ (j * 72 + 39) (j * 72 + 39) (realmsAt m j * 2) (omega arith) (omega arith) (λ k u. let e : j * 72 + 39 + k ≡ j * 72 + (39 + k) = omega arith in rw e (back (39 + k) (omega arith) (omega arith))));
-    dependencies = rw (start-kept, deps-kept) (part-same m m′ (rowWord (startAt m j)) (rowWord (startAt m j)) (depsAt m j * 2) (omega arith) (omega arith)
-        (λ k u. rows (rowWord (startAt m j) + k) (omega arith) (omega arith)));
-    provisions = rw (start-kept, deps-kept, provs-kept) (part-same m m′ (anchorWord m j + 2) (anchorWord m j + 2) (provsAt m j * 2) (omega arith) (omega arith)
-        (λ k u. rows (anchorWord m j + 2 + k) (omega arith) (omega arith)));
+    anchor-key =
+        let e : anchorWord m′ j + 0 ≡ anchorWord m′ j = omega arith in
+        let f : anchorWord m j + 0 ≡ anchorWord m j = omega arith in
+        sym (ap (word m′) e) ∙ behind 0 (omega arith) ∙ ap (word m) f;
+    anchor-realm = behind 1 (omega arith);
+    realms = rw realms-kept (part-same m m′ (j * 72 + 39) (j * 72 + 39) (realmsAt m j * 2) (omega arith) (omega arith)
+        (λ k u. let e : j * 72 + 39 + k ≡ j * 72 + (39 + k) = omega arith in rw e (back (39 + k) (omega arith) (omega arith))));
+    dependencies =
+        ap (λ n. part m′ (rowWord (startAt m′ j)) (n * 2)) deps-kept
+        ∙ part-same m m′ (rowWord (startAt m′ j)) (rowWord (startAt m j)) (depsAt m j * 2) (omega arith) (omega arith) (λ k u. rows k (omega arith));
+    provisions =
+        ap (λ n. part m′ (anchorWord m′ j + 2) (n * 2)) provs-kept
+        ∙ part-same m m′ (anchorWord m′ j + 2) (anchorWord m j + 2) (provsAt m j * 2) (omega (arith, deps-kept)) (omega arith)
+        (λ k u. let e : anchorWord m′ j + 2 + k ≡ anchorWord m′ j + (2 + k) = omega arith in
+        let f : anchorWord m j + 2 + k ≡ anchorWord m j + (2 + k) = omega arith in
+        ap (word m′) e ∙ behind (2 + k) (omega arith) ∙ sym (ap (word m) f));
     mask = back 23 (omega arith) (omega arith);
     values = λ k u. let e : j * 72 + 24 + k ≡ j * 72 + (24 + k) = omega arith in rw e (back (24 + k) (omega arith) (omega arith));
   }
@@ -64,7 +77,8 @@ module _ (m : List ℕ) (i : ℕ) (l : Life) (h : i < 32) (size : length m ≡ 4
   put-kept j k = kept-frame m (putLife m i l) j k size (life-length m i l ∙ size)
       (λ n a b. life-apart m i l (j * 72 + n) (λ c d. omega arith))
       (λ n a b. life-apart m i l (j * 72 + n) (λ c d. omega arith))
-      (λ n a b. life-after m i l n (omega arith))
+      (λ n u. ap (λ w. word (putLife m i l) (rowWord (min w 1024) + n)) (life-apart m i l (j * 72 + 19) (λ c d. omega arith))
+      ∙ life-after m i l (rowWord (startAt m j) + n) (omega arith))
 
   pub plugin-put : pluginAt (putLife m i l) i ≡ withLife (pluginAt m i) l
   plugin-put = plugin-kept m (putLife m i l) i (put-kept i h) ∙ ap (withLife (pluginAt m i)) (life-put m i l h size)

@@ -1,0 +1,8 @@
+pub mod Moves
+pub mod Laws
+pub mod Tiles
+pub mod Dense
+pub mod Removal
+pub mod Addition
+pub mod Freed
+pub mod Filled

@@ -1,0 +1,90 @@
+-- An operation that looks an id up in the words goes on as its rule does; and what it leaves when it stores a life.
+use Prim.Native.Nat.{ℕ, _%_, _<_}
+use native.Mathlib.Omega.{arith}
+use native.Mathlib.Nat.{mod-eq-of-lt}
+use mathlib.Core.Path.{_≡_, refl, sym, ap, _∙_}
+use mathlib.Core.Bool.{true}
+use mathlib.Core.List.{List, []}
+use mathlib.Core.Option.{Option, none, some}
+use lib.ListN.{length}
+use borrow.Author.Tests.{eqb-true}
+use Rattle.rules.specs.Holds.{Plugin, lookup}
+use Rattle.rules.specs.Refusals.{Unknown}
+use Rattle.rules.specs.Outcomes.{Outcome, refuses, answers, writes, stores, adds, removes, found, known, after}
+use Rattle.memory.specs.Layout.{taken, idAt}
+use Rattle.memory.specs.View.{lifeAt, pluginAt, view}
+use Rattle.memory.specs.Writes.{findAt, putLife}
+use Rattle.memory.specs.Frames.{withLife}
+use Rattle.memory.specs.Lookups.{placed, lookup-view, Found, find-found}
+use Rattle.memory.specs.Stores.{Alone, store-view}
+use Rattle.memory.specs.declared.Life.{Life}
+use Rattle.memory.specs.declared.Place.{Place}
+use Rattle.memory.specs.declared.Place.the-variants.{At, Nowhere}
+
+-- Where the id is found.
+module _ (m : List ℕ) (id i : ℕ) (e : findAt m id ≡ At i) where
+  pub at-below : i < 32
+  at-below = find-found m id i e .below
+
+  pub at-place : i % 32 ≡ i
+  at-place = mod-eq-of-lt at-below
+
+  pub at-taken : taken m i ≡ true
+  at-taken = find-found m id i e .there
+
+  pub at-id : pluginAt m i .id ≡ id
+  at-id = eqb-true _ _ (find-found m id i e .passes)
+
+  pub at-lookup : lookup (view m) id ≡ some (pluginAt m i)
+  at-lookup = lookup-view m id ∙ ap (placed m) e
+
+  pub at-known : (f : Plugin → Outcome) → known (view m) id f ≡ f (pluginAt m i)
+  unfolding found
+  at-known f = rw at-lookup
+
+-- Where it is not.
+pub none-lookup : (m : List ℕ) (id : ℕ) → findAt m id ≡ Nowhere → lookup (view m) id ≡ none
+none-lookup m id e = lookup-view m id ∙ ap (placed m) e
+
+pub none-known : (m : List ℕ) (id : ℕ) → findAt m id ≡ Nowhere → (f : Plugin → Outcome) → known (view m) id f ≡ refuses Unknown []
+unfolding found
+none-known m id e f = rw (none-lookup m id e)
+
+-- what operations on one plugin change of it, but for its values
+abbrev pub lifeOf : Plugin → Life
+lifeOf p = record {
+  revision = p .revision;
+  payload = p .payload;
+  phase = p .phase;
+  retired = p .retired;
+  generation = p .generation;
+  root = p .root;
+}
+
+pub life-of : (m : List ℕ) (i : ℕ) → lifeOf (pluginAt m i) ≡ lifeAt m i
+unfolding pluginAt
+life-of m i = refl
+
+-- The words after an operation that stores a life; any other outcome leaves them.
+abbrev pub putLifeAt : List ℕ → Place → Life → List ℕ
+putLifeAt m (At i) l = putLife m i l
+putLifeAt m Nowhere l = m
+
+unfoldable pub storedLife : List ℕ → Outcome → List ℕ
+storedLife m (refuses x vs) = m
+storedLife m (answers vs) = m
+storedLife m (writes place l vs) = m
+storedLife m (stores q vs) = putLifeAt m (findAt m (q .id)) (lifeOf q)
+storedLife m (adds q vs) = m
+storedLife m (removes id vs) = m
+
+pub stored-at : (m : List ℕ) (id i : ℕ) → findAt m id ≡ At i → (l : Life) (vs : List ℕ)
+    → storedLife m (stores (withLife (pluginAt m i) l) vs) ≡ putLife m i l
+unfolding storedLife
+stored-at m id i e l vs = rw (at-id m id i e, e)
+
+-- Of a memory in which ids stand once, the registry afterwards is the rule's.
+pub stored-view : (m : List ℕ) → length m ≡ 4488 → Alone m → (id i : ℕ) → findAt m id ≡ At i → (l : Life) (vs : List ℕ)
+    → view (storedLife m (stores (withLife (pluginAt m i) l) vs)) ≡ after (view m) (stores (withLife (pluginAt m i) l) vs)
+stored-view m size alone id i e l vs =
+    ap view (stored-at m id i e l vs) ∙ store-view m i l (at-below m id i e) size alone (at-taken m id i e) vs

@@ -1,0 +1,7 @@
+pub mod Changes
+pub mod Bits
+pub mod Taken
+pub mod Free
+pub mod Placed
+pub mod Rows
+pub mod Above

@@ -1,0 +1,117 @@
+// The 32 plugin places: one occupancy word. Its ones are the registered count, the trailing zeros of its complement the lowest free place.
+ghost use mathlib.Core.Path.{_≡_};
+ghost use lib.ListN.{length};
+ghost use Rattle.rules.specs.Holds.{count, rowsInUse};
+ghost use Rattle.rules.specs.Outcomes.{answerOf};
+ghost use Rattle.rules.specs.Queries.{nextAbove, lower as lowerId};
+ghost use Rattle.memory.specs.View.{view};
+ghost use Rattle.places.specs.Changes.{freeAt, occupiedAt, vacatedAt, aboveAnswer};
+ghost use Rattle.places.specs.Above.{idOf};
+use memory::Place;
+use memory::WORDS;
+
+// The next registered id above a number, or nothing.
+pub enum Above {
+    Id(u64),
+    Nothing,
+}
+
+// How many plugins are registered.
+pub fn registered(m: &[u64; WORDS]) -> u64
+    ensures { λ r. ⌜ r ≡ count (view (now (m .entry))) ⌝ }
+{
+    u32::count_ones(memory::occupied(m)) as u64
+}
+
+// The lowest free place.
+pub fn lowest_free(m: &[u64; WORDS]) -> Place
+    ensures { λ r. ⌜ r ≡ freeAt (now (m .entry)) ⌝ }
+{
+    let place = u32::trailing_zeros(!memory::occupied(m));
+    if place < 32 {
+        Place::At(place as usize)
+    } else {
+        Place::Nowhere
+    }
+}
+
+// The free place is taken.
+pub fn occupy(m: &mut [u64; WORDS], place: usize)
+    ensures { λ _. ⌜ now (m .exit) ≡ occupiedAt (now (m .entry)) place ⌝ }
+{
+    if 32 <= place {
+        return;
+    }
+    if memory::is_taken(m, place) {
+        return;
+    }
+    let word = memory::occupied(m) | 1 << place;
+    m[3] = word as u64;
+}
+
+// The taken place is free again.
+pub fn vacate(m: &mut [u64; WORDS], place: usize)
+    ensures { λ _. ⌜ now (m .exit) ≡ vacatedAt (now (m .entry)) place ⌝ }
+{
+    if memory::is_taken(m, place) {
+        let word = memory::occupied(m) - (1 << place);
+        m[3] = word as u64;
+    }
+}
+
+// The rows in use, counted from the plugins' lists.
+pub fn rows_in_use(m: &[u64; WORDS]) -> usize
+    ensures { λ r. ⌜ r ≡ rowsInUse (view (now (m .entry))) ⌝ }
+{
+    whole(m);
+    let mut total: usize = 0;
+    let mut i: usize = 0;
+    while i < 32 {
+        if memory::is_taken(m, i) {
+            total += memory::dependencies(m, i) + memory::provisions(m, i) + 1;
+        }
+        i += 1;
+    }
+    total
+}
+
+// The lowest registered id above a number.
+pub fn next_above(m: &[u64; WORDS], number: u64) -> Above
+    ensures { λ r. ⌜ aboveAnswer r ≡ answerOf (nextAbove (view (now (m .entry))) number) ⌝ }
+{
+    let mut found = Above::Nothing;
+    let mut i: usize = 32;
+    while 0 < i {
+        i -= 1;
+        if memory::is_taken(m, i) {
+            let id = memory::id(m, i);
+            if number < id {
+                found = lower(id, found);
+            }
+        }
+    }
+    found
+}
+
+// The lower of two ids, of which one may be missing.
+fn lower(id: u64, other: Above) -> Above
+    ensures { λ r. ⌜ idOf r ≡ lowerId id (idOf other) ⌝ }
+{
+    match other {
+        Above::Nothing => Above::Id(id),
+        Above::Id(n) => { if id < n { Above::Id(id) } else { Above::Id(n) } }
+    }
+}
+
+// Tells the proof how long the memory is; compiles to nothing.
+fn whole(m: &[u64; WORDS])
+    ensures { λ _. ⌜ length (now (m .entry)) ≡ 4488 ⌝ }
+{
+    let n = size(m);
+}
+
+fn size(words: &[u64]) -> usize
+    ensures { λ r. ⌜ r ≡ length (now (words .entry)) ⌝ }
+{
+    words.len()
+}
