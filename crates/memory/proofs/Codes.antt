@@ -1,9 +1,14 @@
 -- The last arm of each code.
 use Prim.Native.Nat.{ℕ, zero, suc}
 use mathlib.Core.Path.{_≡_, refl}
+use mathlib.Core.Option.{some}
 use Rattle.rules.specs.declared.Phase.the-variants.{Unloading}
 use Rattle.rules.specs.declared.Root.the-variants.{Spent}
-use Rattle.memory.specs.View.{phaseOf, rootOf}
+use Rattle.memory.specs.View.{parentOf, phaseOf, rootOf}
+
+pub parent-rest : (n id : ℕ) → (n ≡ 0 → ⊥) → some id ≡ parentOf n id
+parent-rest zero id h = absurd (h refl)
+parent-rest (suc n) id h = refl
 
 pub root-rest : (n v a : ℕ) → (n ≡ 0 → ⊥) → (n ≡ 1 → ⊥) → Spent ≡ rootOf n v a
 root-rest zero v a h k = absurd (h refl)

@@ -1,2 +1,3 @@
 mod Codes
 mod Search
+mod Parts

@@ -20,6 +20,9 @@ abbrev pub parentOf : ℕ → ℕ → Option ℕ
 parentOf zero id = none
 parentOf (suc n) id = some id
 
+abbrev pub parentAt : List ℕ → ℕ → Option ℕ
+parentAt m i = parentOf (word m (i * 72 + 9)) (word m (i * 72 + 10))
+
 abbrev pub phaseOf : ℕ → Phase
 phaseOf zero = Idle
 phaseOf (suc zero) = Loading
@@ -68,7 +71,7 @@ valued m i j (q ∷ qs) = record { port = q; value = valueAt m i j } ∷ valued 
 unfoldable pub pluginAt : List ℕ → ℕ → Plugin
 pluginAt m i = record {
   id = idAt m i;
-  parent = parentOf (word m (i * 72 + 9)) (word m (i * 72 + 10));
+  parent = parentAt m i;
   anchor = port (word m (anchorWord m i)) (word m (anchorWord m i + 1));
   realms = record { rows = pairs (realmPart m i); other = defaultRealm };
   dependencies = pairs (depPart m i);

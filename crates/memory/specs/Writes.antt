@@ -2,6 +2,7 @@
 use Prim.Native.Nat.{ℕ, zero, suc, _+_, _*_}
 use mathlib.Core.Bool.{Bool, _&&_}
 use mathlib.Core.List.{List, [], _∷_}
+use mathlib.Core.Option.{Option, none, some}
 use lib.Dec.{eqb}
 use lib.ListN.{set}
 use mir.Val.{boolByte}
@@ -10,11 +11,17 @@ use Rattle.rules.specs.declared.Phase.{Phase}
 use Rattle.rules.specs.declared.Phase.the-variants.{Idle, Loading, Active, Unloading}
 use Rattle.rules.specs.declared.Root.{Root}
 use Rattle.rules.specs.declared.Root.the-variants.{Unissued, Queued, Spent}
+use Rattle.memory.specs.declared.Parent.{Parent}
+use Rattle.memory.specs.declared.Parent.the-variants.{Of, Nobody}
 use Rattle.memory.specs.declared.Place.{Place}
 use Rattle.memory.specs.declared.Place.the-variants.{At, Nowhere}
 use Rattle.memory.specs.Layout.{taken, idAt}
 use Rattle.memory.specs.declared.Life.{Life}
 use Rattle.memory.specs.declared.Words.{Words}
+
+abbrev pub parentId : Parent → Option ℕ
+parentId (Of id) = some id
+parentId Nobody = none
 
 -- the plugin of this place has the id
 unfoldable pub namesAt : List ℕ → ℕ → ℕ → Bool

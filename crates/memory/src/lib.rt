@@ -1,9 +1,11 @@
 // The registry's memory: one array of words that the caller lends. Every function takes any words; a place is read modulo 32.
 ghost use mathlib.Core.Path.{_≡_};
 ghost use Prim.Native.Nat.{_%_, _<_, min};
-ghost use Rattle.memory.specs.Layout.{word, occupancy, taken, idAt, startAt, depsAt, provsAt, realmsAt};
-ghost use Rattle.memory.specs.View.{phaseOf, rootOf, wordsAt, decoded, lifeAt};
-ghost use Rattle.memory.specs.Writes.{namesAt, findAt, phaseWord, rootTag, rootRevision, rootArgument, putWords, encoded, putLife};
+ghost use lib.Dec.{eqb};
+ghost use Rattle.rules.specs.Basics.{holds};
+ghost use Rattle.memory.specs.Layout.{word, part, occupancy, taken, idAt, startAt, depsAt, provsAt, realmsAt};
+ghost use Rattle.memory.specs.View.{phaseOf, rootOf, wordsAt, decoded, lifeAt, parentAt};
+ghost use Rattle.memory.specs.Writes.{parentId, namesAt, findAt, phaseWord, rootTag, rootRevision, rootArgument, putWords, encoded, putLife};
 use rules::Phase;
 use rules::Root;
 
@@ -13,6 +15,12 @@ pub const WORDS: usize = 4488;
 pub enum Place {
     At(usize),
     Nowhere,
+}
+
+// A parent's id, or none.
+pub enum Parent {
+    Of(u64),
+    Nobody,
 }
 
 // What operations on one plugin change, but for its values.
@@ -92,6 +100,37 @@ pub fn id(m: &[u64; WORDS], place: usize) -> u64
 {
     let b = place % 32 * 72;
     m[b + 8]
+}
+
+// Some words from one on, as many as there are.
+pub fn some_words(m: &[u64], from: usize, count: usize) -> &[u64]
+    ensures { λ r. ⌜ now r ≡ part (now (m .entry)) from count ⌝ }
+{
+    let n = m.len();
+    if n < from {
+        return &m[n..n];
+    }
+    if n - from < count {
+        return &m[from..n];
+    }
+    let end = from + count;
+    &m[from..end]
+}
+
+// The parent's id, or none.
+pub fn parent_of(m: &[u64; WORDS], place: usize) -> Parent
+    ensures { λ r. ⌜ parentId r ≡ parentAt (now (m .entry)) (place % 32) ⌝ }
+{
+    let b = place % 32 * 72;
+    if m[b + 9] == 0 { Parent::Nobody } else { Parent::Of(m[b + 10]) }
+}
+
+// Whether the plugin of this place has the id as parent.
+pub fn is_child_of(m: &[u64; WORDS], place: usize, id: u64) -> bool
+    ensures { λ r. ⌜ r ≡ holds (eqb id) (parentAt (now (m .entry)) (place % 32)) ⌝ }
+{
+    let b = place % 32 * 72;
+    if m[b + 9] == 0 { false } else { id == m[b + 10] }
 }
 
 // A count, read up to its limit.

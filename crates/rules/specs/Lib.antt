@@ -22,3 +22,5 @@ pub mod Laws
 pub mod Demand3
 pub mod Built
 pub mod Kept
+pub mod Upstream
+pub mod UpstreamValues

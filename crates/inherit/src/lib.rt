@@ -1,0 +1,144 @@
+// Document 01, "Dependency list", and the ports that a registration claims.
+ghost use mathlib.Core.Path.{_≡_};
+ghost use mathlib.Core.List.{[], map};
+ghost use lib.ListN.{take};
+ghost use Rattle.rules.specs.Ports.{resolveIn, pairs, realmsWith};
+ghost use Rattle.rules.specs.Dependencies.{dependencyList};
+ghost use Rattle.inherit.specs.Blocks.{filled, keysRepeat, claimsOf, fitted, candidateRealm};
+ghost use Rattle.inherit.specs.Filled.{Lists};
+use rules::Port;
+
+// The anchor, then the resolved provisions: 16 ports at most.
+pub struct Claimed {
+    pub count: usize,
+    pub ports: [u64; 32],
+}
+
+// A finished dependency list of at most 48 ports. A count of 49 says that it is longer.
+pub struct Dependencies {
+    pub count: usize,
+    pub ports: [u64; 96],
+}
+
+// Whether a key stands twice among declared keys.
+pub fn repeated_key(keys: &[u64]) -> bool
+    ensures { λ r. ⌜ r ≡ keysRepeat (now (keys .entry)) ⌝ }
+{
+    let mut i: usize = 0;
+    while i < keys.len() {
+        let key = keys[i];
+        let mut j = i + 1;
+        while j < keys.len() {
+            if keys[j] == key {
+                return true;
+            }
+            j += 1;
+        }
+        i += 1;
+    }
+    false
+}
+
+// The anchor and the ports of the first 15 provision keys.
+pub fn claims(realms: &[u64], other: u64, anchor: Port, keys: &[u64]) -> Claimed
+    ensures { λ r. ⌜ r ≡ claimsOf other (pairs (now (realms .entry))) anchor (now (keys .entry)) ⌝ }
+{
+    let mut ports = [0u64; 32];
+    ports[0] = anchor.key;
+    ports[1] = anchor.realm;
+    let mut i: usize = 0;
+    while i < keys.len() {
+        if i == 15 {
+            return Claimed { count: 16, ports };
+        }
+        let q = ports::resolve(realms, other, keys[i]);
+        ports[i * 2 + 2] = q.key;
+        ports[i * 2 + 3] = q.realm;
+        i += 1;
+    }
+    Claimed {
+        count: i + 1,
+        ports,
+    }
+}
+
+// The list of a new plugin: the first 16 declared keys resolved, then for each port of the parent's list itself and its
+// key resolved again, each appended if it is neither among the provisions nor in the list so far.
+pub fn dependency_list(
+    realms: &[u64],
+    other: u64,
+    provisions: &[u64],
+    keys: &[u64],
+    parents: &[u64],
+) -> Dependencies
+    ensures { λ r. ⌜ r ≡ fitted (dependencyList (realmsWith other (now (realms .entry))) (pairs (now (provisions .entry))) (take 16 (now (keys .entry))) (pairs (now (parents .entry)))) ⌝ }
+{
+    let first = declared(realms, other, keys);
+    let mut n = first.count;
+    let mut ports = first.ports;
+    let mut c: usize = 0;
+    'next: while c / 2 < parents.len() / 2 {
+        let at = c / 2 * 2;
+        let key = parents[at];
+        let realm = candidate(realms, other, c % 2, key, parents[at + 1]);
+        c += 1;
+        if ports::has_port(provisions, key, realm) {
+            continue;
+        }
+        let mut k: usize = 0;
+        while k < n {
+            if ports[k * 2] == key {
+                if ports[k * 2 + 1] == realm {
+                    continue 'next;
+                }
+            }
+            k += 1;
+        }
+        if n == 48 {
+            return longer();
+        }
+        ports[n * 2] = key;
+        ports[n * 2 + 1] = realm;
+        n += 1;
+    }
+    Dependencies { count: n, ports }
+}
+
+// What a list of more than 48 ports answers.
+fn longer() -> Dependencies
+    ensures { λ r. ⌜ (r .count ≡ 49) × (r .ports ≡ filled 96 []) ⌝ }
+{
+    Dependencies {
+        count: 49,
+        ports: [0u64; 96],
+    }
+}
+
+// The first 16 declared keys, resolved.
+fn declared(realms: &[u64], other: u64, keys: &[u64]) -> Dependencies
+    ensures { λ r. ⌜ Lists 96 (r .count) (r .ports) (map (resolveIn other (pairs (now (realms .entry)))) (take 16 (now (keys .entry)))) ⌝ }
+{
+    let mut ports = [0u64; 96];
+    let mut i: usize = 0;
+    while i < keys.len() {
+        if i == 16 {
+            return Dependencies { count: 16, ports };
+        }
+        let q = ports::resolve(realms, other, keys[i]);
+        ports[i * 2] = q.key;
+        ports[i * 2 + 1] = q.realm;
+        i += 1;
+    }
+    Dependencies { count: i, ports }
+}
+
+// The realm of a candidate: its own, or that of its key resolved again.
+fn candidate(realms: &[u64], other: u64, turn: usize, key: u64, realm: u64) -> u64
+    ensures { λ r. ⌜ r ≡ candidateRealm other (pairs (now (realms .entry))) turn key realm ⌝ }
+{
+    if turn == 0 {
+        return realm;
+    }
+    let q = ports::resolve(realms, other, key);
+    q.realm
+}

@@ -1,0 +1,368 @@
+-- Upstream's clauses on ports and values: R's dependency list, S's provisions and reads.
+use Prim.Native.Nat.{ℕ}
+use native.Mathlib.Omega.{arith}
+use mathlib.Core.Path.{_≡_, refl, sym, ap, _∙_, subst}
+use mathlib.Core.Bool.{Bool, true, false, not, _&&_, _||_, true≢false, and-true, and-false, and-assoc, or-false, or-true, or-assoc, and-or-distrib-left}
+use mathlib.Core.List.{List, [], _∷_, _++_, map, map-map}
+use mathlib.Core.Option.{Option, none, some}
+use mathlib.Core.Logic.{_⊎_, inl, inr, ⊎-elim, _↔_}
+use lib.Dec.{eqb}
+use borrow.Author.Tests.{eqb-true, eqb-false, eq-eqb, ne-eqb, not-false}
+use Rattle.rules.specs.Basics.{pick, any, isSome, isNone, holds, sameNumbers, yesNo, one}
+use Rattle.rules.specs.Holds.{Port, Realms, Provision, Registry, Plugin, plugins, lookup, provider, provided, provides, samePort, isIn}
+use Rattle.rules.specs.Holds.{Active, isLoading, isActive, running, withProvisions}
+use Rattle.rules.specs.Outcomes.{Refused, Accepted, Outcome, answerOf, checked, found}
+use Rattle.rules.specs.Ports.{pairs, oddLength, flat, samePorts, resolve}
+use Rattle.rules.specs.Dependencies.{candidates, skipped, inherit, dependencyList, firstPort}
+use Rattle.rules.specs.Registration.{repeats}
+use Rattle.rules.specs.Values.{valueIn, offered, offer, isEmpty, firstMissing, matching, declares, given, served, read, seen, visible}
+use Rattle.rules.specs.Laws.Tests.{by-test, both, neither}
+use Rattle.rules.specs.Laws.Members.{In, same-port, is-in, any-false, first-in, first-none, lookup-in}
+use Rattle.rules.specs.Laws.Table.{is-active}
+use Rattle.rules.specs.Demand3.Lives.{same-true, same-of}
+use Rattle.rules.specs.Built.{Built}
+use Rattle.rules.specs.Kept.Plugins.{alike}
+use Rattle.rules.specs.Upstream.{accepted, exact, held-by, Effect, has-effect, When, when-passed, when-known}
+
+pub any-append : {A : Type 0} (f : A → Bool) (l m : List A) → any f (l ++ m) ≡ (any f l || any f m)
+any-append f [] m = refl
+any-append f (x ∷ l) m = rw (any-append f l m, or-assoc)
+
+eqb-swap : (a b : ℕ) → eqb a b ≡ eqb b a
+eqb-swap a b = by-test (eqb a b)
+    (λ y. y ∙ sym (eq-eqb b a (sym (eqb-true a b y))))
+    (λ n. n ∙ sym (ne-eqb b a (λ i. eqb-false a b n (sym i))))
+
+pub same-swap : (p q : Port) → samePort p q ≡ samePort q p
+same-swap p q = rw (eqb-swap (p .key) (q .key), eqb-swap (p .realm) (q .realm))
+
+pub same-self : (p : Port) → samePort p p ≡ true
+same-self p = rw (eq-eqb (p .key) (p .key) refl, eq-eqb (p .realm) (p .realm) refl)
+
+-- a port is appended unless a test holds
+appended : (c : Bool) (l : List Port) (p q : Port) → isIn p (pick c l (l ++ q ∷ [])) ≡ (isIn p l || (not c && samePort p q))
+appended true l p q = sym (or-false _)
+appended false l p q = any-append (samePort p) l (q ∷ []) ∙ ap (λ b. isIn p l || b) (or-false _)
+
+absorb : (a b : Bool) → (a || (not (b || a) && true)) ≡ (a || (not b && true))
+absorb true b = refl
+absorb false b = rw or-false
+
+-- R inherit_one: the list contains what it contained, and the port unless that is provided.
+pub inherit-one : (provisions l : List Port) (p q : Port)
+    → isIn p (pick (skipped provisions l q) l (l ++ q ∷ [])) ≡ (isIn p l || (not (isIn p provisions) && samePort p q))
+inherit-one provisions l p q = appended (skipped provisions l q) l p q ∙ by-test (samePort p q)
+    (λ y. let i = same-port p q y in rw (y, ap (λ x. isIn x provisions) i, ap (λ x. isIn x l) i) (absorb (isIn p l) (isIn p provisions)))
+    (λ n. rw n (simp and-false))
+
+-- R inherit_dependencies: .. and each candidate that is not provided.
+pub inherit-in : (provisions cs l : List Port) (p : Port)
+    → isIn p (inherit provisions cs l) ≡ (isIn p l || (not (isIn p provisions) && isIn p cs))
+inherit-in provisions [] l p = rw (and-false, or-false)
+inherit-in provisions (q ∷ qs) l p =
+    inherit-in provisions qs _ p ∙ rw (inherit-one provisions l p q, or-assoc, and-or-distrib-left)
+
+-- R inherited_at: some port of the parent's list is p, or has a key that resolves to p. These are the candidates.
+abbrev pub inheritedAt : List Port → Realms → Port → Bool
+inheritedAt parents z p = any (λ (q : Port). samePort p q || samePort p (resolve z (q .key))) parents
+
+pub candidates-in : (z : Realms) (parents : List Port) (p : Port) → isIn p (candidates z parents) ≡ inheritedAt parents z p
+candidates-in z [] p = refl
+candidates-in z (q ∷ qs) p = rw (candidates-in z qs p, or-assoc)
+
+-- R registered_dependencies: a declared port, or one that is inherited and not provided.
+pub dependencies-in : (z : Realms) (provisions : List Port) (keys : List ℕ) (parents : List Port) (p : Port)
+    → isIn p (dependencyList z provisions keys parents) ≡ (isIn p (map (resolve z) keys) || (not (isIn p provisions) && inheritedAt parents z p))
+unfolding dependencyList
+dependencies-in z provisions keys parents p = inherit-in provisions (candidates z parents) _ p ∙ rw candidates-in
+
+regroup : (a b c d : Bool) → ((a || (b || false)) || (c || d)) ≡ ((a || c) || (b || d))
+regroup true b c d = refl
+regroup false true c d = sym (or-true c)
+regroup false false c d = refl
+
+repeats-append : (l : List Port) (q : Port) → repeats (l ++ q ∷ []) ≡ (repeats l || isIn q l)
+repeats-append [] q = refl
+repeats-append (x ∷ l) q = rw (any-append (samePort x) l (q ∷ []), repeats-append l q, same-swap x q) (regroup (isIn x l) (samePort q x) _ _)
+
+-- R inherit_one, inherit_dependencies: distinct_ports stays as it was,
+pub one-distinct : (provisions l : List Port) (q : Port) → repeats (pick (skipped provisions l q) l (l ++ q ∷ [])) ≡ repeats l
+one-distinct provisions l q = by-test (skipped provisions l q)
+    (λ y. rw y)
+    (λ n. rw n (repeats-append l q ∙ rw (neither (isIn q provisions) (isIn q l) n .1, or-false)))
+
+pub inherit-distinct : (provisions cs l : List Port) → repeats (inherit provisions cs l) ≡ repeats l
+inherit-distinct provisions [] l = refl
+inherit-distinct provisions (q ∷ qs) l = inherit-distinct provisions qs _ ∙ one-distinct provisions l q
+
+-- .. so a finished list names a port twice only if two declared keys resolve alike.
+pub dependencies-distinct : (z : Realms) (provisions : List Port) (keys : List ℕ) (parents : List Port)
+    → repeats (dependencyList z provisions keys parents) ≡ repeats (map (resolve z) keys)
+unfolding dependencyList
+dependencies-distinct z provisions keys parents = inherit-distinct provisions (candidates z parents) _
+
+-- The first of a list that passes a test: where it stands.
+pub record First {A : Type 0} (f : A → Bool) (l : List A) (a : A) : Type 0 where
+  pub before : List A
+  pub behind : List A
+  pub split : l ≡ before ++ a ∷ behind
+  pub member : In a l
+  pub passes : f a ≡ true
+  pub earlier : any f before ≡ false
+
+module _ {A : Type 0} (f : A → Bool) (g : A → Port) where
+  -- its port, or none
+  abbrev pub firstOf : List A → List ℕ
+  firstOf [] = []
+  firstOf (x ∷ l) = pick (f x) (flat (g x ∷ [])) (firstOf l)
+
+  pub firstOf-none : (l : List A) → isEmpty (firstOf l) ≡ not (any f l)
+  firstOf-none [] = refl
+  firstOf-none (x ∷ l) = by-test (f x) (λ y. rw y) (λ n. rw n (firstOf-none l))
+
+  pub firstOf-some : (l : List A) → any f l ≡ true → (a : A) × (firstOf l ≡ flat (g a ∷ [])) × First f l a
+  firstOf-some [] e = absurd (true≢false (sym e))
+  firstOf-some (x ∷ l) e = by-test (f x)
+      (λ y. (x, rw y, record { before = []; behind = l; split = refl; member = inl refl; passes = y; earlier = refl }))
+      (λ n. let (a, i, w) = firstOf-some l (rw n at e) in (
+        a,
+        rw n i,
+        record {
+          before = x ∷ w .before;
+          behind = w .behind;
+          split = ap (λ m. x ∷ m) (w .split);
+          member = inr (w .member);
+          passes = w .passes;
+          earlier = rw n (w .earlier);
+        },
+      ))
+
+-- R dependency_port: none exactly if no port has the key; otherwise the first one that has it.
+abbrev pub hasKey : ℕ → Port → Bool
+hasKey k p = eqb (p .key) k
+
+first-port : (k : ℕ) (l : List Port) → firstPort k l ≡ firstOf (hasKey k) (λ p. p) l
+first-port k [] = refl
+first-port k (p ∷ l) = rw (first-port k l)
+
+pub dependency-none : (k : ℕ) (l : List Port) → isEmpty (firstPort k l) ≡ not (any (hasKey k) l)
+dependency-none k l = rw (first-port k l) (firstOf-none (hasKey k) (λ p. p) l)
+
+pub dependency-some : (k : ℕ) (l : List Port) → any (hasKey k) l ≡ true → (p : Port) × (firstPort k l ≡ flat (p ∷ [])) × First (hasKey k) l p
+dependency-some k l e = rw (first-port k l) (firstOf-some (hasKey k) (λ p. p) l e)
+
+-- The ports of provisions.
+abbrev pub ports : List Provision → List Port
+ports vs = map (λ (v : Provision). v .port) vs
+
+map-in : {A B : Type 0} (f : A → B) (l : List A) (a : A) → In a l → In (f a) (map f l)
+map-in f (x ∷ l) a (inl i) = inl (ap f i)
+map-in f (x ∷ l) a (inr m) = inr (map-in f l a m)
+
+-- S keeps values by port. So does valueIn, where no two provisions are alike.
+pub value-of : (vs : List Provision) (v : Provision) → repeats (ports vs) ≡ false → In v vs → valueIn (v .port) vs ≡ v .value
+value-of (w ∷ vs) v e (inl i) = subst (λ x. valueIn (x .port) (w ∷ vs) ≡ x .value) i (rw (same-self (w .port)))
+value-of (w ∷ vs) v e (inr m) =
+    let c = neither (isIn (w .port) (ports vs)) (repeats (ports vs)) e in
+    let n = any-false (samePort (w .port)) (ports vs) (v .port) (c .0) (map-in (λ (v : Provision). v .port) vs v m) in
+    rw (same-swap (v .port) (w .port), n) (value-of vs v (c .1) m)
+
+offered-in : (k q : Port) (n : ℕ) (vs : List Provision) → valueIn k (map (offered q n) vs) ≡ pick (samePort k q && isIn q (ports vs)) (some n) (valueIn k vs)
+offered-in k q n [] = rw and-false
+offered-in k q n (v ∷ vs) = rw (offered-in k q n vs) (by-test (samePort k q)
+    (λ y. rw (ap (λ x. samePort x (v .port)) (same-port k q y), y) (picks (samePort k (v .port)) (isIn q (ports vs)) (some n) (v .value) (valueIn k vs)))
+    (λ z. rw z (by-test (samePort k (v .port)) (λ y. rw (ap (samePort q) (same-port k (v .port) y) ∙ same-swap q k ∙ z)) (λ m. rw m))))
+  where
+    picks : (a b : Bool) (x y z : Option ℕ) → pick a (pick a x y) (pick b x z) ≡ pick (a || b) x (pick a y z)
+    picks true b x y z = refl
+    picks false b x y z = refl
+
+-- S provide: the port's value becomes the one offered, every other stays;
+pub offered-value : (k q : Port) (n : ℕ) (vs : List Provision) → isIn q (ports vs) ≡ true
+    → valueIn k (map (offered q n) vs) ≡ pick (samePort k q) (some n) (valueIn k vs)
+offered-value k q n vs m = offered-in k q n vs ∙ rw (m, and-true)
+
+module _ (r : Registry) (id : ℕ) (q : Port) (n : ℕ) where
+  -- .. accepted exactly if Loading and not retired, the port a provision without a value;
+  pub offer-exactly : accepted (offer r id q n)
+      ≡ holds (λ p. isLoading (p .phase) && (not (p .retired) && (isIn q (provided p) && not (isSome (valueIn q (p .provisions)))))) (lookup r id)
+  unfolding offer
+  offer-exactly = simp exact
+
+  -- .. the values alone change.
+  pub offer-effect : When (Effect r id (λ _. []) (λ p. withProvisions (map (offered q n) (p .provisions)) p)) (offer r id q n)
+  unfolding offer
+  offer-effect = when-known r (Effect r _ _ _) _ _ λ p e. when-passed (Effect r _ _ _) _ _ λ _ _.
+      has-effect r _ _ _ p e (alike p (map-map _ (offered q n) (p .provisions)))
+
+-- S missing: none exactly if no provision lacks a value (complete); otherwise the first that lacks one.
+abbrev pub lacks : Provision → Bool
+lacks v = isNone (v .value)
+
+first-missing : (vs : List Provision) → firstMissing vs ≡ firstOf lacks (λ v. v .port) vs
+first-missing [] = refl
+first-missing (v ∷ vs) = rw (first-missing vs)
+
+pub missing-none : (vs : List Provision) → isEmpty (firstMissing vs) ≡ not (any lacks vs)
+missing-none vs = rw (first-missing vs) (firstOf-none lacks (λ v. v .port) vs)
+
+pub missing-some : (vs : List Provision) → any lacks vs ≡ true → (v : Provision) × (firstMissing vs ≡ flat (v .port ∷ [])) × First lacks vs v
+missing-some vs e = rw (first-missing vs) (firstOf-some lacks (λ v. v .port) vs e)
+
+-- .. by port: where none lacks a value, each port has one; the port answered has none.
+pub complete-values : (vs : List Provision) → any lacks vs ≡ false → (q : Port) → isIn q (ports vs) ≡ true → isSome (valueIn q vs) ≡ true
+complete-values [] e q m = m
+complete-values (v ∷ vs) e q m =
+    let c = neither (lacks v) (any lacks vs) e in
+    by-test (samePort q (v .port)) (λ y. rw y (some-not (v .value) ∙ ap not (c .0))) (λ n. rw n (complete-values vs (c .1) q (rw n at m)))
+  where
+    some-not : (u : Option ℕ) → isSome u ≡ not (isNone u)
+    some-not none = refl
+    some-not (some x) = refl
+
+pub missing-value : (vs : List Provision) (v : Provision) → repeats (ports vs) ≡ false → First lacks vs v → isNone (valueIn (v .port) vs) ≡ true
+missing-value vs v e w = ap isNone (value-of vs v e (w .member)) ∙ w .passes
+
+-- S matches_provisions: yes exactly if the list is the provision list, as key, realm, key, realm.
+matching-numbers : (l : List ℕ) (ps : List Port) → (not (oddLength l) && samePorts (pairs l) ps) ≡ sameNumbers l (flat ps)
+matching-numbers [] [] = refl
+matching-numbers [] (p ∷ ps) = refl
+matching-numbers (k ∷ []) [] = refl
+matching-numbers (k ∷ []) (p ∷ ps) = sym (and-false (eqb k (p .key)))
+matching-numbers (k ∷ n ∷ l) [] = and-false (not (oddLength l))
+matching-numbers (k ∷ n ∷ l) (p ∷ ps) = rw (← (matching-numbers l ps)) (later (not (oddLength l)) (eqb k (p .key)) (eqb n (p .realm)) (samePorts (pairs l) ps))
+  where
+    later : (a b c d : Bool) → (a && (b && c && d)) ≡ (b && (c && (a && d)))
+    later true b c d = and-assoc b c d
+    later false b c d = sym (ap (λ x. b && x) (and-false c) ∙ and-false b)
+
+says-yes : (b : Bool) → Accepted (yesNo b ∷ []) ≡ Accepted (1 ∷ []) → b ≡ true
+says-yes true e = refl
+says-yes false e = let z : _≡_ {A = ℕ} 0 1 = cc in absurd (omega arith)
+
+pub matches-provisions : (r : Registry) (id : ℕ) (l : List ℕ) (p : Plugin) → lookup r id ≡ some p
+    → answerOf (matching r id l) ≡ Accepted (1 ∷ []) ↔ l ≡ flat (provided p)
+unfolding matching found
+matches-provisions r id l p e = rw (e, matching-numbers l (provided p))
+    (λ a. same-true l (flat (provided p)) (says-yes _ a), λ i. rw (same-of l (flat (provided p)) i))
+
+-- R has_port, S declares: the test is membership.
+pub is-in-exactly : (k : Port) (l : List Port) → isIn k l ≡ true ↔ In k l
+is-in-exactly k l = (is-in k l, into l)
+  where
+    into : (l : List Port) → In k l → isIn k l ≡ true
+    into (x ∷ l) (inl i) = rw (ap (samePort k) i ∙ same-self k)
+    into (x ∷ l) (inr m) = rw (into l m, or-true)
+
+-- S declares_service: yes exactly if the port is a provision, or the plugin runs and it is a dependency.
+pub declares-service : (r : Registry) (id : ℕ) (q : Port) (p : Plugin) → lookup r id ≡ some p
+    → answerOf (declares r id q) ≡ Accepted (1 ∷ []) ↔ (In q (provided p) ⊎ ((running p ≡ true) × In q (p .dependencies)))
+unfolding declares found
+declares-service r id q p e = rw e (
+  λ a. let t = says-yes (isIn q (provided p) || (running p && isIn q (p .dependencies))) a in by-test (isIn q (provided p))
+      (λ y. inl (is-in q (provided p) y))
+      (λ n. let c = both (running p) (isIn q (p .dependencies)) (rw n at t) in inr (c .0, is-in q (p .dependencies) (c .1))),
+  ⊎-elim (λ m. rw (is-in-exactly q (provided p) .1 m)) (λ c. rw (c .0, is-in-exactly q (p .dependencies) .1 (c .1), or-true)),
+)
+
+-- On a built registry a registered plugin that provides a port is its provider.
+provider-is : (r : Registry) → Built r → (q : Port) (p : Plugin) → In p (plugins r) → provides p q ≡ true → provider r q ≡ some p
+unfolding provider
+provider-is r b q p m g = go (provider r q) refl
+  where
+    go : (u : Option Plugin) → provider r q ≡ u → u ≡ some p
+    go none e = absurd (true≢false (sym g ∙ first-none (λ p. provides p q) (plugins r) p e m))
+    go (some a) e =
+        let w = first-in (λ p. provides p q) (plugins r) a e in
+        let i = b .wired .distinct a (w .0) in
+        let j = b .wired .distinct p m in
+        let k = b .wired .sole (a .id) (p .id) a p q i j (w .1) g in
+        cc
+
+-- S visible: the value of a registered Active plugin that provides the port, exactly if there is one.
+pub record Sees (r : Registry) (q : Port) (n : ℕ) : Type 0 where
+  pub plugin : Plugin
+  pub registered : In plugin (plugins r)
+  pub gives : provides plugin q ≡ true
+  pub active : plugin .phase ≡ Active
+  pub value : valueIn q (plugin .provisions) ≡ some n
+
+pub visible-exactly : (r : Registry) → Built r → (q : Port) (n : ℕ) → answerOf (visible r q) ≡ Accepted (n ∷ []) ↔ Sees r q n
+unfolding visible provider
+visible-exactly r b q n = (go (provider r q) refl, λ w. rw (provider-is r b q (w .plugin) (w .registered) (w .gives)) (rw (w .active, w .value)))
+  where
+    one-value : (u : Option ℕ) → Accepted (one u) ≡ Accepted (n ∷ []) → u ≡ some n
+    one-value none e = cc
+    one-value (some x) e = cc
+
+    go : (u : Option Plugin) → provider r q ≡ u → Accepted (seen q u) ≡ Accepted (n ∷ []) → Sees r q n
+    go none e a = let z : _≡_ {A = ℕ} 0 1 = cc in absurd (omega arith)
+    go (some p) e a =
+        let w = first-in (λ p. provides p q) (plugins r) p e in
+        by-test (isActive (p .phase))
+        (λ y. record { plugin = p; registered = w .0; gives = w .1; active = is-active (p .phase) y; value = one-value (valueIn q (p .provisions)) (rw y at a) })
+        (λ m. let h : Accepted [] ≡ Accepted (n ∷ []) = rw m at a in let z : _≡_ {A = ℕ} 0 1 = cc in absurd (omega arith))
+
+-- S read: what an accepted read tells.
+pub record Reads (r : Registry) (id : ℕ) (q : Port) (u : Outcome) : Type 0 where
+  pub reader : Plugin
+  pub found : lookup r id ≡ some reader
+  pub runs : running reader ≡ true
+  pub depends : In q (reader .dependencies)
+  pub source : Plugin
+  pub provides : provider r q ≡ some source
+  pub value : ℕ
+  pub has : valueIn q (source .provisions) ≡ some value
+  pub answer : answerOf u ≡ Accepted (value ∷ source .id ∷ [])
+  -- refusal 15 keeps the provider Active
+  pub active : Built r → source .phase ≡ Active
+
+module _ (r : Registry) (id : ℕ) (q : Port) where
+  valued : (u : Option Plugin) → not (isEmpty (served q u)) ≡ holds (λ p. isSome (valueIn q (p .provisions))) u
+  valued none = refl
+  valued (some p) = go (valueIn q (p .provisions))
+    where
+      go : (u : Option ℕ) → not (isEmpty (given p u)) ≡ isSome u
+      go none = refl
+      go (some n) = refl
+
+  -- .. accepted exactly if it runs, depends on the port, and the provider has a value for it;
+  pub read-exactly : accepted (read r id q)
+      ≡ holds (λ p. running p && (isIn q (p .dependencies) && holds (λ b. isSome (valueIn q (b .provisions))) (provider r q))) (lookup r id)
+  unfolding read
+  read-exactly = simp (exact, valued)
+
+  -- .. 22 if only the value is missing;
+  pub read-missing : (p : Plugin) → lookup r id ≡ some p → running p ≡ true → isIn q (p .dependencies) ≡ true
+      → holds (λ b. isSome (valueIn q (b .provisions))) (provider r q) ≡ false → answerOf (read r id q) ≡ Refused 22 []
+  unfolding read found checked
+  read-missing p e y m n = let i = not-false (isEmpty (served q (provider r q))) (valued (provider r q) ∙ n) in rw e (rw (y, m, i))
+
+  -- .. and then it answers the value and the provider's id.
+  pub read-tells : When (Reads r id q) (read r id q)
+  unfolding read
+  read-tells = when-known r (Reads r id q) _ _ λ p e. when-passed (Reads r id q) _ _ λ c _.
+      let y = not-false (running p) (c .0) in
+      let m = is-in q (p .dependencies) (not-false _ (c .1 .0)) in
+      let (s, f, h) = held-by _ (provider r q) (sym (valued (provider r q)) ∙ ap not (c .1 .1 .0)) in
+      let (n, i) = some-value (valueIn q (s .provisions)) h in
+      record {
+        reader = p;
+        found = e;
+        runs = y;
+        depends = m;
+        source = s;
+        provides = f;
+        value = n;
+        has = i;
+        answer = ap (λ u. Accepted (served q u)) f ∙ ap (λ u. Accepted (given s u)) i;
+        active = λ b.
+            let v = b .wired .served q (record { id = id; plugin = p; registered = e; runs = y; depends = m }) in
+            let g = provider-is r b q (v .plugin) (lookup-in r (v .id) (v .plugin) (v .registered)) (v .gives) in
+            let j : s ≡ v .plugin = cc in
+            ap (λ (x : Plugin). x .phase) j ∙ v .active;
+      }
+    where
+      some-value : (u : Option ℕ) → isSome u ≡ true → (n : ℕ) × (u ≡ some n)
+      some-value none h = absurd (true≢false (sym h))
+      some-value (some n) h = (n, refl)
