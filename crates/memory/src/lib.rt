@@ -122,7 +122,11 @@ pub fn parent_of(m: &[u64; WORDS], place: usize) -> Parent
     ensures { λ r. ⌜ parentId r ≡ parentAt (now (m .entry)) (place % 32) ⌝ }
 {
     let b = place % 32 * 72;
-    if m[b + 9] == 0 { Parent::Nobody } else { Parent::Of(m[b + 10]) }
+    if m[b + 9] == 0 {
+        Parent::Nobody
+    } else {
+        Parent::Of(m[b + 10])
+    }
 }
 
 // Whether the plugin of this place has the id as parent.
@@ -130,7 +134,11 @@ pub fn is_child_of(m: &[u64; WORDS], place: usize, id: u64) -> bool
     ensures { λ r. ⌜ r ≡ holds (eqb id) (parentAt (now (m .entry)) (place % 32)) ⌝ }
 {
     let b = place % 32 * 72;
-    if m[b + 9] == 0 { false } else { id == m[b + 10] }
+    if m[b + 9] == 0 {
+        false
+    } else {
+        id == m[b + 10]
+    }
 }
 
 // A count, read up to its limit.
