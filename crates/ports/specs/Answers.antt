@@ -1,5 +1,6 @@
 -- What the answers of this crate's functions say, in document 01's numbers and values.
 use Prim.Native.Nat.{ℕ, _+_}
+use mathlib.Core.Path.{_≡_, ap}
 use mathlib.Core.List.{List, [], _∷_}
 use lib.Dec.{eqb}
 use Rattle.rules.specs.Basics.{pick}
@@ -19,3 +20,13 @@ resolvedAnswer (resolved.Refused n) = Refused n []
 unfoldable pub firstFrom : ℕ → ℕ → List Port → Found
 firstFrom i k [] = Nothing
 firstFrom i k (p ∷ ps) = pick (eqb (p .key) k) (At i) (firstFrom (i + 1) k ps)
+
+-- Any two outcomes that the promise of a resolved key allows are equal.
+pub resolved-exact : (a b : Resolved) → resolvedAnswer a ≡ resolvedAnswer b → a ≡ b
+resolved-exact (resolved.To p) (resolved.To q) e =
+    let k : p .key ≡ q .key = cc in
+    let r : p .realm ≡ q .realm = cc in
+    ap resolved.To (λ i. record { key = k i; realm = r i })
+resolved-exact (resolved.To p) (resolved.Refused n) e = cc
+resolved-exact (resolved.Refused n) (resolved.To q) e = cc
+resolved-exact (resolved.Refused n) (resolved.Refused k) e = let j : n ≡ k = cc in ap resolved.Refused j
