@@ -3,12 +3,26 @@ use inherit::Claimed;
 use inherit::Dependencies;
 use rules::Port;
 
+fn number(n: u64) {
+    io::write_all(1, b" ");
+    io::print_decimal(1, n);
+}
+
+fn end() {
+    io::write_all(1, b"\n");
+}
+
+fn port(q: Port) {
+    number(q.key);
+    number(q.realm);
+}
+
 // The first numbers of a list.
 fn numbers(words: &[u64; 96], count: usize) {
     let mut i: usize = 0;
     while i < 96 {
         if i < count {
-            trial::number(words[i]);
+            number(words[i]);
         }
         i += 1;
     }
@@ -17,12 +31,12 @@ fn numbers(words: &[u64; 96], count: usize) {
 // A list's count, and its numbers where it fits.
 fn dependencies(d: Dependencies) {
     let count = d.count;
-    trial::number(count as u64);
+    number(count as u64);
     if count < 49 {
         let ports = d.ports;
         numbers(&ports, count * 2);
     }
-    trial::end()
+    end()
 }
 
 // How many ports are claimed with this anchor.
@@ -36,20 +50,20 @@ fn claims(fives: &[u64], keys: &[u64]) {
         b"claims: the anchor alone, 15 provisions, 16 keys given:",
     );
     let alone = claimed(&[], &[]);
-    trial::number(alone.count as u64);
-    trial::port(Port::new(alone.ports[0], alone.ports[1]));
+    number(alone.count as u64);
+    port(Port::new(alone.ports[0], alone.ports[1]));
     let most = claimed(
         memory::some_words(fives, 0, 32),
         memory::some_words(keys, 0, 15),
     );
-    trial::number(most.count as u64);
-    trial::port(Port::new(most.ports[30], most.ports[31]));
+    number(most.count as u64);
+    port(Port::new(most.ports[30], most.ports[31]));
     let more = claimed(
         memory::some_words(fives, 0, 32),
         memory::some_words(keys, 0, 16),
     );
-    trial::number(more.count as u64);
-    trial::end()
+    number(more.count as u64);
+    end()
 }
 
 fn lists() {
@@ -73,20 +87,20 @@ fn under(realms: &[u64], keys: &[u64], parent: &[u64; 96], count: usize) -> Depe
 fn long_lists(fives: &[u64], sixes: &[u64], keys: &[u64]) {
     io::write_all(1, b"16 keys, 17 keys given:");
     let sixteen = inherit::dependency_list(&[], 0, &[], memory::some_words(keys, 0, 16), &[]);
-    trial::number(sixteen.count as u64);
+    number(sixteen.count as u64);
     let seventeen = inherit::dependency_list(&[], 0, &[], keys, &[]);
-    trial::number(seventeen.count as u64);
-    trial::end();
+    number(seventeen.count as u64);
+    end();
     let first = sixteen.ports;
     let doubled = under(memory::some_words(fives, 0, 32), &[], &first, 32);
     io::write_all(1, b"32, 48 and 49 dependencies:");
-    trial::number(doubled.count as u64);
+    number(doubled.count as u64);
     let second = doubled.ports;
     let most = under(sixes, &[], &second, 64);
-    trial::number(most.count as u64);
+    number(most.count as u64);
     let more = under(sixes, &[40], &second, 64);
-    trial::number(more.count as u64);
-    trial::end()
+    number(more.count as u64);
+    end()
 }
 
 fn main() {

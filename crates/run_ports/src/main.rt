@@ -1,28 +1,39 @@
 // Document 01's boundaries of realm lists and ports, run on data. Each line begins with what it tries; the numbers are the answers.
 use ports::Found;
 use ports::Resolved;
+use rules::Port;
+
+fn number(n: u64) {
+    io::write_all(1, b" ");
+    io::print_decimal(1, n);
+}
+
+fn end() {
+    io::write_all(1, b"\n");
+}
+
+fn port(q: Port) {
+    number(q.key);
+    number(q.realm);
+}
 
 fn yes_no(b: bool) {
-    if b {
-        trial::number(1)
-    } else {
-        trial::number(0)
-    }
+    if b { number(1) } else { number(0) }
 }
 
 fn resolved(r: Resolved) {
     match r {
-        Resolved::To(q) => trial::port(q),
+        Resolved::To(q) => port(q),
         Resolved::Refused(n) => {
             io::write_all(1, b" no");
-            trial::number(n)
+            number(n)
         }
     }
 }
 
 fn found(f: Found) {
     match f {
-        Found::At(i) => trial::number(i as u64),
+        Found::At(i) => number(i as u64),
         Found::Nothing => {
             io::write_all(1, b" none");
         }
@@ -40,7 +51,7 @@ fn realms(fives: &[u64]) {
     yes_no(ports::bad_realms(memory::some_words(fives, 0, 31)));
     yes_no(ports::bad_realms(&[2, 5, 2, 1]));
     yes_no(ports::bad_realms(&[9, 1, 2, 5]));
-    trial::end()
+    end()
 }
 
 fn resolves() {
@@ -49,7 +60,7 @@ fn resolves() {
     resolved(ports::resolve_key(&[2, 5, 9, 1], 3));
     resolved(ports::resolve_key(&[], 18446744073709551615));
     resolved(ports::resolve_key(&[2, 5, 9], 2));
-    trial::end()
+    end()
 }
 
 fn lookups(fives: &[u64]) {
@@ -62,7 +73,7 @@ fn lookups(fives: &[u64]) {
     found(ports::first_port(fives, 18));
     found(ports::first_port(&[1, 0, 2], 2));
     found(ports::first_port(&[], 2));
-    trial::end()
+    end()
 }
 
 fn comparisons() {
@@ -75,7 +86,7 @@ fn comparisons() {
     yes_no(ports::same_ports(&[1, 5], &[1, 5, 2, 6]));
     yes_no(ports::same_ports(&[1, 5, 2, 6, 7], &[1, 5, 2, 6]));
     yes_no(ports::same_ports(&[], &[]));
-    trial::end()
+    end()
 }
 
 fn repetitions(keys: &[u64]) {
@@ -87,7 +98,7 @@ fn repetitions(keys: &[u64]) {
     yes_no(inherit::repeated_key(&[7, 8, 7]));
     yes_no(ports::repeated(&[7, 1, 8, 1, 7, 1]));
     yes_no(ports::repeated(&[7, 1, 8, 1, 7, 2]));
-    trial::end()
+    end()
 }
 
 fn main() {

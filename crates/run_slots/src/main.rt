@@ -6,12 +6,21 @@ use slot::Identity;
 use slot::Slot;
 use slot::Verdict;
 
+fn number(n: u64) {
+    io::write_all(1, b" ");
+    io::print_decimal(1, n);
+}
+
+fn end() {
+    io::write_all(1, b"\n");
+}
+
 fn listed(l: Listed) {
     match l {
-        Listed::Count(n) => trial::number(n as u64),
+        Listed::Count(n) => number(n as u64),
         Listed::Refused(n) => {
             io::write_all(1, b" no");
-            trial::number(n)
+            number(n)
         }
     }
 }
@@ -24,7 +33,7 @@ fn verdict(d: Decided) {
         }
         Verdict::Refused(n) => {
             io::write_all(1, b" no");
-            trial::number(n)
+            number(n)
         }
     }
     decision(d.slot)
@@ -38,9 +47,9 @@ fn decision(s: Slot) {
         }
         Decision::Assigned(c) => {
             io::write_all(1, b" assigned");
-            trial::number(c.domain);
-            trial::number(c.parent);
-            trial::number(c.id)
+            number(c.domain);
+            number(c.parent);
+            number(c.id)
         }
         Decision::Failed => {
             io::write_all(1, b" failed");
@@ -52,12 +61,12 @@ fn decision(s: Slot) {
 }
 
 fn six(words: &[u64; 6]) {
-    trial::number(words[0]);
-    trial::number(words[1]);
-    trial::number(words[2]);
-    trial::number(words[3]);
-    trial::number(words[4]);
-    trial::number(words[5]);
+    number(words[0]);
+    number(words[1]);
+    number(words[2]);
+    number(words[3]);
+    number(words[4]);
+    number(words[5]);
 }
 
 fn buffers() {
@@ -73,7 +82,7 @@ fn buffers() {
     listed(listing::list_ports(&[3, 4, 5, 6], &mut buffer, 2));
     io::write_all(1, b" buffer");
     six(&buffer);
-    trial::end()
+    end()
 }
 
 fn slots() {
@@ -97,7 +106,7 @@ fn slots() {
     verdict(s.cancel());
     verdict(Slot::assigned(child).reject());
     verdict(pending.cancel());
-    trial::end()
+    end()
 }
 
 fn main() {

@@ -1,5 +1,4 @@
-// What the run programs share: boundary lists, and how answers are printed.
-use rules::Port;
+// The boundary lists that the run programs share.
 
 pub const KEYS: [u64; 17] = [1, 2, 3, 4, 5, 6, 7, 8, 9, 10, 11, 12, 13, 14, 15, 16, 17];
 
@@ -75,17 +74,3 @@ pub const SIXES: [u64; 32] = [
     16,
     6,
 ];
-
-pub fn number(n: u64) {
-    io::write_all(1, b" ");
-    io::print_decimal(1, n);
-}
-
-pub fn end() {
-    io::write_all(1, b"\n");
-}
-
-pub fn port(q: Port) {
-    number(q.key);
-    number(q.realm);
-}

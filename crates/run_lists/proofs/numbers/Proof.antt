@@ -5,7 +5,7 @@ use Rattle.run_lists.proofs.numbers.Statement.{statement}
 use Rattle.run_lists.proofs.numbers.Tie as tie
 use Rattle.run_lists.proofs.numbers.Reads as reads
 use Rattle.run_lists.proofs.numbers.Lts as lts
-use Rattle.trial.proofs.number.Reads as number-reads
+use Rattle.run_lists.proofs.number.Reads as number-reads
 
 abbrev Inv-loop : tie.InvT-loop
 Inv-loop words count i₀ i = i ≤ 96
