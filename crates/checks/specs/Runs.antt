@@ -10,7 +10,7 @@ use Rattle.rules.specs.Holds.{Registry, rowsOf}
 use Rattle.rules.specs.Refusals.{Refusal, number, Unknown, Retired, InvalidState, BadRealms, TooManyKeys, DuplicateDependency, DuplicateProvision, Taken, NoId, Full, TooLong, NoRows, Stale, Unavailable, InUse, Exhausted, NotRun, HasChildren, Closed, Undeclared, Duplicate, Missing, ShortBuffer}
 use Rattle.rules.specs.Outcomes.{Outcome, refuses, adds, Check, checked}
 use Rattle.rules.specs.Registration.{Definition, resolved, claimed, unoffered, dependenciesOf, newPlugin, registrationChecks, register}
-use Rattle.rules.specs.Laws.Tests.{by-test}
+use Rattle.rules.specs.Laws.Tests.{by-test, Passed}
 use Rattle.checks.specs.Verdicts.{earlyChecks, claimChecks, lateChecks, verdict}
 
 -- no refusal has number 0
@@ -53,6 +53,14 @@ verdict-then [] ds e = refl
 verdict-then (c ∷ cs) ds e =
     let ih = verdict-then cs ds in
     by-test (c .test) (λ t. absurd (number-not-zero (c .refusal) (sym (rw t at e)))) (λ f. rw f (ih (rw f at e)))
+
+-- a verdict of 0 says that every test failed
+pub passes : (cs : List Check) → 0 ≡ verdict cs → Passed cs
+unfolding verdict
+passes [] e = tt
+passes (c ∷ cs) e =
+    let ih = passes cs in
+    by-test (c .test) (λ t. absurd (number-not-zero (c .refusal) (sym (rw t at e)))) (λ f. (f, ih (rw f at e)))
 
 -- An outcome that refuses with this number.
 pub record RefusesWith (o : Outcome) (n : ℕ) : Type 0 where

@@ -31,10 +31,12 @@ pub record Lists (size count : ℕ) (array : List ℕ) (ps : List Port) : Type 0
   pub numbers : array ≡ filled size (flat ps)
 
 module _ {size count : ℕ} {array : List ℕ} {ps : List Port} (r : Lists size count array ps) where
+  pub listed-words : take (count * 2) array ≡ flat ps
+  listed-words =
+      ap (λ (l : List ℕ). take (count * 2) l) (r .numbers) ∙ filled-front size (count * 2) (flat ps) (omega (arith, r .counted, length-flat ps))
+
   pub listed : pairs (take (count * 2) array) ≡ ps
-  listed =
-      ap (λ (l : List ℕ). pairs (take (count * 2) l)) (r .numbers)
-      ∙ ap pairs (filled-front size (count * 2) (flat ps) (omega (arith, r .counted, length-flat ps))) ∙ pairs-flat ps
+  listed = ap pairs listed-words ∙ pairs-flat ps
 
   pub lists-size : count * 2 ≤ size → length array ≡ size
   lists-size h = ap length (r .numbers) ∙ filled-length size (flat ps) (omega (arith, r .counted, length-flat ps))

@@ -1,0 +1,98 @@
+-- What a registration answers, and the words it leaves.
+use Prim.Native.Nat.{ℕ, _+_, _-_, _/_, _%_}
+use mathlib.Core.List.{List, [], _∷_}
+use mathlib.Core.Option.{Option, none, some}
+use lib.Dec.{eqb}
+use lib.ListN.{length}
+use Rattle.rules.specs.Basics.{pick, orElse, isSome, yesNo}
+use Rattle.rules.specs.Holds.{Plugin, provided, rowsInUse}
+use Rattle.rules.specs.declared.Port.{Port}
+use Rattle.rules.specs.Ports.{flat}
+use Rattle.rules.specs.Outcomes.{Answer, Refused, Accepted, Outcome, refuses, answers, writes, stores, adds, removes}
+use Rattle.rules.specs.Registration.{Definition}
+use Rattle.memory.specs.Layout.{word, depPart}
+use Rattle.memory.specs.View.{view}
+use Rattle.memory.specs.Writes.{parentId, findAt}
+use Rattle.memory.specs.declared.Parent.{Parent}
+use Rattle.memory.specs.declared.Parent.the-variants.{Of, Nobody}
+use Rattle.memory.specs.declared.Place.{Place}
+use Rattle.memory.specs.declared.Place.the-variants.{At, Nowhere}
+use Rattle.places.specs.Changes.{freeAt}
+use Rattle.blocks.specs.Moves.{filledPlace}
+use Rattle.blocks.specs.declared.Entry.{Entry}
+use Rattle.checks.specs.Verdicts.{lateChecks, verdict}
+use Rattle.registering.specs.declared.Registered.{Registered}
+use Rattle.registering.specs.declared.Registered.the-variants as registered
+
+abbrev pub registeredAnswer : Registered → Answer
+registeredAnswer (registered.Id n) = Accepted (n ∷ [])
+registeredAnswer (registered.Refused n) = Refused n []
+
+-- the rules' definition of what is lent
+abbrev pub definition : Parent → Port → List ℕ → List ℕ → List ℕ → ℕ → Definition
+definition parent anchor realms dependencies provisions payload = record {
+  parent = parentId parent;
+  anchor = anchor;
+  realms = realms;
+  dependencies = dependencies;
+  provisions = provisions;
+  payload = payload;
+}
+
+-- the dependency rows of the plugin at a place
+abbrev pub dependenciesAt : List ℕ → Place → List ℕ
+dependenciesAt m (At i) = depPart m (i % 32)
+dependenciesAt m Nowhere = []
+
+abbrev pub inheritedWords : List ℕ → Parent → List ℕ
+inheritedWords m (Of id) = dependenciesAt m (findAt m id)
+inheritedWords m Nobody = []
+
+-- a parent or none, in two words
+abbrev pub tagOf : Option ℕ → ℕ
+tagOf parent = yesNo (isSome parent)
+
+abbrev pub wordOf : Option ℕ → ℕ
+wordOf parent = orElse parent 0
+
+-- The words of a new plugin beside its lists: next id is its id, and its rows stand behind all others.
+abbrev pub newEntry : List ℕ → Option ℕ → ℕ → ℕ → ℕ → ℕ → Entry
+newEntry m parent payload dependencies provisions realms = record {
+  id = word m 2;
+  tag = tagOf parent;
+  parent = wordOf parent;
+  payload = payload;
+  start = rowsInUse (view m);
+  dependencies = dependencies;
+  provisions = provisions;
+  realms = realms;
+  next = word m 2 + 1;
+}
+
+-- Written to a place; no place leaves the words.
+abbrev pub writtenAt : List ℕ → Place → Entry → List ℕ → List ℕ → List ℕ → List ℕ
+writtenAt m (At p) e dependencies claims realms = filledPlace m p e dependencies claims realms
+writtenAt m Nowhere e dependencies claims realms = m
+
+-- The words after a registration: the new plugin stands at the lowest free place. Any other outcome leaves them.
+unfoldable pub addedTo : List ℕ → Outcome → List ℕ
+addedTo m (refuses x vs) = m
+addedTo m (answers vs) = m
+addedTo m (writes place l vs) = m
+addedTo m (stores q vs) = m
+addedTo m (adds q vs) =
+    writtenAt m (freeAt m) (newEntry m (q .parent) (q .payload) (length (q .dependencies)) (length (q .provisions)) (length (q .realms .rows)))
+    (flat (q .dependencies)) (flat (q .anchor ∷ provided q)) (flat (q .realms .rows))
+addedTo m (removes id vs) = m
+
+-- The late checks and what is written where they pass, by a count of dependencies and the lent lists.
+abbrev pub lateVerdict : List ℕ → ℕ → List ℕ → ℕ
+lateVerdict m count claims = verdict (lateChecks (view m) count (length claims / 2))
+
+unfoldable pub settledAnswer : List ℕ → ℕ → List ℕ → Answer
+settledAnswer m count claims = pick (eqb (lateVerdict m count claims) 0) (Accepted (word m 2 ∷ [])) (Refused (lateVerdict m count claims) [])
+
+unfoldable pub settledWords : List ℕ → Option ℕ → ℕ → ℕ → List ℕ → List ℕ → List ℕ → List ℕ
+settledWords m parent payload count dependencies claims realms = pick (eqb (lateVerdict m count claims) 0)
+    (writtenAt m (freeAt m) (newEntry m parent payload count (length claims / 2 - 1) (length realms / 2)) dependencies claims realms)
+    m

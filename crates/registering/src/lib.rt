@@ -1,0 +1,173 @@
+// Document 01, "Registration", over the registry's memory: nothing is written before the last check has passed.
+ghost use mathlib.Core.Path.{_≡_};
+ghost use mathlib.Core.Logic.{_≢_};
+ghost use Prim.Native.Nat.{_*_, _-_};
+ghost use lib.ListN.{take};
+ghost use Rattle.rules.specs.Outcomes.{answerOf};
+ghost use Rattle.rules.specs.Registration.{register};
+ghost use Rattle.memory.specs.Layout.{word};
+ghost use Rattle.memory.specs.View.{view};
+ghost use Rattle.memory.specs.Writes.{parentId};
+ghost use Rattle.registering.specs.Written.{registeredAnswer, definition, inheritedWords, tagOf, wordOf, newEntry, settledAnswer, settledWords, addedTo};
+use blocks::Entry;
+use memory::Parent;
+use memory::Place;
+use memory::WORDS;
+use rules::Port;
+use rules::refusal;
+
+// The new id, or a refusal.
+pub enum Registered {
+    Id(u64),
+    Refused(u64),
+}
+
+// The parent's dependency rows; none without a parent.
+fn inherited(m: &[u64; WORDS], parent: Parent) -> &[u64]
+    ensures { λ r. ⌜ now r ≡ inheritedWords (now (m .entry)) parent ⌝ }
+{
+    let Parent::Of(id) = parent else {
+        return memory::some_words(m, 0, 0);
+    };
+    let Place::At(at) = memory::find(m, id) else {
+        return memory::some_words(m, 0, 0);
+    };
+    let row = memory::start(m, at) * 2 + 2312;
+    memory::some_words(m, row, memory::dependencies(m, at) * 2)
+}
+
+// The first rows of a list of ports, as many as there are.
+fn first_rows(ports: &[u64], count: usize) -> &[u64]
+    ensures { λ r. ⌜ now r ≡ take (count * 2) (now (ports .entry)) ⌝ }
+{
+    let n = ports.len();
+    if n / 2 < count {
+        return memory::some_words(ports, 0, n);
+    }
+    memory::some_words(ports, 0, count * 2)
+}
+
+// The provisions among the claims, which the anchor leads.
+fn behind_anchor(claims: usize) -> usize
+    ensures { λ r. ⌜ r ≡ claims - 1 ⌝ }
+{
+    if claims == 0 { 0 } else { claims - 1 }
+}
+
+// A plugin without a parent has tag 0.
+fn parent_tag(parent: Parent) -> u64
+    ensures { λ r. ⌜ r ≡ tagOf (parentId parent) ⌝ }
+{
+    match parent {
+        Parent::Of(_) => 1,
+        Parent::Nobody => 0,
+    }
+}
+
+fn parent_word(parent: Parent) -> u64
+    ensures { λ r. ⌜ r ≡ wordOf (parentId parent) ⌝ }
+{
+    match parent {
+        Parent::Of(id) => id,
+        Parent::Nobody => 0,
+    }
+}
+
+// What is written of the new plugin beside its lists.
+fn entry(
+    m: &[u64; WORDS],
+    parent: Parent,
+    payload: u64,
+    dependencies: usize,
+    provisions: usize,
+    realms: usize,
+) -> Entry
+    requires { ⌜ word (now m) 2 ≢ 18446744073709551615 ⌝ }
+    ensures { λ r. ⌜ r ≡ newEntry (now (m .entry)) (parentId parent) payload dependencies provisions realms ⌝ }
+{
+    let id = memory::next_id(m);
+    Entry {
+        id: id,
+        tag: parent_tag(parent),
+        parent: parent_word(parent),
+        payload: payload,
+        start: places::rows_in_use(m) as u64,
+        dependencies: dependencies as u64,
+        provisions: provisions as u64,
+        realms: realms as u64,
+        next: id + 1,
+    }
+}
+
+// 9, 10, 11, 12; then the plugin goes to the lowest free place.
+fn settle(
+    m: &mut [u64; WORDS],
+    parent: Parent,
+    payload: u64,
+    count: usize,
+    dependencies: &[u64],
+    claims: &[u64],
+    realms: &[u64],
+) -> Registered
+    ensures { λ r. ⌜ registeredAnswer r ≡ settledAnswer (now (m .entry)) count (now (claims .entry)) ⌝ ∗ ⌜ now (m .exit) ≡ settledWords (now (m .entry)) (parentId parent) payload count (now (dependencies .entry)) (now (claims .entry)) (now (realms .entry)) ⌝ }
+{
+    let claimed = claims.len() / 2;
+    let refused = checks::late_verdict(m, count, claimed);
+    if refused != 0 {
+        return Registered::Refused(refused);
+    }
+    let Place::At(at) = places::lowest_free(m) else {
+        return Registered::Refused(refusal::FULL);
+    };
+    let e = entry(
+        m,
+        parent,
+        payload,
+        count,
+        behind_anchor(claimed),
+        realms.len() / 2,
+    );
+    blocks::fill_place(m, at, e, dependencies, claims, realms);
+    Registered::Id(e.id)
+}
+
+// 4, 5, the parent's 1, 2, 3, then 6; 7, 8; 9, 10, 11, 12. It answers the new id.
+pub fn register(
+    m: &mut [u64; WORDS],
+    parent: Parent,
+    anchor: Port,
+    realms: &[u64],
+    dependencies: &[u64],
+    provisions: &[u64],
+    payload: u64,
+) -> Registered
+    ensures { λ r. ⌜ registeredAnswer r ≡ answerOf (register (view (now (m .entry))) (definition parent anchor (now (realms .entry)) (now (dependencies .entry)) (now (provisions .entry)) payload)) ⌝ ∗ ⌜ now (m .exit) ≡ addedTo (now (m .entry)) (register (view (now (m .entry))) (definition parent anchor (now (realms .entry)) (now (dependencies .entry)) (now (provisions .entry)) payload)) ⌝ }
+{
+    let early = checks::early_verdict(m, parent, realms, dependencies, provisions);
+    if early != 0 {
+        return Registered::Refused(early);
+    }
+    let claimed = inherit::claims(realms, Port::DEFAULT_REALM, anchor, provisions);
+    let claims = first_rows(&claimed.ports, claimed.count);
+    let taken = checks::claim_verdict(m, claims);
+    if taken != 0 {
+        return Registered::Refused(taken);
+    }
+    let provided = memory::some_words(claims, 2, claims.len());
+    let list = inherit::dependency_list(
+        realms,
+        Port::DEFAULT_REALM,
+        provided,
+        dependencies,
+        inherited(m, parent),
+    );
+    settle(
+        m,
+        parent,
+        payload,
+        list.count,
+        first_rows(&list.ports, list.count),
+        claims,
+        realms,
+    )
+}
