@@ -7,6 +7,7 @@ use mathlib.Core.Bool.{true}
 use mathlib.Core.List.{List}
 use lib.ListN.{length}
 use Rattle.rules.specs.Holds.{rowsInUse}
+use Rattle.rules.specs.Outcomes.{Outcome, after}
 use Rattle.memory.specs.Layout.{word, taken, startAt, depsAt, provsAt}
 use Rattle.memory.specs.View.{view}
 use Rattle.places.specs.Rows.{rowsAt, rowsFrom, rows-view}
@@ -43,3 +44,8 @@ used-is m l = rows-view m l ∙ used-from m 32 0
 -- a block is where its words say
 pub start-is : (m : List ℕ) → Dense m → (i : ℕ) → taken m i ≡ true → startAt m i ≡ startWord m i
 start-is m d i t = omega (arith, d .tiled .below i (taken-below m i t) t, d .room)
+
+-- The words afterwards say what the rule leaves, and are dense.
+pub record Refines (m m′ : List ℕ) (o : Outcome) : Type 0 where
+  pub registry : view m′ ≡ after (view m) o
+  pub dense : Dense m′

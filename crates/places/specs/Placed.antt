@@ -2,21 +2,23 @@
 use Prim.Native.Nat.{ℕ, zero, suc, _+_, _<_, _≤_}
 use native.Mathlib.Omega.{arith}
 use mathlib.Core.Path.{_≡_, refl, _∙_}
-use mathlib.Core.Logic.{_≢_}
+use mathlib.Core.Logic.{_≢_, inl, inr}
 use mathlib.Core.Bool.{true, false}
 use mathlib.Core.List.{List, map, map-id}
 use mathlib.Core.Option.{Option, none, some}
 use lib.Dec.{eqb}
 use borrow.Author.Tests.{eq-eqb, ne-eqb, eqb-true, eqb-false}
-use Rattle.rules.specs.Holds.{Plugin}
+use Rattle.rules.specs.Holds.{Plugin, held, plugins}
 use Rattle.rules.specs.Outcomes.{atLowestFree, freedAt}
 use Rattle.rules.specs.Laws.Tests.{by-test}
+use Rattle.rules.specs.Laws.Members.{In}
 use Rattle.memory.specs.Layout.{taken, idAt}
-use Rattle.memory.specs.View.{pluginAt, placeAt, placesFrom}
+use Rattle.memory.specs.View.{pluginAt, placeAt, placesFrom, view}
 use Rattle.memory.specs.Stores.{Alone}
 use Rattle.memory.specs.declared.Place.the-variants.{At}
 use Rattle.places.specs.Changes.{freeFrom, freeAt}
 use Rattle.places.specs.Free.{free-lowest}
+use Rattle.places.specs.Taken.{taken-below}
 
 -- A change place by place.
 pub places-map : (f : Option Plugin → Option Plugin) (m m′ : List ℕ) (n i : ℕ) → ((j : ℕ) → i ≤ j → j < i + n → placeAt m′ j ≡ f (placeAt m j)) → placesFrom n m′ i ≡ map f (placesFrom n m i)
@@ -29,6 +31,20 @@ places-map f m m′ (suc n) i each =
 
 pub places-same : (m m′ : List ℕ) (n i : ℕ) → ((j : ℕ) → i ≤ j → j < i + n → placeAt m′ j ≡ placeAt m j) → placesFrom n m′ i ≡ placesFrom n m i
 places-same m m′ n i same = places-map (λ x. x) m m′ n i same ∙ map-id (placesFrom n m i)
+
+-- The plugin of a taken place is registered.
+taken-from : (n : ℕ) (m : List ℕ) (i j : ℕ) → i ≤ j → j < i + n → taken m j ≡ true → In (pluginAt m j) (held (placesFrom n m i))
+unfolding placesFrom placeAt
+taken-from zero m i j a b t = absurd (omega arith)
+taken-from (suc n) m i j a b t =
+    let r = taken-from n m (i + 1) j in
+    by-test (eqb i j)
+    (λ y. let e = eqb-true i j y in rw (e, t) (inl refl))
+    (λ d. let e = eqb-false i j d in let w = r (omega arith) (omega arith) t in by-test (taken m i) (λ h. rw h (inr w)) (λ f. rw f w))
+
+pub taken-in : (m : List ℕ) (j : ℕ) → taken m j ≡ true → In (pluginAt m j) (plugins (view m))
+unfolding view
+taken-in m j t = taken-from 32 m 0 j (omega arith) (taken-below m j t) t
 
 -- A plugin goes to the lowest free place.
 pub taken-place : (m : List ℕ) (i : ℕ) → taken m i ≡ true → placeAt m i ≡ some (pluginAt m i)

@@ -9,13 +9,14 @@ use lib.Dec.{eqb, ltb, leb}
 use lib.ListN.{length, take, drop, length-drop, length-map}
 use lib.Seq.{take-all}
 use borrow.Author.Tests.{eq-eqb, eqb-true, eqb-false, ltb-false, lt-ltb, leb-true, leb-false}
-use Rattle.rules.specs.Holds.{Provision, Registry, provided}
+use Rattle.rules.specs.Holds.{Registry, provided}
 use Rattle.rules.specs.declared.Port.{Port}
 use Rattle.rules.specs.Ports.{pairs, flat, badRealms, realmsWith, realmsOf, resolve, resolveIn}
 use Rattle.rules.specs.Dependencies.{dependencyList}
 use Rattle.rules.specs.Outcomes.{Refused, Accepted, adds, answerOf}
 use Rattle.rules.specs.Registration.{Definition, parentOf, inheritedFrom, resolved, claimed, unoffered, dependenciesOf, newPlugin, register}
 use Rattle.rules.specs.Laws.Tests.{by-test, neither}
+use Rattle.rules.specs.Kept.New.{new-ports}
 use Rattle.memory.specs.Layout.{word, part, depPart}
 use Rattle.memory.specs.View.{pluginAt, view}
 use Rattle.memory.specs.Writes.{parentId, findAt}
@@ -42,10 +43,6 @@ unfolding verdict
 late-fitted r l c = by-test (leb (length l) 48)
     (λ t. ap (λ n. verdict (lateChecks r n c)) (fitted-law l (leb-true _ _ t) .counted))
     (λ f. let h = leb-false _ _ f in rw (fitted-long l h, lt-ltb 48 (length l) h))
-
-ports-unoffered : (ps : List Port) → map (λ (v : Provision). v .port) (map unoffered ps) ≡ ps
-ports-unoffered [] = refl
-ports-unoffered (p ∷ ps) = ap (λ l. p ∷ l) (ports-unoffered ps)
 
 module _ (m : List ℕ) (parent : Parent) (anchor : Port) (zs ks vs : List ℕ) (payload : ℕ) where
   abbrev r : Registry
@@ -143,8 +140,8 @@ module _ (m : List ℕ) (parent : Parent) (anchor : Port) (zs ks vs : List ℕ) 
         provision-count : length cw / 2 - 1 ≡ length (map unoffered (resolved d vs))
         provision-count = omega (arith, claim-count, length-map (resolved d vs) unoffered)
 
-        all-claims : cw ≡ flat (anchor ∷ map (λ (v : Provision). v .port) (map unoffered (resolved d vs)))
-        all-claims = claim-words ∙ ap (λ ps. flat (anchor ∷ ps)) (sym (ports-unoffered (resolved d vs)))
+        all-claims : cw ≡ flat (anchor ∷ provided (newPlugin r d))
+        all-claims = claim-words ∙ ap (λ ps. flat (anchor ∷ ps)) (sym (new-ports r d))
 
         realm-words : zs ≡ flat (pairs zs)
         realm-words = sym (flat-pairs-even zs (good-realms zs good .0))

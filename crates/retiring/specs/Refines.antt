@@ -22,7 +22,7 @@ use Rattle.memory.specs.declared.Life.{Life}
 use Rattle.memory.specs.declared.Place.{Place}
 use Rattle.memory.specs.declared.Place.the-variants.{At, Nowhere}
 use Rattle.blocks.specs.Tiles.{sum, share, sum-same}
-use Rattle.blocks.specs.Dense.{startWord, used, Dense}
+use Rattle.blocks.specs.Dense.{startWord, used, Dense, Refines}
 use Rattle.blocks.specs.Freed.{freed-dense, freed-view}
 use Rattle.retiring.specs.Answers.{removedFrom}
 use Rattle.retiring.specs.Marks.{markedLife}
@@ -74,11 +74,6 @@ module _ (m : List ℕ) (i : ℕ) (l : Life) (d : Dense m) where
     };
     room = omega (arith, used-put, d .room);
   }
-
--- the words afterwards say what the rule leaves, and are dense
-pub record Refines (m m′ : List ℕ) (o : Outcome) : Type 0 where
-  pub registry : view m′ ≡ after (view m) o
-  pub dense : Dense m′
 
 module _ (m : List ℕ) (d : Dense m) where
   abbrev Stored : Outcome → Type 0

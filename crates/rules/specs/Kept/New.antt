@@ -45,7 +45,7 @@ parent-found r none e x i = cc
 parent-found r (some y) e x i = let j : y ≡ x = cc in subst (λ x. isSome (lookup r x) ≡ true) j (there (lookup r y) e)
 
 module _ (r : Registry) (d : Definition) where
-  new-ports : provided (newPlugin r d) ≡ resolved d (d .provisions)
+  pub new-ports : provided (newPlugin r d) ≡ resolved d (d .provisions)
   unfolding newPlugin
   new-ports =
       let ports = resolved d (d .provisions) in
