@@ -3,6 +3,4 @@ pub mod Laws
 pub mod Tiles
 pub mod Dense
 pub mod Removal
-pub mod Addition
 pub mod Freed
-pub mod Filled

@@ -29,8 +29,8 @@ use Rattle.memory.specs.declared.Life.{Life}
 use Rattle.memory.specs.declared.Place.{Place}
 use Rattle.memory.specs.declared.Place.the-variants.{At, Nowhere}
 use Rattle.providing.specs.Providers.{providerAt, provider-view}
-use Rattle.inherit.specs.Blocks.{keysRepeat}
-use Rattle.inherit.specs.Answers.{keys-repeat-in}
+use Rattle.claiming.specs.Blocks.{keysRepeat}
+use Rattle.claiming.specs.Answers.{keys-repeat-in}
 use Rattle.checks.specs.Runs.{verdict-first, verdict-then}
 use Rattle.checks.specs.Verdicts.{standingOf, parentChecks, earlyChecks, claimChecks, lateChecks, verdict}
 

@@ -65,7 +65,7 @@ pub fn early_verdict(
     if of_parent != 0 {
         return of_parent;
     }
-    if inherit::repeated_key(dependencies) {
+    if claiming::repeated_key(dependencies) {
         return refusal::DUPLICATE_DEPENDENCY;
     }
     0

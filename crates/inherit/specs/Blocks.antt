@@ -1,29 +1,13 @@
--- Ports of a new plugin, put together in arrays of fixed size: the front holds them, the rest is 0.
-use Prim.Native.Nat.{ℕ, _-_}
-use mathlib.Core.Bool.{Bool, false, _||_}
-use mathlib.Core.List.{List, [], _∷_, _++_, map}
+-- The dependency list of a new plugin in an array of fixed size, and a candidate of the parent's list.
+use Prim.Native.Nat.{ℕ}
+use mathlib.Core.List.{List, []}
 use lib.Dec.{eqb, leb}
-use lib.ListN.{length, take, replicate}
-use Rattle.rules.specs.Basics.{pick, any}
+use lib.ListN.{length}
+use Rattle.rules.specs.Basics.{pick}
 use Rattle.rules.specs.declared.Port.{Port}
 use Rattle.rules.specs.Ports.{resolveIn, flat}
-use Rattle.inherit.specs.declared.Claimed.{Claimed}
+use Rattle.claiming.specs.Blocks.{filled}
 use Rattle.inherit.specs.declared.Dependencies.{Dependencies}
-
--- these numbers, and then zeros up to a size
-abbrev pub filled : ℕ → List ℕ → List ℕ
-filled n l = l ++ replicate (n - length l) 0
-
--- two keys are the same
-unfoldable pub keysRepeat : List ℕ → Bool
-keysRepeat [] = false
-keysRepeat (k ∷ ks) = any (eqb k) ks || keysRepeat ks
-
--- the anchor and the resolved provisions, of at most 15 keys
-abbrev pub claimsOf : ℕ → List Port → Port → List ℕ → Claimed
-claimsOf other rows anchor keys =
-    let ports = anchor ∷ map (resolveIn other rows) (take 15 keys) in
-    record { count = length ports; ports = filled 32 (flat ports) }
 
 -- a list of at most 48 ports with its count; of a longer one only that it is longer
 abbrev pub fitted : List Port → Dependencies

@@ -1,65 +1,17 @@
-// Document 01, "Dependency list", and the ports that a registration claims.
+// Document 01, "Dependency list".
 ghost use mathlib.Core.Path.{_≡_};
 ghost use mathlib.Core.List.{[], map};
 ghost use lib.ListN.{take};
 ghost use Rattle.rules.specs.Ports.{resolveIn, pairs, realmsWith};
 ghost use Rattle.rules.specs.Dependencies.{dependencyList};
-ghost use Rattle.inherit.specs.Blocks.{filled, keysRepeat, claimsOf, fitted, candidateRealm};
-ghost use Rattle.inherit.specs.Filled.{Lists};
-use rules::Port;
-
-// The anchor, then the resolved provisions: 16 ports at most.
-pub struct Claimed {
-    pub count: usize,
-    pub ports: [u64; 32],
-}
+ghost use Rattle.claiming.specs.Blocks.{filled};
+ghost use Rattle.claiming.specs.Filled.{Lists};
+ghost use Rattle.inherit.specs.Blocks.{fitted, candidateRealm};
 
 // A finished dependency list of at most 48 ports. A count of 49 says that it is longer.
 pub struct Dependencies {
     pub count: usize,
     pub ports: [u64; 96],
-}
-
-// Whether a key stands twice among declared keys.
-pub fn repeated_key(keys: &[u64]) -> bool
-    ensures { λ r. ⌜ r ≡ keysRepeat (now (keys .entry)) ⌝ }
-{
-    let mut i: usize = 0;
-    while i < keys.len() {
-        let key = keys[i];
-        let mut j = i + 1;
-        while j < keys.len() {
-            if keys[j] == key {
-                return true;
-            }
-            j += 1;
-        }
-        i += 1;
-    }
-    false
-}
-
-// The anchor and the ports of the first 15 provision keys.
-pub fn claims(realms: &[u64], other: u64, anchor: Port, keys: &[u64]) -> Claimed
-    ensures { λ r. ⌜ r ≡ claimsOf other (pairs (now (realms .entry))) anchor (now (keys .entry)) ⌝ }
-{
-    let mut ports = [0u64; 32];
-    ports[0] = anchor.key;
-    ports[1] = anchor.realm;
-    let mut i: usize = 0;
-    while i < keys.len() {
-        if i == 15 {
-            return Claimed { count: 16, ports };
-        }
-        let q = ports::resolve(realms, other, keys[i]);
-        ports[i * 2 + 2] = q.key;
-        ports[i * 2 + 3] = q.realm;
-        i += 1;
-    }
-    Claimed {
-        count: i + 1,
-        ports,
-    }
 }
 
 // The list of a new plugin: the first 16 declared keys resolved, then for each port of the parent's list itself and its

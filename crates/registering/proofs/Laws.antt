@@ -22,8 +22,8 @@ use Rattle.memory.specs.declared.Parent.the-variants.{Of, Nobody}
 use Rattle.memory.specs.declared.Place.the-variants.{At, Nowhere}
 use Rattle.places.specs.Changes.{freeAt}
 use Rattle.places.specs.Free.{free-at, count-full}
-use Rattle.blocks.specs.Moves.{filledPlace}
-use Rattle.blocks.specs.declared.Entry.{Entry}
+use Rattle.filling.specs.Entries.{filledPlace}
+use Rattle.filling.specs.declared.Entry.{Entry}
 use Rattle.checks.specs.Verdicts.{lateChecks, verdict}
 use Rattle.checks.specs.Runs.{passes}
 use Rattle.registering.specs.Written.{inheritedWords, newEntry, writtenAt, lateVerdict, settledAnswer, settledWords}

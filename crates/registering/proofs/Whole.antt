@@ -27,11 +27,13 @@ use Rattle.memory.specs.declared.Place.{Place}
 use Rattle.memory.specs.declared.Place.the-variants.{At, Nowhere}
 use Rattle.places.specs.Changes.{freeAt}
 use Rattle.ports.specs.Places.{length-pairs, length-flat, pairs-flat, flat-pairs-even, good-realms}
-use Rattle.inherit.specs.declared.Claimed.{Claimed}
+use Rattle.claiming.specs.declared.Claimed.{Claimed}
+use Rattle.claiming.specs.Blocks.{claimsOf}
+use Rattle.claiming.specs.Filled.{listed-words}
+use Rattle.claiming.specs.Answers.{map-resolve, claims-law}
 use Rattle.inherit.specs.declared.Dependencies.{Dependencies}
-use Rattle.inherit.specs.Blocks.{claimsOf, fitted}
-use Rattle.inherit.specs.Filled.{listed-words}
-use Rattle.inherit.specs.Answers.{map-resolve, claims-law, dependency-law, fitted-law, fitted-long, fitted-count}
+use Rattle.inherit.specs.Blocks.{fitted}
+use Rattle.inherit.specs.Answers.{dependency-law, fitted-law, fitted-long, fitted-count}
 use Rattle.checks.specs.Verdicts.{earlyChecks, claimChecks, lateChecks, verdict}
 use Rattle.checks.specs.Runs.{passes, RefusesWith, early, claims, late, early-refuses, claims-refuse, late-refuses, all-pass}
 use Rattle.registering.specs.Written.{registeredAnswer, definition, dependenciesAt, inheritedWords, newEntry, writtenAt, addedTo, lateVerdict, settledAnswer, settledWords}

@@ -25,10 +25,10 @@ use Rattle.places.specs.Changes.{freeAt}
 use Rattle.places.specs.Free.{count-full}
 use Rattle.places.specs.Placed.{taken-in}
 use Rattle.ports.specs.Places.{length-pairs, length-flat, pairs-flat, good-realms}
-use Rattle.blocks.specs.Moves.{filledPlace}
+use Rattle.filling.specs.Entries.{filledPlace}
 use Rattle.blocks.specs.Dense.{used, Dense, used-is, Refines}
-use Rattle.blocks.specs.Addition.{Newcomer, newPluginOf, Sized}
-use Rattle.blocks.specs.Filled.{entryOf, claimWords, filled-dense, filled-view}
+use Rattle.filling.specs.Addition.{Newcomer, newPluginOf, Sized}
+use Rattle.filling.specs.Filled.{entryOf, claimWords, filled-dense, filled-view}
 use Rattle.registering.specs.Written.{tagOf, wordOf, newEntry, writtenAt, addedTo}
 
 -- No registered plugin has the next id.

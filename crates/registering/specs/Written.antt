@@ -18,8 +18,8 @@ use Rattle.memory.specs.declared.Parent.the-variants.{Of, Nobody}
 use Rattle.memory.specs.declared.Place.{Place}
 use Rattle.memory.specs.declared.Place.the-variants.{At, Nowhere}
 use Rattle.places.specs.Changes.{freeAt}
-use Rattle.blocks.specs.Moves.{filledPlace}
-use Rattle.blocks.specs.declared.Entry.{Entry}
+use Rattle.filling.specs.Entries.{filledPlace}
+use Rattle.filling.specs.declared.Entry.{Entry}
 use Rattle.checks.specs.Verdicts.{lateChecks, verdict}
 use Rattle.registering.specs.declared.Registered.{Registered}
 use Rattle.registering.specs.declared.Registered.the-variants as registered

@@ -9,7 +9,7 @@ ghost use Rattle.memory.specs.Layout.{word};
 ghost use Rattle.memory.specs.View.{view};
 ghost use Rattle.memory.specs.Writes.{parentId};
 ghost use Rattle.registering.specs.Written.{registeredAnswer, definition, inheritedWords, tagOf, wordOf, newEntry, settledAnswer, settledWords, addedTo};
-use blocks::Entry;
+use filling::Entry;
 use memory::Parent;
 use memory::Place;
 use memory::WORDS;
@@ -127,7 +127,7 @@ fn settle(
         behind_anchor(claimed),
         realms.len() / 2,
     );
-    blocks::fill_place(m, at, e, dependencies, claims, realms);
+    filling::fill_place(m, at, e, dependencies, claims, realms);
     Registered::Id(e.id)
 }
 
@@ -147,7 +147,7 @@ pub fn register(
     if early != 0 {
         return Registered::Refused(early);
     }
-    let claimed = inherit::claims(realms, Port::DEFAULT_REALM, anchor, provisions);
+    let claimed = claiming::claims(realms, Port::DEFAULT_REALM, anchor, provisions);
     let claims = first_rows(&claimed.ports, claimed.count);
     let taken = checks::claim_verdict(m, claims);
     if taken != 0 {

@@ -1,5 +1,5 @@
 // Document 01's boundaries of claimed ports and of the dependency list, run on data. Each line begins with what it tries; the numbers are the answers.
-use inherit::Claimed;
+use claiming::Claimed;
 use inherit::Dependencies;
 use rules::Port;
 
@@ -41,7 +41,7 @@ fn dependencies(d: Dependencies) {
 
 // How many ports are claimed with this anchor.
 fn claimed(realms: &[u64], keys: &[u64]) -> Claimed {
-    inherit::claims(realms, 0, Port::new(100, 4), keys)
+    claiming::claims(realms, 0, Port::new(100, 4), keys)
 }
 
 fn claims(fives: &[u64], keys: &[u64]) {

@@ -94,8 +94,8 @@ fn repetitions(keys: &[u64]) {
         1,
         b"repeated: 17 keys, a key twice, a port twice, another realm:",
     );
-    yes_no(inherit::repeated_key(keys));
-    yes_no(inherit::repeated_key(&[7, 8, 7]));
+    yes_no(claiming::repeated_key(keys));
+    yes_no(claiming::repeated_key(&[7, 8, 7]));
     yes_no(ports::repeated(&[7, 1, 8, 1, 7, 1]));
     yes_no(ports::repeated(&[7, 1, 8, 1, 7, 2]));
     end()

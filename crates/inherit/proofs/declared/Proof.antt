@@ -7,7 +7,7 @@ use lib.ListN.{length, take}
 use lib.Seq.{take-all}
 use borrow.Author.Needs.{needs}
 use Rattle.rules.specs.Ports.{pairs, resolveIn}
-use Rattle.inherit.specs.Filled.{Lists, lists-key}
+use Rattle.claiming.specs.Filled.{Lists, lists-key}
 use Rattle.inherit.proofs.declared.Statement.{statement}
 use Rattle.inherit.proofs.declared.Tie as tie
 

@@ -12,7 +12,7 @@ use Rattle.rules.specs.Ports.{pairs, resolve, resolveIn, realmsWith}
 use Rattle.rules.specs.Dependencies.{candidates, inherit, dependencyList}
 use Rattle.ports.specs.Places.{in-hit, in-miss}
 use Rattle.inherit.specs.Blocks.{fitted}
-use Rattle.inherit.specs.Filled.{Lists, listed, lists-own, lists-at, lists-end, lists-more}
+use Rattle.claiming.specs.Filled.{Lists, listed, lists-own, lists-at, lists-end, lists-more}
 use Rattle.inherit.specs.Answers.{fitted-lists, fitted-longer}
 use Rattle.inherit.proofs.Turns.{candidate-at, candidates-end, skip-provision, skip-listed, append-new, grows}
 use Rattle.inherit.proofs.dependency_list.Statement.{statement}

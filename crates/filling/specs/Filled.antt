@@ -21,10 +21,10 @@ use Rattle.places.specs.Changes.{freeAt, occupiedAt}
 use Rattle.places.specs.Taken.{taken-below, occupied-length, occupied-word, occupied-here, occupied-others}
 use Rattle.places.specs.Free.{free-at}
 use Rattle.places.specs.Placed.{taken-place, free-place, places-added}
-use Rattle.blocks.specs.Moves.{entryWords, filledPlace}
+use Rattle.filling.specs.Entries.{entryWords, filledPlace}
 use Rattle.blocks.specs.Dense.{startWord, used, Dense}
-use Rattle.blocks.specs.Addition.{Newcomer, newPluginOf, Sized, Adds, added-dense, added-other, added-plugin}
-use Rattle.blocks.specs.declared.Entry.{Entry}
+use Rattle.filling.specs.Addition.{Newcomer, newPluginOf, Sized, Adds, added-dense, added-other, added-plugin}
+use Rattle.filling.specs.declared.Entry.{Entry}
 
 -- a word outside a run of stores
 pub puts-apart : (vs m : List ℕ) (b k j : ℕ) → (b + k ≤ j → j < b + k + length vs → ⊥) → word (puts m b k vs) j ≡ word m j

@@ -10,7 +10,7 @@ use Rattle.rules.specs.declared.Port.{Port}
 use Rattle.rules.specs.Holds.{port}
 use Rattle.rules.specs.Ports.{pairs, flat}
 use Rattle.ports.specs.Places.{length-flat, pairs-flat, flat-append, flat-get}
-use Rattle.inherit.specs.Blocks.{filled}
+use Rattle.claiming.specs.Blocks.{filled}
 
 pub filled-length : (n : ℕ) (l : List ℕ) → length l ≤ n → length (filled n l) ≡ n
 filled-length n l h = simp (length-append, length-replicate) (omega arith)

@@ -2,14 +2,14 @@ use mathlib.Core.Path.{_≡_, refl, sym, _∙_}
 use Prim.Native.Nat.{_-_}
 use lib.ListN.{length, drop, length-set}
 use Rattle.memory.specs.Writes.{puts}
-use Rattle.blocks.specs.Laws.{puts-past, puts-next, puts-end}
+use Rattle.filling.proofs.Laws.{puts-past, puts-next, puts-end}
 use native.Mathlib.Omega.{arith}
 use borrow.Author.Needs.{needs}
-use Rattle.blocks.proofs.put_words.Statement.{statement}
-use Rattle.blocks.proofs.put_words.Tie as tie
-use Rattle.blocks.proofs.put_words.Reads as reads
-use Rattle.blocks.proofs.put_words.Lts as lts
-use Rattle.blocks.proofs.known.Reads as known-reads
+use Rattle.filling.proofs.put_words.Statement.{statement}
+use Rattle.filling.proofs.put_words.Tie as tie
+use Rattle.filling.proofs.put_words.Reads as reads
+use Rattle.filling.proofs.put_words.Lts as lts
+use Rattle.filling.proofs.known.Reads as known-reads
 
 abbrev Inv-loop : tie.InvT-loop
 Inv-loop m₀ from words k₀ m k = (length m ≡ 4488) × (puts m₀ from 0 words ≡ puts m from k (drop k words))

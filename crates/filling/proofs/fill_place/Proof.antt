@@ -1,13 +1,13 @@
 use Prim.Native.Nat.{_%_}
-use Rattle.blocks.specs.Laws.{fill-steps, fill-not, fill-long}
+use Rattle.filling.proofs.Laws.{fill-steps, fill-not, fill-long}
 use native.Mathlib.Omega.{arith}
 use borrow.Author.Needs.{needs}
-use Rattle.blocks.proofs.fill_place.Statement.{statement}
-use Rattle.blocks.proofs.fill_place.Tie as tie
-use Rattle.blocks.proofs.fill_place.Reads as reads
-use Rattle.blocks.proofs.fill_place.Lts as lts
-use Rattle.blocks.proofs.put_words.Reads as put-words-reads
-use Rattle.blocks.proofs.store_entry.Reads as store-entry-reads
+use Rattle.filling.proofs.fill_place.Statement.{statement}
+use Rattle.filling.proofs.fill_place.Tie as tie
+use Rattle.filling.proofs.fill_place.Reads as reads
+use Rattle.filling.proofs.fill_place.Lts as lts
+use Rattle.filling.proofs.put_words.Reads as put-words-reads
+use Rattle.filling.proofs.store_entry.Reads as store-entry-reads
 use Rattle.places.proofs.occupy.Reads as occupy-reads
 
 -- src/lib.rt:142:9

@@ -7,9 +7,9 @@ use lib.ListN.{length, take}
 use lib.Seq.{take-all}
 use borrow.Author.Needs.{needs}
 use Rattle.rules.specs.Ports.{pairs, resolveIn}
-use Rattle.inherit.specs.Filled.{Lists, lists-key}
-use Rattle.inherit.proofs.claims.Statement.{statement}
-use Rattle.inherit.proofs.claims.Tie as tie
+use Rattle.claiming.specs.Filled.{Lists, lists-key}
+use Rattle.claiming.proofs.claims.Statement.{statement}
+use Rattle.claiming.proofs.claims.Tie as tie
 
 abbrev Inv-loop : tie.InvT-loop
 Inv-loop realms other keys ports₀ i₀ ports i =
