@@ -18,8 +18,8 @@ use Rattle.rules.specs.Lists.{Which, listing, list}
 use Rattle.ports.specs.declared.Found.the-variants as found
 use Rattle.ports.specs.Answers.{firstFrom}
 use Rattle.ports.specs.Found.{first-port-law, first-port-none, first-port-numbers}
-use Rattle.memory.specs.Layout.{word, startAt, depsAt, provsAt, realmsAt, part, depPart, provPart, realmPart}
-use Rattle.memory.specs.View.{parentAt, lifeAt, pluginAt, view}
+use Rattle.memory.specs.Layout.{depPart}
+use Rattle.memory.specs.View.{parentAt, anchorAt, lifeAt, pluginAt, view}
 use Rattle.memory.specs.Writes.{findAt, parentId}
 use Rattle.memory.specs.Known.{at-place, lifeOf, life-of}
 use Rattle.memory.specs.declared.Life.{Life}
@@ -63,11 +63,9 @@ module _ (m : List ℕ) (id i : ℕ) (e : findAt m id ≡ At i) where
       → (a ≡ answerOf (list (view m) w id place b)) × (b′ ≡ lentAfter b (list (view m) w id place b))
   list-answer w place b b′ l a h r = rw (listed m id i e w place b, ← at-place m id i e, ← h) r
 
-  pub anchor-answer : (s d : ℕ) (q : Port) → s ≡ startAt m (i % 32) → d ≡ depsAt m (i % 32)
-      → q ≡ port (word m ((s + d) * 2 + 2312)) (word m ((s + d) * 2 + 2312 + 1))
-      → Accepted (flat (q ∷ [])) ≡ answerOf (askPlugin (view m) Anchor id)
+  pub anchor-answer : (q : Port) → q ≡ anchorAt m (i % 32) → Accepted (flat (q ∷ [])) ≡ answerOf (askPlugin (view m) Anchor id)
   unfolding pluginAt
-  anchor-answer s d q hs hd h = rw (h, hs, hd) (answer Anchor)
+  anchor-answer q h = rw h (answer Anchor)
 
   -- the port of a dependency key
   module _ (k : ℕ) (l : List ℕ) (h : l ≡ depPart m (i % 32)) where
@@ -86,16 +84,3 @@ module _ (m : List ℕ) (id i : ℕ) (e : findAt m id ≡ At i) where
         → Accepted (flat (q ∷ [])) ≡ answerOf (dependencyPort (view m) id k)
     port-answer n q f g =
         ap (λ (x : Port). Accepted (flat (x ∷ []))) g ∙ sym (ap Accepted (first-port-numbers k l n (first-port-law k (pairs l) n f) .2)) ∙ port-told
-
--- the words of a list, by what is read of its place
-pub dep-words : (m l : List ℕ) (j s d : ℕ) → s ≡ startAt m j → d ≡ depsAt m j → l ≡ part m (s * 2 + 2312) (d * 2) → l ≡ depPart m j
-dep-words m l j s d hs hd h = rw (hs, hd) at h
-
-pub prov-words : (m l : List ℕ) (j s d n : ℕ) → s ≡ startAt m j → d ≡ depsAt m j → n ≡ provsAt m j
-    → l ≡ part m ((s + d) * 2 + 2314) (n * 2) → l ≡ provPart m j
-prov-words m l j s d n hs hd hn h =
-    let f : (s + d) * 2 + 2314 ≡ (s + d) * 2 + 2312 + 2 = omega arith in
-    rw (f, hs, hd, hn) at h
-
-pub realm-words : (m l : List ℕ) (i n : ℕ) → i % 32 ≡ i → n ≡ realmsAt m (i % 32) → l ≡ part m (i * 72 + 39) (n * 2) → l ≡ realmPart m (i % 32)
-realm-words m l i n p hn h = h ∙ rw (hn, p)

@@ -1,9 +1,7 @@
 -- What a question comes to where its id is found in the words, and where it is not.
-use Prim.Native.Nat.{ℕ, _+_}
-use mathlib.Core.Path.{_≡_, refl, ap, _∙_}
-use mathlib.Core.List.{List, [], _∷_, map}
-use Rattle.rules.specs.Holds.{Provision}
-use Rattle.rules.specs.declared.Port.{Port}
+use Prim.Native.Nat.{ℕ}
+use mathlib.Core.Path.{_≡_, refl, _∙_}
+use mathlib.Core.List.{List, []}
 use Rattle.rules.specs.Refusals.{Unknown}
 use Rattle.rules.specs.Outcomes.{refuses, answers}
 use Rattle.rules.specs.Ports.{pairs}
@@ -11,10 +9,11 @@ use Rattle.rules.specs.Queries.{Field, fieldOf, askPlugin}
 use Rattle.rules.specs.Dependencies.{firstPort, dependencyPort}
 use Rattle.rules.specs.Lists.{Which, Dependencies, Provisions, RealmRows, listOf, listing, list}
 use Rattle.memory.specs.Layout.{depPart, provPart, realmPart}
-use Rattle.memory.specs.View.{valued, pluginAt, view}
+use Rattle.memory.specs.View.{pluginAt, view}
 use Rattle.memory.specs.Writes.{findAt}
 use Rattle.memory.specs.Known.{at-known, none-known}
 use Rattle.memory.specs.declared.Place.the-variants.{At, Nowhere}
+use Rattle.rows.specs.Listed.{provided-at}
 
 -- The words of a list.
 abbrev pub partOf : Which → List ℕ → ℕ → List ℕ
@@ -22,15 +21,10 @@ partOf Dependencies m i = depPart m i
 partOf Provisions m i = provPart m i
 partOf RealmRows m i = realmPart m i
 
--- Values leave the ports as they are.
-pub valued-ports : (m : List ℕ) (i j : ℕ) (qs : List Port) → map (λ (v : Provision). v .port) (valued m i j qs) ≡ qs
-valued-ports m i j [] = refl
-valued-ports m i j (q ∷ qs) = ap (λ (l : List Port). q ∷ l) (valued-ports m i (j + 1) qs)
-
 pub list-at : (w : Which) (m : List ℕ) (i : ℕ) → listOf w (pluginAt m i) ≡ pairs (partOf w m i)
 unfolding pluginAt
 list-at Dependencies m i = refl
-list-at Provisions m i = valued-ports m i 0 (pairs (provPart m i))
+list-at Provisions m i = provided-at m i
 list-at RealmRows m i = refl
 
 module _ (m : List ℕ) (id i : ℕ) (e : findAt m id ≡ At i) where

@@ -1,6 +1,6 @@
 // R's getters as questions by id, the lookup of a dependency key, and document 01's "Lists", over the registry's memory. Nothing is changed.
 ghost use mathlib.Core.Path.{_≡_};
-ghost use Prim.Native.Nat.{_+_, _*_, _%_, _<_, _≤_};
+ghost use Prim.Native.Nat.{_+_, _*_, _<_, _≤_};
 ghost use lib.ListN.{length, getD};
 ghost use Rattle.rules.specs.Dependencies.{dependencyPort};
 ghost use Rattle.rules.specs.Holds.{port};
@@ -8,7 +8,6 @@ ghost use Rattle.rules.specs.Lists.{list, Dependencies, Provisions, RealmRows};
 ghost use Rattle.rules.specs.Outcomes.{answerOf, lentAfter};
 ghost use Rattle.rules.specs.Queries.{askPlugin, Parent, Anchor, PhaseOf, RetiredMark, Generation, Revision, Payload, RootOf};
 ghost use Rattle.listing.specs.Answers.{listedAnswer};
-ghost use Rattle.memory.specs.Layout.{depPart};
 ghost use Rattle.memory.specs.View.{view};
 ghost use Rattle.asking.specs.Answers.{numberAnswer, perhapsAnswer, portAnswer, rootAnswer};
 use listing::Listed;
@@ -59,8 +58,7 @@ pub fn anchor(m: &[u64; WORDS], id: u64) -> APort
     let Place::At(at) = memory::find(m, id) else {
         return APort::Refused(refusal::UNKNOWN);
     };
-    let a = (memory::start(m, at) + memory::dependencies(m, at)) * 2 + 2312;
-    APort::Is(Port::new(m[a], m[a + 1]))
+    APort::Is(rows::anchor(m, at))
 }
 
 // 0 Idle, 1 Loading, 2 Active, 3 Unloading.
@@ -70,7 +68,7 @@ pub fn phase(m: &[u64; WORDS], id: u64) -> Number
     let Place::At(at) = memory::find(m, id) else {
         return Number::Refused(refusal::UNKNOWN);
     };
-    let life = memory::load(m, at);
+    let life = living::load(m, at);
     let phase = life.phase;
     match phase {
         rules::Phase::Idle => Number::Is(0),
@@ -87,7 +85,7 @@ pub fn retired(m: &[u64; WORDS], id: u64) -> Number
     let Place::At(at) = memory::find(m, id) else {
         return Number::Refused(refusal::UNKNOWN);
     };
-    let life = memory::load(m, at);
+    let life = living::load(m, at);
     if life.retired {
         Number::Is(1)
     } else {
@@ -101,7 +99,7 @@ pub fn generation(m: &[u64; WORDS], id: u64) -> Number
     let Place::At(at) = memory::find(m, id) else {
         return Number::Refused(refusal::UNKNOWN);
     };
-    let life = memory::load(m, at);
+    let life = living::load(m, at);
     Number::Is(life.generation)
 }
 
@@ -111,7 +109,7 @@ pub fn revision(m: &[u64; WORDS], id: u64) -> Number
     let Place::At(at) = memory::find(m, id) else {
         return Number::Refused(refusal::UNKNOWN);
     };
-    let life = memory::load(m, at);
+    let life = living::load(m, at);
     Number::Is(life.revision)
 }
 
@@ -121,7 +119,7 @@ pub fn payload(m: &[u64; WORDS], id: u64) -> Number
     let Place::At(at) = memory::find(m, id) else {
         return Number::Refused(refusal::UNKNOWN);
     };
-    let life = memory::load(m, at);
+    let life = living::load(m, at);
     Number::Is(life.payload)
 }
 
@@ -131,18 +129,9 @@ pub fn root(m: &[u64; WORDS], id: u64) -> ARoot
     let Place::At(at) = memory::find(m, id) else {
         return ARoot::Refused(refusal::UNKNOWN);
     };
-    let life = memory::load(m, at);
+    let life = living::load(m, at);
     let root = life.root;
     ARoot::Is(root)
-}
-
-// The words of the dependency list of a place.
-fn dependency_words(m: &[u64; WORDS], place: usize) -> &[u64]
-    ensures { λ r. ⌜ now r ≡ depPart (now (m .entry)) (place % 32) ⌝ }
-{
-    let from = memory::start(m, place) * 2 + 2312;
-    let count = memory::dependencies(m, place) * 2;
-    memory::some_words(m, from, count)
 }
 
 // The port of a row of a dependency list.
@@ -160,7 +149,7 @@ pub fn dependency_port(m: &[u64; WORDS], id: u64, key: u64) -> APort
     let Place::At(at) = memory::find(m, id) else {
         return APort::Refused(refusal::UNKNOWN);
     };
-    let ports = dependency_words(m, at);
+    let ports = rows::dependency_words(m, at);
     let ports::Found::At(i) = ports::first_port(ports, key) else {
         return APort::Nothing;
     };
@@ -174,7 +163,7 @@ pub fn list_dependencies(m: &[u64; WORDS], id: u64, place: usize, buffer: &mut [
     let Place::At(at) = memory::find(m, id) else {
         return Listed::Refused(refusal::UNKNOWN);
     };
-    listing::list_ports(dependency_words(m, at), buffer, place)
+    listing::list_ports(rows::dependency_words(m, at), buffer, place)
 }
 
 pub fn list_provisions(m: &[u64; WORDS], id: u64, place: usize, buffer: &mut [u64]) -> Listed
@@ -183,9 +172,7 @@ pub fn list_provisions(m: &[u64; WORDS], id: u64, place: usize, buffer: &mut [u6
     let Place::At(at) = memory::find(m, id) else {
         return Listed::Refused(refusal::UNKNOWN);
     };
-    let from = (memory::start(m, at) + memory::dependencies(m, at)) * 2 + 2314;
-    let count = memory::provisions(m, at) * 2;
-    listing::list_ports(memory::some_words(m, from, count), buffer, place)
+    listing::list_ports(rows::provision_words(m, at), buffer, place)
 }
 
 pub fn list_realms(m: &[u64; WORDS], id: u64, place: usize, buffer: &mut [u64]) -> Listed
@@ -194,7 +181,5 @@ pub fn list_realms(m: &[u64; WORDS], id: u64, place: usize, buffer: &mut [u64]) 
     let Place::At(at) = memory::find(m, id) else {
         return Listed::Refused(refusal::UNKNOWN);
     };
-    let from = at * 72 + 39;
-    let count = memory::realm_rows(m, at) * 2;
-    listing::list_ports(memory::some_words(m, from, count), buffer, place)
+    listing::list_ports(rows::realm_words(m, at), buffer, place)
 }

@@ -48,8 +48,8 @@ pub fn free_place(m: &mut [u64; WORDS], place: usize)
 {
     let p = place % 32;
     if memory::is_taken(m, p) {
-        let start = memory::start(m, p);
-        let count = memory::dependencies(m, p) + memory::provisions(m, p) + 1;
+        let start = rows::start(m, p);
+        let count = rows::dependencies(m, p) + rows::provisions(m, p) + 1;
         let end = at_most(places::rows_in_use(m), 1024);
         close_gap(m, start, count, end);
         lower_starts(m, start + count, count);

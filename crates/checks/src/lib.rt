@@ -23,7 +23,7 @@ fn parent_verdict(m: &[u64; WORDS], parent: Parent) -> u64
     let Place::At(at) = memory::find(m, id) else {
         return refusal::UNKNOWN;
     };
-    standing(memory::load(m, at))
+    standing(living::load(m, at))
 }
 
 // 2 where it is retired, 3 where it is Unloading.

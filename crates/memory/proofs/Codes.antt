@@ -1,22 +1,9 @@
--- The last arm of each code.
+-- The last arm of the parent's tag.
 use Prim.Native.Nat.{ℕ, zero, suc}
 use mathlib.Core.Path.{_≡_, refl}
 use mathlib.Core.Option.{some}
-use Rattle.rules.specs.declared.Phase.the-variants.{Unloading}
-use Rattle.rules.specs.declared.Root.the-variants.{Spent}
-use Rattle.memory.specs.View.{parentOf, phaseOf, rootOf}
+use Rattle.memory.specs.View.{parentOf}
 
 pub parent-rest : (n id : ℕ) → (n ≡ 0 → ⊥) → some id ≡ parentOf n id
 parent-rest zero id h = absurd (h refl)
 parent-rest (suc n) id h = refl
-
-pub root-rest : (n v a : ℕ) → (n ≡ 0 → ⊥) → (n ≡ 1 → ⊥) → Spent ≡ rootOf n v a
-root-rest zero v a h k = absurd (h refl)
-root-rest (suc zero) v a h k = absurd (k refl)
-root-rest (suc (suc n)) v a h k = refl
-
-pub phase-rest : (n : ℕ) → (n ≡ 0 → ⊥) → (n ≡ 1 → ⊥) → (n ≡ 2 → ⊥) → Unloading ≡ phaseOf n
-phase-rest zero f g h = absurd (f refl)
-phase-rest (suc zero) f g h = absurd (g refl)
-phase-rest (suc (suc zero)) f g h = absurd (h refl)
-phase-rest (suc (suc (suc n))) f g h = refl

@@ -1,3 +1,2 @@
 mod Codes
 mod Search
-mod Parts

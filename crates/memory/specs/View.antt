@@ -68,11 +68,15 @@ abbrev pub valued : List ℕ → ℕ → ℕ → List Port → List Provision
 valued m i j [] = []
 valued m i j (q ∷ qs) = record { port = q; value = valueAt m i j } ∷ valued m i (j + 1) qs
 
+-- between the dependencies and the provisions
+abbrev pub anchorAt : List ℕ → ℕ → Port
+anchorAt m i = port (word m (anchorWord m i)) (word m (anchorWord m i + 1))
+
 unfoldable pub pluginAt : List ℕ → ℕ → Plugin
 pluginAt m i = record {
   id = idAt m i;
   parent = parentAt m i;
-  anchor = port (word m (anchorWord m i)) (word m (anchorWord m i + 1));
+  anchor = anchorAt m i;
   realms = record { rows = pairs (realmPart m i); other = defaultRealm };
   dependencies = pairs (depPart m i);
   provisions = valued m i 0 (pairs (provPart m i));

@@ -68,7 +68,7 @@ pub fn rows_in_use(m: &[u64; WORDS]) -> usize
     let mut i: usize = 0;
     while i < 32 {
         if memory::is_taken(m, i) {
-            total += memory::dependencies(m, i) + memory::provisions(m, i) + 1;
+            total += rows::dependencies(m, i) + rows::provisions(m, i) + 1;
         }
         i += 1;
     }

@@ -10,17 +10,11 @@ use borrow.Author.Tests.{eq-eqb, ne-eqb}
 use Rattle.rules.specs.Holds.{port, Plugin, isIn, provides, provided, samePort}
 use Rattle.rules.specs.declared.Port.{Port}
 use Rattle.rules.specs.Ports.{pairs}
-use Rattle.memory.specs.Layout.{word, taken, startAt, depsAt, provsAt, part, rowWord, anchorWord, provPart}
-use Rattle.memory.specs.View.{pluginAt}
+use Rattle.memory.specs.Layout.{taken, provPart}
+use Rattle.memory.specs.View.{anchorAt, pluginAt}
 use Rattle.memory.specs.Lookups.{searchFrom}
 use Rattle.memory.specs.declared.Place.the-variants.{At, Nowhere}
-use Rattle.providing.specs.Providers.{provided-at}
-
-pub words-at : (m : List ℕ) (p s d v : ℕ) (ws : List ℕ) → s ≡ startAt m p → d ≡ depsAt m p → v ≡ provsAt m p
-    → ws ≡ part m ((s + d) * 2 + 2314) (v * 2) → ws ≡ provPart m p
-words-at m p s d v ws e₁ e₂ e₃ e₄ =
-    let n : (startAt m p + depsAt m p) * 2 + 2314 ≡ anchorWord m p + 2 = omega arith in
-    rw (e₄, e₁, e₂, e₃) (rw n)
+use Rattle.rows.specs.Listed.{provided-at}
 
 module _ (m : List ℕ) (p : ℕ) (q : Port) (ws : List ℕ) (b : Bool) (e : ws ≡ provPart m p) (f : b ≡ isIn q (pairs ws)) where
   among : b ≡ isIn q (provided (pluginAt m p))
@@ -29,18 +23,15 @@ module _ (m : List ℕ) (p : ℕ) (q : Port) (ws : List ℕ) (b : Bool) (e : ws 
   pub provides-provision : b ≡ true → true ≡ provides (pluginAt m p) q
   provides-provision t = rw (sym among ∙ t)
 
-  module _ (s d : ℕ) (e₁ : s ≡ startAt m p) (e₂ : d ≡ depsAt m p) (n : b ≡ false) where
-    at-anchor : (s + d) * 2 + 2312 ≡ anchorWord m p
-    at-anchor = rw (e₁, e₂)
-
-    anchor-is : provides (pluginAt m p) q ≡ (eqb (q .key) (word m ((s + d) * 2 + 2312)) && eqb (q .realm) (word m ((s + d) * 2 + 2312 + 1)))
+  module _ (a : Port) (g : a ≡ anchorAt m p) (n : b ≡ false) where
+    anchor-is : provides (pluginAt m p) q ≡ samePort q a
     unfolding pluginAt
-    anchor-is = rw (sym among ∙ n, at-anchor)
+    anchor-is = rw (sym among ∙ n) (ap (samePort q) (sym g))
 
-    pub provides-anchor : q .key ≡ word m ((s + d) * 2 + 2312) → eqb (q .realm) (word m ((s + d) * 2 + 2312 + 1)) ≡ provides (pluginAt m p) q
+    pub provides-anchor : q .key ≡ a .key → eqb (q .realm) (a .realm) ≡ provides (pluginAt m p) q
     provides-anchor k = sym (anchor-is ∙ rw (eq-eqb _ _ k))
 
-    pub provides-not : (q .key ≡ word m ((s + d) * 2 + 2312) → ⊥) → false ≡ provides (pluginAt m p) q
+    pub provides-not : (q .key ≡ a .key → ⊥) → false ≡ provides (pluginAt m p) q
     provides-not k = sym (anchor-is ∙ rw (ne-eqb _ _ k))
 
 -- a place's own number

@@ -3,31 +3,22 @@ ghost use mathlib.Core.Path.{_≡_};
 ghost use mathlib.Core.Bool.{_&&_};
 ghost use Prim.Native.Nat.{_<_, _%_};
 ghost use Rattle.rules.specs.Holds.{port, provides};
-ghost use Rattle.memory.specs.Layout.{taken, provPart};
+ghost use Rattle.memory.specs.Layout.{taken};
 ghost use Rattle.memory.specs.View.{pluginAt};
 ghost use Rattle.providing.specs.Providers.{providerAt};
 use memory::Place;
 use memory::WORDS;
 
-// The words of the provisions of a place.
-pub fn provision_words(m: &[u64; WORDS], place: usize) -> &[u64]
-    ensures { λ r. ⌜ now r ≡ provPart (now (m .entry)) (place % 32) ⌝ }
-{
-    let from = (memory::start(m, place) + memory::dependencies(m, place)) * 2 + 2314;
-    let count = memory::provisions(m, place) * 2;
-    memory::some_words(m, from, count)
-}
-
 // Whether the plugin of a place has the port as provision or anchor.
 pub fn provides(m: &[u64; WORDS], place: usize, key: u64, realm: u64) -> bool
     ensures { λ r. ⌜ r ≡ provides (pluginAt (now (m .entry)) (place % 32)) (port key realm) ⌝ }
 {
-    if ports::has_port(provision_words(m, place), key, realm) {
+    if ports::has_port(rows::provision_words(m, place), key, realm) {
         return true;
     }
-    let a = (memory::start(m, place) + memory::dependencies(m, place)) * 2 + 2312;
-    if key == m[a] {
-        realm == m[a + 1]
+    let anchor = rows::anchor(m, place);
+    if key == anchor.key {
+        realm == anchor.realm
     } else {
         false
     }

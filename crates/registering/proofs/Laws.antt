@@ -14,7 +14,7 @@ use borrow.Author.Tests.{eq-eqb, ne-eqb, eqb-false}
 use Rattle.rules.specs.Basics.{last}
 use Rattle.rules.specs.Outcomes.{Refused, Accepted}
 use Rattle.rules.specs.Laws.Tests.{Passed}
-use Rattle.memory.specs.Layout.{word, part, startAt, depsAt, depPart}
+use Rattle.memory.specs.Layout.{word, depPart}
 use Rattle.memory.specs.View.{view}
 use Rattle.memory.specs.Writes.{findAt}
 use Rattle.memory.specs.declared.Parent.{Parent}
@@ -35,10 +35,6 @@ module _ (m : List ℕ) (parent : Parent) (id : ℕ) (e : parent ≡ Of id) wher
 
   pub inherits-rows : (at : ℕ) → findAt m id ≡ At at → depPart m (at % 32) ≡ inheritedWords m parent
   inherits-rows at f = rw (e, f)
-
--- a plugin's dependency rows, by its first row and their count
-pub rows-from : (m : List ℕ) (i a n : ℕ) → a ≡ startAt m i → n ≡ depsAt m i → part m (a * 2 + 2312) (n * 2) ≡ depPart m i
-rows-from m i a n e f = rw (e, f)
 
 -- as many rows as there are
 pub all-rows : (l : List ℕ) (n : ℕ) → length l / 2 < n → take (length l) l ≡ take (n * 2) l

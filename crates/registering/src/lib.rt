@@ -27,13 +27,12 @@ fn inherited(m: &[u64; WORDS], parent: Parent) -> &[u64]
     ensures { λ r. ⌜ now r ≡ inheritedWords (now (m .entry)) parent ⌝ }
 {
     let Parent::Of(id) = parent else {
-        return memory::some_words(m, 0, 0);
+        return rows::some_words(m, 0, 0);
     };
     let Place::At(at) = memory::find(m, id) else {
-        return memory::some_words(m, 0, 0);
+        return rows::some_words(m, 0, 0);
     };
-    let row = memory::start(m, at) * 2 + 2312;
-    memory::some_words(m, row, memory::dependencies(m, at) * 2)
+    rows::dependency_words(m, at)
 }
 
 // The first rows of a list of ports, as many as there are.
@@ -42,9 +41,9 @@ fn first_rows(ports: &[u64], count: usize) -> &[u64]
 {
     let n = ports.len();
     if n / 2 < count {
-        return memory::some_words(ports, 0, n);
+        return rows::some_words(ports, 0, n);
     }
-    memory::some_words(ports, 0, count * 2)
+    rows::some_words(ports, 0, count * 2)
 }
 
 // The provisions among the claims, which the anchor leads.
@@ -153,7 +152,7 @@ pub fn register(
     if taken != 0 {
         return Registered::Refused(taken);
     }
-    let provided = memory::some_words(claims, 2, claims.len());
+    let provided = rows::some_words(claims, 2, claims.len());
     let list = inherit::dependency_list(
         realms,
         Port::DEFAULT_REALM,

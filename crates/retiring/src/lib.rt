@@ -45,11 +45,11 @@ pub fn retire(m: &mut [u64; WORDS], id: u64) -> Done
     let Place::At(at) = memory::find(m, id) else {
         return Done::Refused(refusal::UNKNOWN);
     };
-    let life = memory::load(m, at);
+    let life = living::load(m, at);
     if life.retired {
         return Done::Refused(refusal::RETIRED);
     }
-    memory::store(m, at, marked(life));
+    living::store(m, at, marked(life));
     Done::Accepted
 }
 
@@ -85,11 +85,11 @@ pub fn retire_child(m: &mut [u64; WORDS], domain: u64, parent: u64, id: u64) -> 
         return Done::Accepted;
     };
     if memory::is_child_of(m, child, parent) {
-        let life = memory::load(m, child);
+        let life = living::load(m, child);
         if life.retired {
             return Done::Refused(refusal::RETIRED);
         }
-        memory::store(m, child, marked(life));
+        living::store(m, child, marked(life));
         return Done::Accepted;
     }
     Done::Refused(refusal::INVALID_STATE)
@@ -132,7 +132,7 @@ pub fn remove(m: &mut [u64; WORDS], id: u64) -> Done
     let Place::At(at) = memory::find(m, id) else {
         return Done::Refused(refusal::UNKNOWN);
     };
-    if is_removable(memory::load(m, at)) {
+    if is_removable(living::load(m, at)) {
         if has_children(m, id) {
             return Done::Refused(refusal::HAS_CHILDREN);
         }

@@ -53,14 +53,14 @@ fn claims(fives: &[u64], keys: &[u64]) {
     number(alone.count as u64);
     port(Port::new(alone.ports[0], alone.ports[1]));
     let most = claimed(
-        memory::some_words(fives, 0, 32),
-        memory::some_words(keys, 0, 15),
+        rows::some_words(fives, 0, 32),
+        rows::some_words(keys, 0, 15),
     );
     number(most.count as u64);
     port(Port::new(most.ports[30], most.ports[31]));
     let more = claimed(
-        memory::some_words(fives, 0, 32),
-        memory::some_words(keys, 0, 16),
+        rows::some_words(fives, 0, 32),
+        rows::some_words(keys, 0, 16),
     );
     number(more.count as u64);
     end()
@@ -81,18 +81,18 @@ fn lists() {
 
 // The list of a plugin under a parent with these dependencies.
 fn under(realms: &[u64], keys: &[u64], parent: &[u64; 96], count: usize) -> Dependencies {
-    inherit::dependency_list(realms, 0, &[], keys, memory::some_words(parent, 0, count))
+    inherit::dependency_list(realms, 0, &[], keys, rows::some_words(parent, 0, count))
 }
 
 fn long_lists(fives: &[u64], sixes: &[u64], keys: &[u64]) {
     io::write_all(1, b"16 keys, 17 keys given:");
-    let sixteen = inherit::dependency_list(&[], 0, &[], memory::some_words(keys, 0, 16), &[]);
+    let sixteen = inherit::dependency_list(&[], 0, &[], rows::some_words(keys, 0, 16), &[]);
     number(sixteen.count as u64);
     let seventeen = inherit::dependency_list(&[], 0, &[], keys, &[]);
     number(seventeen.count as u64);
     end();
     let first = sixteen.ports;
-    let doubled = under(memory::some_words(fives, 0, 32), &[], &first, 32);
+    let doubled = under(rows::some_words(fives, 0, 32), &[], &first, 32);
     io::write_all(1, b"32, 48 and 49 dependencies:");
     number(doubled.count as u64);
     let second = doubled.ports;

@@ -46,9 +46,9 @@ fn realms(fives: &[u64]) {
         b"realms: none, 16 rows, 17 rows, odd, equal keys, falling keys:",
     );
     yes_no(ports::bad_realms(&[]));
-    yes_no(ports::bad_realms(memory::some_words(fives, 0, 32)));
+    yes_no(ports::bad_realms(rows::some_words(fives, 0, 32)));
     yes_no(ports::bad_realms(fives));
-    yes_no(ports::bad_realms(memory::some_words(fives, 0, 31)));
+    yes_no(ports::bad_realms(rows::some_words(fives, 0, 31)));
     yes_no(ports::bad_realms(&[2, 5, 2, 1]));
     yes_no(ports::bad_realms(&[9, 1, 2, 5]));
     end()

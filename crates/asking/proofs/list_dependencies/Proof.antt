@@ -1,4 +1,4 @@
--- `list_dependencies` meets its contract. Assumes nothing.
+-- `list_dependencies` meets its contract.
 use mathlib.Core.Path.{sym, _∙_}
 use Rattle.rules.specs.Lists.{Dependencies}
 use Rattle.asking.proofs.Laws.{no-list, list-answer}
@@ -29,8 +29,9 @@ same-length c = search needs
 
 returns-2 : tie.Need-returns-2
 returns-2 c =
-    let e = sym (c .before .before .before .before .before .before .before .before .find .ensures) ∙ c .before .before .before .before .before .before .at .given .1 in
-    list-answer _ _ _ e Dependencies _ _ _ _ _ (c .before .before .before .before .dependency-words .ensures) (c .before .before .list-ports .ensures)
+    let l = c .before .before in
+    let a = l .before .before .before .before in
+    list-answer _ _ _ (sym (a .before .before .find .ensures) ∙ a .at .given .1) Dependencies _ _ _ _ _ (l .before .before .dependency-words .ensures) (l .list-ports .ensures)
 
 pub list-dependencies-spec : {M : Type 1} → statement M
 list-dependencies-spec =

@@ -1,9 +1,7 @@
--- `list_realms` meets its contract. Assumes nothing.
+-- `list_realms` meets its contract.
 use mathlib.Core.Path.{sym, _∙_}
 use Rattle.rules.specs.Lists.{RealmRows}
-use Rattle.memory.specs.Known.{at-below, at-place}
-use Rattle.asking.proofs.Laws.{no-list, list-answer, realm-words}
-use native.Mathlib.Omega.{arith}
+use Rattle.asking.proofs.Laws.{no-list, list-answer}
 use borrow.Author.Needs.{needs}
 use Rattle.asking.proofs.list_realms.Statement.{statement}
 use Rattle.asking.proofs.list_realms.Tie as tie
@@ -20,20 +18,8 @@ enum-told c = search needs
 returns : tie.Need-returns
 returns c = no-list _ _ (sym (c .before .before .find .ensures) ∙ c .enum-told .given .1) RealmRows _ _
 
-mul-from : tie.Need-mul-from
-mul-from c = omega (arith, at-below _ _ _ (sym (c .before .before .before .find .ensures) ∙ c .before .at .given .1))
-
-add-from : tie.Need-add-from
-add-from c = omega (arith, at-below _ _ _ (sym (c .before .before .before .find .ensures) ∙ c .before .at .given .1))
-
-realm-rows-requires : tie.Need-realm-rows-requires
-realm-rows-requires c κs = search needs
-
-mul-count : tie.Need-mul-count
-mul-count c = search needs
-
-some-words-requires : tie.Need-some-words-requires
-some-words-requires c κs = search needs
+realm-words-requires : tie.Need-realm-words-requires
+realm-words-requires c κs = search needs
 
 list-ports-requires : tie.Need-list-ports-requires
 list-ports-requires c κs = search needs
@@ -43,9 +29,9 @@ same-length c = search needs
 
 returns-2 : tie.Need-returns-2
 returns-2 c =
-    let e = sym (c .before .before .before .before .before .before .before .before .before .before .find .ensures) ∙ c .before .before .before .before .before .before .before .before .at .given .1 in
-    let w = realm-words _ _ _ _ (at-place _ _ _ e) (c .before .before .before .before .before .before .realm-rows .ensures) (c .before .before .before .before .some-words .ensures) in
-    list-answer _ _ _ e RealmRows _ _ _ _ _ w (c .before .before .list-ports .ensures)
+    let l = c .before .before in
+    let a = l .before .before .before .before in
+    list-answer _ _ _ (sym (a .before .before .find .ensures) ∙ a .at .given .1) RealmRows _ _ _ _ _ (l .before .before .realm-words .ensures) (l .list-ports .ensures)
 
 pub list-realms-spec : {M : Type 1} → statement M
 list-realms-spec =
@@ -55,11 +41,7 @@ list-realms-spec =
     enum-known-at
     enum-told
     returns
-    mul-from
-    add-from
-    realm-rows-requires
-    mul-count
-    some-words-requires
+    realm-words-requires
     list-ports-requires
     same-length
     returns-2)

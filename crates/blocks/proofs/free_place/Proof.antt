@@ -10,10 +10,10 @@ use Rattle.blocks.proofs.free_place.Lts as lts
 use Rattle.blocks.proofs.at_most.Reads as at-most-reads
 use Rattle.blocks.proofs.close_gap.Reads as close-gap-reads
 use Rattle.blocks.proofs.lower_starts.Reads as lower-starts-reads
-use Rattle.memory.proofs.dependencies.Reads as dependencies-reads
+use Rattle.rows.proofs.dependencies.Reads as dependencies-reads
 use Rattle.memory.proofs.is_taken.Reads as is-taken-reads
-use Rattle.memory.proofs.provisions.Reads as provisions-reads
-use Rattle.memory.proofs.start.Reads as start-reads
+use Rattle.rows.proofs.provisions.Reads as provisions-reads
+use Rattle.rows.proofs.start.Reads as start-reads
 use Rattle.places.proofs.rows_in_use.Reads as rows-in-use-reads
 use Rattle.places.proofs.vacate.Reads as vacate-reads
 

@@ -1,5 +1,5 @@
 use mathlib.Core.Path.{sym, _∙_}
-use Rattle.registering.proofs.Laws.{rows-from, inherits-unknown, inherits-rows}
+use Rattle.registering.proofs.Laws.{inherits-unknown, inherits-rows}
 use borrow.Author.Needs.{needs}
 use Rattle.registering.proofs.inherited.Statement.{statement}
 use Rattle.registering.proofs.inherited.Tie as tie
@@ -36,34 +36,16 @@ returns-2 c =
     let a = p .before .before .args in
     c .some-words2 .ensures ∙ inherits-unknown (a .m .now) (a .parent) _ (p .parent .given .1) (sym (f .find .ensures) ∙ t .enum-told2 .given .1)
 
-start-requires : tie.Need-start-requires
-start-requires c κs = search needs
-
-mul-row : tie.Need-mul-row
-mul-row c = search needs
-
-add-row : tie.Need-add-row
-add-row c = search needs
-
-dependencies-requires : tie.Need-dependencies-requires
-dependencies-requires c κs = search needs
-
-mul-some-words : tie.Need-mul-some-words
-mul-some-words c = search needs
-
-some-words-requires-3 : tie.Need-some-words-requires-3
-some-words-requires-3 c κs = search needs
+dependency-words-requires : tie.Need-dependency-words-requires
+dependency-words-requires c κs = search needs
 
 returns-3 : tie.Need-returns-3
 returns-3 c =
-    let s = c .before .before .before in
-    let t = s .before .before in
+    let t = c .before .before in
     let f = t .before .before in
     let p = f .before .before in
     let a = p .before .before .args in
-    c .some-words3 .ensures
-    ∙ rows-from (a .m .now) _ _ _ (s .start .ensures) (c .before .dependencies .ensures)
-    ∙ inherits-rows (a .m .now) (a .parent) _ (p .parent .given .1) _ (sym (f .find .ensures) ∙ t .at .given .1)
+    c .dependency-words .ensures ∙ inherits-rows (a .m .now) (a .parent) _ (p .parent .given .1) _ (sym (f .find .ensures) ∙ t .at .given .1)
 
 pub inherited-spec : {M : Type 1} → statement M
 inherited-spec =
@@ -78,10 +60,5 @@ inherited-spec =
     enum-told-2
     some-words-requires-2
     returns-2
-    start-requires
-    mul-row
-    add-row
-    dependencies-requires
-    mul-some-words
-    some-words-requires-3
+    dependency-words-requires
     returns-3)

@@ -1,12 +1,12 @@
 use Rattle.memory.specs.View.{decoded}
 use native.Mathlib.Omega.{arith}
 use borrow.Author.Needs.{needs}
-use Rattle.memory.proofs.decode.Statement.{statement}
-use Rattle.memory.proofs.decode.Tie as tie
-use Rattle.memory.proofs.decode.Reads as reads
-use Rattle.memory.proofs.decode.Lts as lts
-use Rattle.memory.proofs.phase_of.Reads as phase-of-reads
-use Rattle.memory.proofs.root_of.Reads as root-of-reads
+use Rattle.living.proofs.decode.Statement.{statement}
+use Rattle.living.proofs.decode.Tie as tie
+use Rattle.living.proofs.decode.Reads as reads
+use Rattle.living.proofs.decode.Lts as lts
+use Rattle.living.proofs.phase_of.Reads as phase-of-reads
+use Rattle.living.proofs.root_of.Reads as root-of-reads
 
 -- src/lib.rt:183:9
 phase-of-requires : tie.Need-phase-of-requires

@@ -1,10 +1,10 @@
-use Rattle.memory.proofs.Parts.{part-past, part-rest, part-whole}
+use Rattle.rows.proofs.Parts.{part-past, part-rest, part-whole}
 use native.Mathlib.Omega.{arith}
 use borrow.Author.Needs.{needs}
-use Rattle.memory.proofs.some_words.Statement.{statement}
-use Rattle.memory.proofs.some_words.Tie as tie
-use Rattle.memory.proofs.some_words.Reads as reads
-use Rattle.memory.proofs.some_words.Lts as lts
+use Rattle.rows.proofs.some_words.Statement.{statement}
+use Rattle.rows.proofs.some_words.Tie as tie
+use Rattle.rows.proofs.some_words.Reads as reads
+use Rattle.rows.proofs.some_words.Lts as lts
 
 -- src/lib.rt:111:16
 mul-result : tie.Need-mul-result

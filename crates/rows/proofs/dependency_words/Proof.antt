@@ -1,8 +1,8 @@
--- `dependency_words` meets its contract. Assumes nothing.
-use Rattle.asking.proofs.Laws.{dep-words}
+-- `dependency_words` meets its contract.
+use Rattle.rows.proofs.Lists.{dep-words}
 use borrow.Author.Needs.{needs}
-use Rattle.asking.proofs.dependency_words.Statement.{statement}
-use Rattle.asking.proofs.dependency_words.Tie as tie
+use Rattle.rows.proofs.dependency_words.Statement.{statement}
+use Rattle.rows.proofs.dependency_words.Tie as tie
 
 start-requires : tie.Need-start-requires
 start-requires c κs = search needs

@@ -1,13 +1,13 @@
 use mathlib.Core.Path.{_∙_, ap}
 use Rattle.memory.specs.View.{decoded, lifeAt}
 use native.Mathlib.Omega.{arith}
 use borrow.Author.Needs.{needs}
-use Rattle.memory.proofs.load.Statement.{statement}
-use Rattle.memory.proofs.load.Tie as tie
-use Rattle.memory.proofs.load.Reads as reads
-use Rattle.memory.proofs.load.Lts as lts
-use Rattle.memory.proofs.decode.Reads as decode-reads
-use Rattle.memory.proofs.load_words.Reads as load-words-reads
+use Rattle.living.proofs.load.Statement.{statement}
+use Rattle.living.proofs.load.Tie as tie
+use Rattle.living.proofs.load.Reads as reads
+use Rattle.living.proofs.load.Lts as lts
+use Rattle.living.proofs.decode.Reads as decode-reads
+use Rattle.living.proofs.load_words.Reads as load-words-reads
 
 -- src/lib.rt:215:12
 load-words-requires : tie.Need-load-words-requires

@@ -1,10 +1,10 @@
-use Rattle.memory.proofs.Codes.{phase-rest}
+use Rattle.living.proofs.Codes.{phase-rest}
 use native.Mathlib.Omega.{arith}
 use borrow.Author.Needs.{needs}
-use Rattle.memory.proofs.phase_of.Statement.{statement}
-use Rattle.memory.proofs.phase_of.Tie as tie
-use Rattle.memory.proofs.phase_of.Reads as reads
-use Rattle.memory.proofs.phase_of.Lts as lts
+use Rattle.living.proofs.phase_of.Statement.{statement}
+use Rattle.living.proofs.phase_of.Tie as tie
+use Rattle.living.proofs.phase_of.Reads as reads
+use Rattle.living.proofs.phase_of.Lts as lts
 
 -- src/lib.rt:74:1
 returns : tie.Need-returns

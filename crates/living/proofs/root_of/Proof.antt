@@ -1,10 +1,10 @@
-use Rattle.memory.proofs.Codes.{root-rest}
+use Rattle.living.proofs.Codes.{root-rest}
 use native.Mathlib.Omega.{arith}
 use borrow.Author.Needs.{needs}
-use Rattle.memory.proofs.root_of.Statement.{statement}
-use Rattle.memory.proofs.root_of.Tie as tie
-use Rattle.memory.proofs.root_of.Reads as reads
-use Rattle.memory.proofs.root_of.Lts as lts
+use Rattle.living.proofs.root_of.Statement.{statement}
+use Rattle.living.proofs.root_of.Tie as tie
+use Rattle.living.proofs.root_of.Reads as reads
+use Rattle.living.proofs.root_of.Lts as lts
 
 -- src/lib.rt:96:1
 returns : tie.Need-returns

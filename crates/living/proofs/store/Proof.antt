@@ -1,12 +1,12 @@
 use Rattle.memory.specs.Writes.{putLife}
 use native.Mathlib.Omega.{arith}
 use borrow.Author.Needs.{needs}
-use Rattle.memory.proofs.store.Statement.{statement}
-use Rattle.memory.proofs.store.Tie as tie
-use Rattle.memory.proofs.store.Reads as reads
-use Rattle.memory.proofs.store.Lts as lts
-use Rattle.memory.proofs.encode.Reads as encode-reads
-use Rattle.memory.proofs.store_words.Reads as store-words-reads
+use Rattle.living.proofs.store.Statement.{statement}
+use Rattle.living.proofs.store.Tie as tie
+use Rattle.living.proofs.store.Reads as reads
+use Rattle.living.proofs.store.Lts as lts
+use Rattle.living.proofs.encode.Reads as encode-reads
+use Rattle.living.proofs.store_words.Reads as store-words-reads
 
 -- src/lib.rt:221:32
 encode-requires : tie.Need-encode-requires

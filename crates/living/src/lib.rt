@@ -1,0 +1,148 @@
+// A plugin's life, loaded from its words and stored to them. A place is read modulo 32.
+ghost use mathlib.Core.Path.{_≡_};
+ghost use Prim.Native.Nat.{_%_, _<_};
+ghost use Rattle.memory.specs.View.{phaseOf, rootOf, wordsAt, decoded, lifeAt};
+ghost use Rattle.memory.specs.Writes.{phaseWord, rootTag, rootRevision, rootArgument, putWords, encoded, putLife};
+use memory::Life;
+use memory::WORDS;
+use memory::Words;
+use rules::Phase;
+use rules::Root;
+
+fn phase_of(w: u64) -> Phase
+    ensures { λ r. ⌜ r ≡ phaseOf w ⌝ }
+{
+    match w {
+        0 => Phase::Idle,
+        1 => Phase::Loading,
+        2 => Phase::Active,
+        _ => Phase::Unloading,
+    }
+}
+
+fn phase_word(p: Phase) -> u64
+    ensures { λ r. ⌜ r ≡ phaseWord p ⌝ }
+{
+    match p {
+        Phase::Idle => 0,
+        Phase::Loading => 1,
+        Phase::Active => 2,
+        Phase::Unloading => 3,
+    }
+}
+
+fn root_of(tag: u64, revision: u64, argument: u64) -> Root
+    ensures { λ r. ⌜ r ≡ rootOf tag revision argument ⌝ }
+{
+    match tag {
+        0 => Root::Unissued,
+        1 => Root::Queued(revision, argument),
+        _ => Root::Spent,
+    }
+}
+
+fn root_tag(root: Root) -> u64
+    ensures { λ r. ⌜ r ≡ rootTag root ⌝ }
+{
+    match root {
+        Root::Unissued => 0,
+        Root::Queued(_, _) => 1,
+        Root::Spent => 2,
+    }
+}
+
+fn root_revision(root: Root) -> u64
+    ensures { λ r. ⌜ r ≡ rootRevision root ⌝ }
+{
+    match root {
+        Root::Unissued => 0,
+        Root::Queued(revision, _) => revision,
+        Root::Spent => 0,
+    }
+}
+
+fn root_argument(root: Root) -> u64
+    ensures { λ r. ⌜ r ≡ rootArgument root ⌝ }
+{
+    match root {
+        Root::Unissued => 0,
+        Root::Queued(_, argument) => argument,
+        Root::Spent => 0,
+    }
+}
+
+fn load_words(m: &[u64; WORDS], place: usize) -> Words
+    requires { ⌜ place < 32 ⌝ }
+    ensures { λ r. ⌜ r ≡ wordsAt (now (m .entry)) place ⌝ }
+{
+    let b = place * 72;
+    Words {
+        revision: m[b + 11],
+        payload: m[b + 12],
+        phase: m[b + 13],
+        retired: m[b + 14],
+        generation: m[b + 15],
+        root: m[b + 16],
+        root_revision: m[b + 17],
+        root_argument: m[b + 18],
+    }
+}
+
+fn store_words(m: &mut [u64; WORDS], place: usize, w: Words)
+    requires { ⌜ place < 32 ⌝ }
+    ensures { λ _. ⌜ now (m .exit) ≡ putWords (now (m .entry)) place w ⌝ }
+{
+    let b = place * 72;
+    m[b + 11] = w.revision;
+    m[b + 12] = w.payload;
+    m[b + 13] = w.phase;
+    m[b + 14] = w.retired;
+    m[b + 15] = w.generation;
+    m[b + 16] = w.root;
+    m[b + 17] = w.root_revision;
+    m[b + 18] = w.root_argument;
+}
+
+fn decode(w: Words) -> Life
+    ensures { λ r. ⌜ r ≡ decoded w ⌝ }
+{
+    let phase = phase_of(w.phase);
+    let root = root_of(w.root, w.root_revision, w.root_argument);
+    Life {
+        revision: w.revision,
+        payload: w.payload,
+        phase: phase,
+        retired: w.retired != 0,
+        generation: w.generation,
+        root: root,
+    }
+}
+
+fn encode(life: Life) -> Words
+    ensures { λ r. ⌜ r ≡ encoded life ⌝ }
+{
+    let phase = life.phase;
+    let root = life.root;
+    Words {
+        revision: life.revision,
+        payload: life.payload,
+        phase: phase_word(phase),
+        retired: life.retired as u64,
+        generation: life.generation,
+        root: root_tag(root),
+        root_revision: root_revision(root),
+        root_argument: root_argument(root),
+    }
+}
+
+pub fn load(m: &[u64; WORDS], place: usize) -> Life
+    ensures { λ r. ⌜ r ≡ lifeAt (now (m .entry)) (place % 32) ⌝ }
+{
+    decode(load_words(m, place % 32))
+}
+
+pub fn store(m: &mut [u64; WORDS], place: usize, life: Life)
+    ensures { λ _. ⌜ now (m .exit) ≡ putLife (now (m .entry)) (place % 32) life ⌝ }
+{
+    store_words(m, place % 32, encode(life))
+}
