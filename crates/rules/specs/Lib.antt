@@ -22,5 +22,3 @@ pub mod Laws
 pub mod Demand3
 pub mod Built
 pub mod Kept
-pub mod Upstream
-pub mod UpstreamValues

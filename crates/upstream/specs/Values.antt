@@ -8,21 +8,23 @@ use mathlib.Core.Option.{Option, none, some}
 use mathlib.Core.Logic.{_⊎_, inl, inr, ⊎-elim, _↔_}
 use lib.Dec.{eqb}
 use borrow.Author.Tests.{eqb-true, eqb-false, eq-eqb, ne-eqb, not-false}
 use Rattle.rules.specs.Basics.{pick, any, isSome, isNone, holds, sameNumbers, yesNo, one}
-use Rattle.rules.specs.Holds.{Port, Realms, Provision, Registry, Plugin, plugins, lookup, provider, provided, provides, samePort, isIn}
-use Rattle.rules.specs.Holds.{Active, isLoading, isActive, running, withProvisions}
+use Rattle.rules.specs.declared.Port.{Port}
+use Rattle.rules.specs.declared.Phase.the-variants.{Active}
+use Rattle.rules.specs.Holds.{Realms, Provision, Registry, Plugin, plugins, lookup, provider, provided, provides, samePort, isIn}
+use Rattle.rules.specs.Holds.{isLoading, isActive, running, withProvisions}
 use Rattle.rules.specs.Outcomes.{Refused, Accepted, Outcome, answerOf, checked, found}
 use Rattle.rules.specs.Ports.{pairs, oddLength, flat, samePorts, resolve}
 use Rattle.rules.specs.Dependencies.{candidates, skipped, inherit, dependencyList, firstPort}
 use Rattle.rules.specs.Registration.{repeats}
 use Rattle.rules.specs.Values.{valueIn, offered, offer, isEmpty, firstMissing, matching, declares, given, served, read, seen, visible}
 use Rattle.rules.specs.Laws.Tests.{by-test, both, neither}
 use Rattle.rules.specs.Laws.Members.{In, same-port, is-in, any-false, first-in, first-none, lookup-in}
 use Rattle.rules.specs.Laws.Table.{is-active}
 use Rattle.rules.specs.Demand3.Lives.{same-true, same-of}
 use Rattle.rules.specs.Built.{Built}
 use Rattle.rules.specs.Kept.Plugins.{alike}
-use Rattle.rules.specs.Upstream.{accepted, exact, held-by, Effect, has-effect, When, when-passed, when-known}
+use Rattle.upstream.specs.Operations.{accepted, exact, held-by, Effect, has-effect, When, when-passed, when-known}
 
 pub any-append : {A : Type 0} (f : A → Bool) (l m : List A) → any f (l ++ m) ≡ (any f l || any f m)
 any-append f [] m = refl

@@ -10,29 +10,30 @@ use mathlib.Core.Option.{Option, none, some}
 use lib.Dec.{eqb, ltb, leb}
 use lib.ListN.{length}
 use borrow.Author.Tests.{eqb-true, eqb-false, eq-eqb, lt-ltb, le-ltb, not-true}
 use Rattle.rules.specs.Basics.{pick, any, isSome, isNone, holds, yesNo, last}
 use Rattle.rules.specs.Holds.{Provision, Plugin, Registry, lookup, provider, provided, count, rowsInUse, rowsOf, isLoading, isUnloading}
-use Rattle.rules.specs.Holds.{Unissued, Queued, Spent, withGeneration, withRevision, withPayload, withRoot, withRetired}
+use Rattle.rules.specs.declared.Root.the-variants.{Unissued, Queued, Spent}
+use Rattle.rules.specs.Holds.{withGeneration, withRevision, withPayload, withRoot, withRetired}
 use Rattle.rules.specs.Refusals.{Refusal, number, Unknown}
 use Rattle.rules.specs.Outcomes.{Refused, Accepted, Outcome, refuses, stores, answerOf, after, Check, checked, found, known, handingBack}
 use Rattle.rules.specs.Ports.{badRealms, pairs}
 use Rattle.rules.specs.Registration.{Definition, parentOf, resolved, claimed, repeats, unoffered, dependenciesOf, newPlugin, registrationChecks, register}
 use Rattle.rules.specs.Phases.{Begin, moved, setup, begin}
 use Rattle.rules.specs.Replacement.{replace, fits}
 use Rattle.rules.specs.Admission.{Ticket, Invocation, isUnissued, isAccepted, isLive, receipt, admit, admits, call}
 use Rattle.rules.specs.Retirement.{Identity, isChildOf, retireFound, retireChild, identity}
 use Rattle.rules.specs.Values.{isEmpty}
 use Rattle.rules.specs.Slot.{Decision, Assigned, Failed, Cancelled, Slot, pending, assigned, isPending, withDecision}
 use Rattle.rules.specs.Slot.{Decided, decided, assign, reject, cancel}
 use Rattle.rules.specs.Laws.Tests.{by-test, both, Passed, checked-elim, found-elim}
 use Rattle.rules.specs.Laws.Lookups.{lookup-id}
 use Rattle.rules.specs.Laws.Table.{begins}
 use Rattle.rules.specs.Demand3.Lives.{Facts, facts, would-accept}
 use Rattle.rules.specs.Built.{Built}
 use Rattle.rules.specs.Kept.Places.{Only, only-stored, only-added}
 use Rattle.rules.specs.Kept.Plugins.{Alike, alike}
 use Rattle.rules.specs.Kept.Moves.{fresh}
 use Rattle.rules.specs.Kept.New.{new-joins}
 
 -- An operation is accepted exactly if no test refuses.
 abbrev pub accepted : Outcome → Bool

@@ -1,0 +1,1 @@
+// Upstream's clauses follow from the rules: theorems alone, in specs/. No code.
