@@ -4,3 +4,4 @@ pub mod Tiles
 pub mod Dense
 pub mod Removal
 pub mod Freed
+pub mod Stored

@@ -9,6 +9,12 @@ use memory::Words;
 use rules::Phase;
 use rules::Root;
 
+// What an operation without a value answers.
+pub enum Done {
+    Accepted,
+    Refused(u64),
+}
+
 fn phase_of(w: u64) -> Phase
     ensures { λ r. ⌜ r ≡ phaseOf w ⌝ }
 {

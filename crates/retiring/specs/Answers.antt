@@ -1,34 +1,10 @@
--- What the answers say in document 01's numbers, and the words after a removal.
-use Prim.Native.Nat.{ℕ}
-use mathlib.Core.List.{List, [], _∷_}
-use Rattle.rules.specs.Outcomes.{Answer, Refused, Accepted, Outcome, refuses, answers, writes, stores, adds, removes}
-use Rattle.memory.specs.Writes.{findAt}
-use Rattle.memory.specs.declared.Place.{Place}
-use Rattle.memory.specs.declared.Place.the-variants.{At, Nowhere}
-use Rattle.blocks.specs.Moves.{freedPlace}
-use Rattle.retiring.specs.declared.Done.{Done}
-use Rattle.retiring.specs.declared.Done.the-variants as done
+-- What a child identity answers in document 01's numbers.
+use mathlib.Core.List.{[], _∷_}
+use Rattle.rules.specs.Outcomes.{Answer, Refused, Accepted}
 use Rattle.retiring.specs.declared.Child.{Child}
 use Rattle.retiring.specs.declared.Child.the-variants as child
-
-abbrev pub doneAnswer : Done → Answer
-doneAnswer done.Accepted = Accepted []
-doneAnswer (done.Refused n) = Refused n []
 
 abbrev pub childAnswer : Child → Answer
 childAnswer (child.Of domain parent id) = Accepted (domain ∷ parent ∷ id ∷ [])
 childAnswer child.Orphan = Accepted []
 childAnswer (child.Refused n) = Refused n []
-
-abbrev pub freedAtPlace : List ℕ → Place → List ℕ
-freedAtPlace m (At i) = freedPlace m i
-freedAtPlace m Nowhere = m
-
--- The words after a removal; any other outcome leaves them.
-unfoldable pub removedFrom : List ℕ → Outcome → List ℕ
-removedFrom m (refuses x vs) = m
-removedFrom m (answers vs) = m
-removedFrom m (writes place l vs) = m
-removedFrom m (stores q vs) = m
-removedFrom m (adds q vs) = m
-removedFrom m (removes id vs) = freedAtPlace m (findAt m id)

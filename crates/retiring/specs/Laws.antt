@@ -1,50 +1,31 @@
 -- What each operation of the rules comes to where the id is found in the words, and where it is not; and what its answer says then.
-use Prim.Native.Nat.{ℕ, suc, _+_, _-_, _%_, _<_, _≤_}
+use Prim.Native.Nat.{ℕ, _%_, _<_, _≤_}
 use native.Mathlib.Omega.{arith}
-use native.Mathlib.Nat.{mod-eq-of-lt}
 use mathlib.Core.Path.{_≡_, refl, sym, ap, _∙_}
 use mathlib.Core.Logic.{_≢_}
-use mathlib.Core.Bool.{Bool, true, false, not, _&&_}
+use mathlib.Core.Bool.{Bool, true, false}
 use mathlib.Core.List.{List, [], _∷_}
 use mathlib.Core.Option.{some}
 use lib.Dec.{eqb, ltb}
 use borrow.Author.Tests.{lt-ltb, le-ltb, le-leb, lt-leb, eq-eqb, ne-eqb}
-use Rattle.rules.specs.Basics.{any, holds}
-use Rattle.rules.specs.Holds.{Plugin, held, plugins, isIdle, withRetired, lookup}
-use Rattle.rules.specs.Refusals.{Refusal, number, Unknown, Retired, InvalidState, HasChildren}
-use Rattle.rules.specs.Outcomes.{Outcome, refuses, answers, stores, removes, _⇒_, checked, answerOf}
-use Rattle.rules.specs.Retirement.{Identity, isChildOf, retire, retireFound, retireChild, identity, childIdentity, remove}
-use Rattle.memory.specs.Layout.{word, taken}
-use Rattle.memory.specs.View.{parentAt, lifeAt, pluginAt, placeAt, placesFrom, view}
+use Rattle.rules.specs.Basics.{holds}
+use Rattle.rules.specs.Holds.{Plugin, withRetired, lookup}
+use Rattle.rules.specs.Refusals.{Unknown, Retired, InvalidState}
+use Rattle.rules.specs.Outcomes.{Refused, Accepted, Outcome, refuses, answers, stores, _⇒_, checked, answerOf}
+use Rattle.rules.specs.Retirement.{Identity, isChildOf, retire, retireFound, retireChild, identity, childIdentity}
+use Rattle.memory.specs.Layout.{word}
+use Rattle.memory.specs.View.{parentAt, lifeAt, pluginAt, view}
 use Rattle.memory.specs.Writes.{parentId, findAt, putLife}
 use Rattle.memory.specs.Frames.{withLife}
-use Rattle.memory.specs.Known.{at-place, at-lookup, at-known, none-lookup, none-known, storedLife, stored-at}
+use Rattle.memory.specs.Known.{at-place, at-lookup, at-known, none-lookup, none-known}
 use Rattle.memory.specs.declared.Life.{Life}
 use Rattle.memory.specs.declared.Parent.{Parent}
 use Rattle.memory.specs.declared.Parent.the-variants.{Of, Nobody}
 use Rattle.memory.specs.declared.Place.the-variants.{At, Nowhere}
-use Rattle.blocks.specs.Moves.{freedPlace}
-use Rattle.retiring.specs.Answers.{doneAnswer, childAnswer, removedFrom}
+use Rattle.living.specs.Told.{Told, told-refused, told-stored, life-found}
+use Rattle.retiring.specs.Answers.{childAnswer}
 use Rattle.retiring.specs.Marks.{markedLife}
-use Rattle.retiring.specs.declared.Done.{Done}
-use Rattle.retiring.specs.declared.Done.the-variants as done
 use Rattle.retiring.specs.declared.Child.the-variants as child
-
--- an answer, and the words after an outcome that stores a life
-abbrev pub Told : Outcome → List ℕ → Done → List ℕ → Type 0
-Told o m r m′ = (doneAnswer r ≡ answerOf o) × (m′ ≡ storedLife m o)
-
--- the same of a removal
-abbrev pub Freed : Outcome → List ℕ → Done → List ℕ → Type 0
-Freed o m r m′ = (doneAnswer r ≡ answerOf o) × (m′ ≡ removedFrom m o)
-
-pub told-refused : (o : Outcome) (m : List ℕ) (x : Refusal) → o ≡ refuses x [] → Told o m (done.Refused (number x)) m
-unfolding storedLife
-told-refused o m x e = (rw e, rw e)
-
-pub told-same : (o : Outcome) (m : List ℕ) → o ≡ answers [] → Told o m done.Accepted m
-unfolding storedLife
-told-same o m e = (rw e, rw e)
 
 -- what retiring comes to once the plugin is found
 abbrev pub mark : Plugin → Outcome
@@ -62,16 +43,15 @@ module _ (m : List ℕ) (i : ℕ) where
 -- a plugin found, its life loaded, and perhaps a marked one stored
 module _ (m : List ℕ) (id i : ℕ) (o : Outcome) (life : Life) (e : findAt m id ≡ At i) (g : o ≡ mark (pluginAt m i)) (l : life ≡ lifeAt m (i % 32)) where
   loaded : life ≡ lifeAt m i
-  loaded = l ∙ ap (lifeAt m) (at-place m id i e)
+  loaded = life-found m id i e life l
 
-  pub told-retired : life .retired ≡ true → Told o m (done.Refused 2) m
-  told-retired t = told-refused o m Retired (g ∙ mark-retired m i (rw loaded at t))
+  pub told-retired : life .retired ≡ true → Told o m (Refused 2 []) m
+  told-retired t = told-refused o m Retired [] (g ∙ mark-retired m i (rw loaded at t))
 
-  pub told-marked : (l′ : Life) (m′ : List ℕ) → life .retired ≡ false → l′ ≡ markedLife life → m′ ≡ putLife m (i % 32) l′ → Told o m done.Accepted m′
+  pub told-marked : (l′ : Life) (m′ : List ℕ) → life .retired ≡ false → l′ ≡ markedLife life → m′ ≡ putLife m (i % 32) l′ → Told o m (Accepted []) m′
   told-marked l′ m′ f s p =
       let k : o ≡ stores (withLife (pluginAt m i) (markedLife (lifeAt m i))) [] = g ∙ mark-stores m i (rw loaded at f) in
-      let a : m′ ≡ putLife m i (markedLife (lifeAt m i)) = rw (p, s, loaded, at-place m id i e) in
-      (rw k, rw k (a ∙ sym (stored-at m id i e (markedLife (lifeAt m i)) [])))
+      told-stored o m id i [] (markedLife (lifeAt m i)) m′ e k (p ∙ ap (putLife m (i % 32)) (s ∙ ap markedLife loaded))
 
 -- by id
 pub retire-none : (m : List ℕ) (id : ℕ) → findAt m id ≡ Nowhere → retire (view m) id ≡ refuses Unknown []
@@ -146,80 +126,3 @@ module _ (m : List ℕ) (id : ℕ) where
 
     pub identity-child : (d p : ℕ) → q ≡ Of p → d ≡ word m 0 → childAnswer (child.Of d p id) ≡ answerOf (childIdentity (view m) id)
     identity-child d p s w = rw (identity-found, s, w)
-
--- removal
-abbrev pub removal : List ℕ → ℕ → Plugin → Outcome
-removal m id p =
-    checked
-    ((not (isIdle (p .phase) && p .retired) ⇒ InvalidState)
-    ∷ (any (isChildOf id) (plugins (view m)) ⇒ HasChildren)
-    ∷ [])
-    (removes id [])
-
-pub freed-refused : (o : Outcome) (m : List ℕ) (x : Refusal) → o ≡ refuses x [] → Freed o m (done.Refused (number x)) m
-unfolding removedFrom
-freed-refused o m x e = (rw e, rw e)
-
-pub remove-none : (m : List ℕ) (id : ℕ) → findAt m id ≡ Nowhere → remove (view m) id ≡ refuses Unknown []
-unfolding remove
-remove-none m id e = none-known m id e (removal m id)
-
-pub remove-found : (m : List ℕ) (id i : ℕ) → findAt m id ≡ At i → remove (view m) id ≡ removal m id (pluginAt m i)
-unfolding remove
-remove-found m id i e = at-known m id i e (removal m id)
-
-module _ (m : List ℕ) (id i : ℕ) (life : Life) (b : Bool) (e : findAt m id ≡ At i) (l : life ≡ lifeAt m (i % 32)) (t : b ≡ (isIdle (life .phase) && life .retired)) where
-  removable : (isIdle (pluginAt m i .phase) && pluginAt m i .retired) ≡ b
-  unfolding pluginAt
-  removable = sym (t ∙ ap (λ x. isIdle (x .phase) && x .retired) (l ∙ ap (lifeAt m) (at-place m id i e)))
-
-  pub remove-not : b ≡ false → remove (view m) id ≡ refuses InvalidState []
-  unfolding checked
-  remove-not f = remove-found m id i e ∙ rw (removable ∙ f)
-
-  module _ (k : Bool) (y : b ≡ true) (u : k ≡ any (isChildOf id) (plugins (view m))) where
-    pub remove-parent : k ≡ true → remove (view m) id ≡ refuses HasChildren []
-    unfolding checked
-    remove-parent z = remove-found m id i e ∙ rw (removable ∙ y) (rw (sym u ∙ z))
-
-    remove-done : k ≡ false → remove (view m) id ≡ removes id []
-    unfolding checked
-    remove-done z = remove-found m id i e ∙ rw (removable ∙ y) (rw (sym u ∙ z))
-
-    pub freed-done : (m′ : List ℕ) → k ≡ false → m′ ≡ freedPlace m (i % 32) → Freed (remove (view m) id) m done.Accepted m′
-    unfolding removedFrom
-    freed-done m′ z s = (rw (remove-done z), rw (remove-done z, e) (s ∙ ap (freedPlace m) (at-place m id i e)))
-
--- whether one of the plugins of n places from i on names the id as parent
-unfoldable pub childrenFrom : ℕ → List ℕ → ℕ → ℕ → Bool
-childrenFrom n m id i = any (isChildOf id) (held (placesFrom n m i))
-
-pub children-all : (m : List ℕ) (id : ℕ) → any (isChildOf id) (plugins (view m)) ≡ childrenFrom 32 m id 0
-unfolding childrenFrom view
-children-all m id = refl
-
-module _ (m : List ℕ) (id i : ℕ) where
-  pub children-end : 32 ≤ i → childrenFrom (32 - i) m id i ≡ false
-  unfolding childrenFrom placesFrom
-  children-end h = let s : 32 - i ≡ 0 = omega arith in rw s
-
-  module _ (h : i < 32) where
-    one-less : 32 - i ≡ suc (32 - (i + 1))
-    one-less = omega arith
-
-    pub children-free : taken m i ≡ false → childrenFrom (32 - i) m id i ≡ childrenFrom (32 - (i + 1)) m id (i + 1)
-    unfolding childrenFrom placesFrom placeAt
-    children-free f = rw one-less (rw f)
-
-    module _ (b : Bool) (t : taken m i ≡ true) (c : b ≡ holds (eqb id) (parentAt m (i % 32))) where
-      named : isChildOf id (pluginAt m i) ≡ b
-      unfolding pluginAt
-      named = sym (c ∙ ap (λ k. holds (eqb id) (parentAt m k)) (mod-eq-of-lt h))
-
-      pub children-here : b ≡ true → childrenFrom (32 - i) m id i ≡ true
-      unfolding childrenFrom placesFrom placeAt
-      children-here y = rw one-less (rw t (rw (named ∙ y)))
-
-      pub children-not : b ≡ false → childrenFrom (32 - i) m id i ≡ childrenFrom (32 - (i + 1)) m id (i + 1)
-      unfolding childrenFrom placesFrom placeAt
-      children-not f = rw one-less (rw t (rw (named ∙ f)))

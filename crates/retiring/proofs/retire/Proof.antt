@@ -1,7 +1,9 @@
 -- `retire` meets its contract: each return is a case of the rule.
 use mathlib.Core.Path.{sym, _∙_}
 use Rattle.rules.specs.Refusals.{Unknown}
-use Rattle.retiring.specs.Laws.{told-refused, told-retired, told-marked, retire-none, retire-found}
+use mathlib.Core.List.{[]}
+use Rattle.living.specs.Told.{told-refused}
+use Rattle.retiring.specs.Laws.{told-retired, told-marked, retire-none, retire-found}
 use borrow.Author.Needs.{needs}
 use Rattle.retiring.proofs.retire.Statement.{statement}
 use Rattle.retiring.proofs.retire.Tie as tie
@@ -16,7 +18,7 @@ enum-told : tie.Need-enum-told
 enum-told c = search needs
 
 returns : tie.Need-returns
-returns c = told-refused _ _ Unknown (retire-none _ _ (sym (c .before .before .find .ensures) ∙ c .enum-told .given .1))
+returns c = told-refused _ _ Unknown [] (retire-none _ _ (sym (c .before .before .find .ensures) ∙ c .enum-told .given .1))
 
 load-requires : tie.Need-load-requires
 load-requires c κs = search needs

@@ -1,7 +1,9 @@
 -- `retire_child` meets its contract: each return is a case of the rule.
 use mathlib.Core.Path.{sym, _∙_}
 use Rattle.rules.specs.Refusals.{Unknown, InvalidState}
-use Rattle.retiring.specs.Laws.{told-refused, told-same, told-retired, told-marked, child-foreign, child-below, child-above, child-gone, child-other, child-marks}
+use mathlib.Core.List.{[]}
+use Rattle.living.specs.Told.{told-refused, told-same}
+use Rattle.retiring.specs.Laws.{told-retired, told-marked, child-foreign, child-below, child-above, child-gone, child-other, child-marks}
 use native.Mathlib.Omega.{arith}
 use borrow.Author.Needs.{needs}
 use Rattle.retiring.proofs.retire_child.Statement.{statement}
@@ -11,7 +13,7 @@ domain-requires : tie.Need-domain-requires
 domain-requires c κs = search needs
 
 returns : tie.Need-returns
-returns c = told-refused _ _ InvalidState (child-foreign _ _ _ (c .before .domain .ensures) (c .if1 .taken))
+returns c = told-refused _ _ InvalidState [] (child-foreign _ _ _ (c .before .domain .ensures) (c .if1 .taken))
 
 first-id-requires : tie.Need-first-id-requires
 first-id-requires c κs = search needs
@@ -19,7 +21,7 @@ first-id-requires c κs = search needs
 returns-2 : tie.Need-returns-2
 returns-2 c =
     let s = c .before .before .before in
-    told-refused _ _ Unknown (child-below _ _ _ (s .before .domain .ensures) _ (s .if1 .left) (c .before .first-id .ensures) (c .if2 .taken))
+    told-refused _ _ Unknown [] (child-below _ _ _ (s .before .domain .ensures) _ (s .if1 .left) (c .before .first-id .ensures) (c .if2 .taken))
 
 next-id-requires : tie.Need-next-id-requires
 next-id-requires c κs = search needs
@@ -28,7 +30,7 @@ returns-3 : tie.Need-returns-3
 returns-3 c =
     let p = c .before .before .before in
     let s = p .before .before .before in
-    told-refused _ _ Unknown (child-above _ _ _ (s .before .domain .ensures) _ (s .if1 .left) (p .before .first-id .ensures) _ (p .if2 .left) (c .before .next-id .ensures) (omega arith))
+    told-refused _ _ Unknown [] (child-above _ _ _ (s .before .domain .ensures) _ (s .if1 .left) (p .before .first-id .ensures) _ (p .if2 .left) (c .before .next-id .ensures) (omega arith))
 
 find-requires : tie.Need-find-requires
 find-requires c κs = search needs
@@ -45,7 +47,7 @@ returns-4 c =
     let n = f .before .before in
     let p = n .before .before .before in
     let s = p .before .before .before in
-    told-same _ _ (child-gone _ _ _ (s .before .domain .ensures) _ (s .if1 .left) (p .before .first-id .ensures) _ (p .if2 .left) (n .before .next-id .ensures) (n .if3 .left) (sym (f .find .ensures) ∙ c .enum-told .given .1))
+    told-same _ _ [] (child-gone _ _ _ (s .before .domain .ensures) _ (s .if1 .left) (p .before .first-id .ensures) _ (p .if2 .left) (n .before .next-id .ensures) (n .if3 .left) (sym (f .find .ensures) ∙ c .enum-told .given .1))
 
 is-child-of-requires : tie.Need-is-child-of-requires
 is-child-of-requires c κs = search needs
@@ -90,7 +92,7 @@ returns-7 c =
     let p = n .before .before .before in
     let s = p .before .before .before in
     let e = sym (f .find .ensures) ∙ a .child .given .1 in
-    told-refused _ _ InvalidState (child-other _ _ _ (s .before .domain .ensures) _ (s .if1 .left) (p .before .first-id .ensures) _ (p .if2 .left) (n .before .next-id .ensures) (n .if3 .left) _ _ e (c .before .is-child-of .ensures) (c .if4 .left))
+    told-refused _ _ InvalidState [] (child-other _ _ _ (s .before .domain .ensures) _ (s .if1 .left) (p .before .first-id .ensures) _ (p .if2 .left) (n .before .next-id .ensures) (n .if3 .left) _ _ e (c .before .is-child-of .ensures) (c .if4 .left))
 
 pub retire-child-spec : {M : Type 1} → statement M
 retire-child-spec =

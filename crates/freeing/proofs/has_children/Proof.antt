@@ -6,11 +6,11 @@ use Rattle.rules.specs.Basics.{any}
 use Rattle.rules.specs.Holds.{plugins}
 use Rattle.rules.specs.Retirement.{isChildOf}
 use Rattle.memory.specs.View.{view}
-use Rattle.retiring.specs.Laws.{childrenFrom, children-all, children-end, children-free, children-here, children-not}
+use Rattle.freeing.specs.Laws.{childrenFrom, children-all, children-end, children-free, children-here, children-not}
 use native.Mathlib.Omega.{arith}
 use borrow.Author.Needs.{needs}
-use Rattle.retiring.proofs.has_children.Statement.{statement}
-use Rattle.retiring.proofs.has_children.Tie as tie
+use Rattle.freeing.proofs.has_children.Statement.{statement}
+use Rattle.freeing.proofs.has_children.Tie as tie
 
 abbrev Inv-loop : tie.InvT-loop
 Inv-loop m id i₀ i = (i ≤ 32) × (any (isChildOf id) (plugins (view m)) ≡ childrenFrom (32 - i) m id i)

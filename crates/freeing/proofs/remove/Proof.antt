@@ -1,10 +1,10 @@
 -- `remove` meets its contract: each return is a case of the rule.
 use mathlib.Core.Path.{sym, _∙_}
 use Rattle.rules.specs.Refusals.{Unknown, InvalidState, HasChildren}
-use Rattle.retiring.specs.Laws.{freed-refused, freed-done, remove-none, remove-not, remove-parent}
+use Rattle.freeing.specs.Laws.{freed-refused, freed-done, remove-none, remove-not, remove-parent}
 use borrow.Author.Needs.{needs}
-use Rattle.retiring.proofs.remove.Statement.{statement}
-use Rattle.retiring.proofs.remove.Tie as tie
+use Rattle.freeing.proofs.remove.Statement.{statement}
+use Rattle.freeing.proofs.remove.Tie as tie
 
 find-requires : tie.Need-find-requires
 find-requires c κs = search needs

@@ -1,7 +1,7 @@
 -- `is_removable` meets its contract: one case for each phase.
 use borrow.Author.Needs.{needs}
-use Rattle.retiring.proofs.is_removable.Statement.{statement}
-use Rattle.retiring.proofs.is_removable.Tie as tie
+use Rattle.freeing.proofs.is_removable.Statement.{statement}
+use Rattle.freeing.proofs.is_removable.Tie as tie
 
 enum-told : tie.Need-enum-told
 enum-told c = search needs

@@ -6,27 +6,29 @@ use mathlib.Core.Bool.{Bool, true, false, _&&_}
 use mathlib.Core.List.{List, [], _∷_, _++_}
 use mathlib.Core.Option.{none, some}
 use lib.Dec.{eqb}
 use Rattle.rules.specs.Basics.{any, all, sameNumbers}
-use Rattle.rules.specs.Holds.{Port, port, Registry, Idle, Loading, opened, lookup, count, provider, rowsInUse}
+use Rattle.rules.specs.declared.Port.{Port}
+use Rattle.rules.specs.declared.Phase.the-variants.{Idle, Loading}
+use Rattle.rules.specs.Holds.{port, Registry, opened, lookup, count, provider, rowsInUse}
 use Rattle.rules.specs.Refusals.{Refusal, number, Unknown, Retired, InvalidState, BadRealms, TooManyKeys, DuplicateDependency, DuplicateProvision, Taken}
 use Rattle.rules.specs.Refusals.{NoId, Full, TooLong, NoRows, Stale, Unavailable, InUse, Exhausted}
 use Rattle.rules.specs.Refusals.{NotRun, HasChildren, Closed, Undeclared, Duplicate, Missing, ShortBuffer}
 use Rattle.rules.specs.Outcomes.{Answer, Refused, Accepted, answerOf, after, lentAfter, checked, found, handingBack}
 use Rattle.rules.specs.Ports.{badRealms, resolve, resolveKey}
 use Rattle.rules.specs.Dependencies.{dependencyList, dependencyPort}
 use Rattle.rules.specs.Registration.{dependenciesOf, newPlugin, register}
 use Rattle.rules.specs.Phases.{begin, ready, fail, unload, finish}
 use Rattle.rules.specs.Replacement.{replace, fits}
 use Rattle.rules.specs.Admission.{Ticket, Invocation, admit, admits, isAccepted, isLive, call}
 use Rattle.rules.specs.Retirement.{Identity, retire, retireChild, childIdentity, remove}
 use Rattle.rules.specs.Values.{offer, read, visible, own, missing, matching, declares}
 use Rattle.rules.specs.Lists.{Dependencies, Provisions, RealmRows, listing, list}
 use Rattle.rules.specs.Queries.{Parent, Anchor, PhaseOf, RetiredMark, Generation, Revision, Payload, RootOf, askPlugin}
 use Rattle.rules.specs.Queries.{Domain, FirstId, NextId, Registered, RowsInUse, askRegistry, nextAbove}
 use Rattle.rules.specs.Steps.{Op, ResolveKey, DependencyPort, Register, Begin, Ready, Fail, Unload, Finish, Replace, Fits, Admit, Admits, Call}
 use Rattle.rules.specs.Steps.{Retire, RetireChild, ChildIdentity, Remove, Offer, Read, Visible, Own, FirstMissing, Matching, Declares}
 use Rattle.rules.specs.Steps.{Listed, AskPlugin, AskRegistry, NextAbove, step}
 use Rattle.rules.specs.Examples.{registers, fresh, plain, ticket, invocation, worn, holding}
 
 infix 68 _↝_
 -- A line of a transcript: an operation and its answer.
