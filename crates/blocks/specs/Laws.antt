@@ -11,9 +11,12 @@ use lib.ListN.{length, set, length-set}
 use lib.Seq.{getD-set-same, getD-set-other}
 use borrow.Author.Tests.{eqb-true, eqb-false}
 use Rattle.rules.specs.Holds.{rowsInUse}
-use Rattle.memory.specs.Layout.{word, taken, startAt, depsAt, provsAt}
+use Rattle.rules.specs.Laws.Tests.{by-test}
+use Rattle.memory.specs.Layout.{word, taken, startAt, depsAt, provsAt, rowWord}
 use Rattle.memory.specs.View.{view}
 use Rattle.places.specs.Changes.{vacatedAt}
+use Rattle.places.specs.Taken.{vacated-length}
+use Rattle.places.specs.Rows.{rowsAt}
 use Rattle.blocks.specs.Moves.{moved, closedGap, lowered, lowerFrom, freedPlace}
 
 -- words moved down
@@ -117,3 +120,16 @@ free-steps m m₁ m₂ m₃ p s d v u end h t e₁ e₂ e₃ e₄ e₅ e₆ e₇
 pub free-not : (m : List ℕ) (p : ℕ) → taken m p ≡ false → m ≡ freedPlace m p
 unfolding freedPlace
 free-not m p f = rw f
+
+-- on any words, there are as many afterwards
+pub freed-size : (m : List ℕ) (p : ℕ) → length (freedPlace m p) ≡ length m
+unfolding freedPlace
+freed-size m p =
+    let s = startAt m p in
+    let c = rowsAt m p in
+    let end = min (rowsInUse (view m)) 1024 in
+    by-test (taken m p)
+    (λ t. rw t (
+    vacated-length (lowerFrom 32 (closedGap m s c end) (s + c) c 0) p ∙ lower-length 32 (closedGap m s c end) (s + c) c 0
+    ∙ moved-length ((end - (s + c)) * 2) m (rowWord s) (c * 2)))
+    (λ f. rw f)

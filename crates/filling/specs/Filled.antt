@@ -6,7 +6,7 @@ use mathlib.Core.Bool.{Bool, true, false}
 use mathlib.Core.Logic.{_≢_}
 use mathlib.Core.List.{List, [], _∷_}
 use mathlib.Core.Option.{none, some}
-use lib.Dec.{ltb, lit<}
+use lib.Dec.{ltb, leb, lit<}
 use lib.ListN.{length, getD, set, length-set}
 use lib.Seq.{getD-set-same, getD-set-other}
 use borrow.Author.Tests.{ltb-true, ltb-false, le-leb}
@@ -33,6 +33,23 @@ puts-apart vs m b k j n = by-test (ltb j (b + k))
     (λ f. by-test (ltb j (b + k + length vs))
     (λ y. absurd (n (ltb-false _ _ f) (ltb-true _ _ y)))
     (λ g. puts-after vs m b k j (ltb-false _ _ g)))
+
+-- on any words, there are as many afterwards
+pub filled-size : (m : List ℕ) (p : ℕ) (e : Entry) (ds cs zs : List ℕ) → length (filledPlace m p e ds cs zs) ≡ length m
+unfolding filledPlace
+filled-size m p e ds cs zs =
+    let r = rowWord (e .start) in
+    let m₁ = puts m r 0 ds in
+    let m₂ = puts m₁ (r + length ds) 0 cs in
+    let m₃ = puts m₂ (p * 72 + 39) 0 zs in
+    let m₄ = puts m₃ (p * 72) 8 (entryWords e) in
+    by-test (leb (e .start) 1024)
+    (λ t. by-test (leb (length ds) 96)
+    (λ u. rw (t, u) (
+    occupied-length (set m₄ 2 (e .next)) p ∙ length-set m₄ 2 (e .next) ∙ puts-length (entryWords e) m₃ (p * 72) 8
+    ∙ puts-length zs m₂ (p * 72 + 39) 0 ∙ puts-length cs m₁ (r + length ds) 0 ∙ puts-length ds m r 0))
+    (λ f. rw (t, f)))
+    (λ f. rw f)
 
 -- What is written of a newcomer, with its first row and the next id.
 abbrev pub entryOf : Newcomer → ℕ → ℕ → Entry

@@ -14,7 +14,7 @@ use Rattle.rules.specs.Outcomes.{Outcome, refuses, answers, writes, stores, add
 use Rattle.memory.specs.Layout.{taken, idAt}
 use Rattle.memory.specs.View.{lifeAt, pluginAt, view}
 use Rattle.memory.specs.Writes.{findAt, putLife}
-use Rattle.memory.specs.Frames.{withLife}
+use Rattle.memory.specs.Frames.{withLife, life-length}
 use Rattle.memory.specs.Lookups.{placed, lookup-view, Found, find-found}
 use Rattle.memory.specs.Stores.{Alone, store-view}
 use Rattle.memory.specs.declared.Life.{Life}
@@ -88,3 +88,17 @@ pub stored-view : (m : List ℕ) → length m ≡ 4488 → Alone m → (id i : �
     → view (storedLife m (stores (withLife (pluginAt m i) l) vs)) ≡ after (view m) (stores (withLife (pluginAt m i) l) vs)
 stored-view m size alone id i e l vs =
     ap view (stored-at m id i e l vs) ∙ store-view m i l (at-below m id i e) size alone (at-taken m id i e) vs
+
+-- On any words, there are as many after a life is stored.
+pub stored-size : (m : List ℕ) (o : Outcome) → length (storedLife m o) ≡ length m
+unfolding storedLife
+stored-size m (refuses x vs) = refl
+stored-size m (answers vs) = refl
+stored-size m (writes place l vs) = refl
+stored-size m (stores q vs) = at (findAt m (q .id))
+  where
+    at : (p : Place) → length (putLifeAt m p (lifeOf q)) ≡ length m
+    at Nowhere = refl
+    at (At i) = life-length m i (lifeOf q)
+stored-size m (adds q vs) = refl
+stored-size m (removes id vs) = refl

@@ -1,5 +1,6 @@
 -- What a registration answers, and the words it leaves.
 use Prim.Native.Nat.{ℕ, _+_, _-_, _/_, _%_}
+use mathlib.Core.Path.{_≡_, refl, ap}
 use mathlib.Core.List.{List, [], _∷_}
 use mathlib.Core.Option.{Option, none, some}
 use lib.Dec.{eqb}
@@ -19,6 +20,7 @@ use Rattle.memory.specs.declared.Place.{Place}
 use Rattle.memory.specs.declared.Place.the-variants.{At, Nowhere}
 use Rattle.places.specs.Changes.{freeAt}
 use Rattle.filling.specs.Entries.{filledPlace}
+use Rattle.filling.specs.Filled.{filled-size}
 use Rattle.filling.specs.declared.Entry.{Entry}
 use Rattle.checks.specs.Verdicts.{lateChecks, verdict}
 use Rattle.registering.specs.declared.Registered.{Registered}
@@ -96,3 +98,26 @@ unfoldable pub settledWords : List ℕ → Option ℕ → ℕ → ℕ → List �
 settledWords m parent payload count dependencies claims realms = pick (eqb (lateVerdict m count claims) 0)
     (writtenAt m (freeAt m) (newEntry m parent payload count (length claims / 2 - 1) (length realms / 2)) dependencies claims realms)
     m
+
+-- On any words, there are as many after a registration.
+pub added-size : (m : List ℕ) (o : Outcome) → length (addedTo m o) ≡ length m
+unfolding addedTo
+added-size m (refuses x vs) = refl
+added-size m (answers vs) = refl
+added-size m (writes place l vs) = refl
+added-size m (stores q vs) = refl
+added-size m (adds q vs) = at (freeAt m)
+  where
+    at : (free : Place)
+        → length (writtenAt m free (newEntry m (q .parent) (q .payload) (length (q .dependencies)) (length (q .provisions)) (length (q .realms .rows)))
+        (flat (q .dependencies)) (flat (q .anchor ∷ provided q)) (flat (q .realms .rows))) ≡ length m
+    at Nowhere = refl
+    at (At p) = filled-size m p _ _ _ _
+added-size m (removes id vs) = refl
+
+-- Any two outcomes that the promise of a registration allows are equal.
+pub registered-exact : (a b : Registered) → registeredAnswer a ≡ registeredAnswer b → a ≡ b
+registered-exact (registered.Id n) (registered.Id k) e = let j : n ≡ k = cc in ap registered.Id j
+registered-exact (registered.Id n) (registered.Refused k) e = cc
+registered-exact (registered.Refused n) (registered.Id k) e = cc
+registered-exact (registered.Refused n) (registered.Refused k) e = let j : n ≡ k = cc in ap registered.Refused j
