@@ -15,7 +15,8 @@ pub enum Done {
     Refused(u64),
 }
 
-fn phase_of(w: u64) -> Phase
+// A phase by its number; any number above 3 is read as 3.
+pub fn phase_of(w: u64) -> Phase
     ensures { λ r. ⌜ r ≡ phaseOf w ⌝ }
 {
     match w {

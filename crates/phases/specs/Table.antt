@@ -1,0 +1,28 @@
+-- The code's table beside document 01's.
+use Prim.Native.Nat.{ℕ}
+use mathlib.Core.Option.{Option, none, some}
+use lib.Dec.{eqb}
+use Rattle.rules.specs.Basics.{pick}
+use Rattle.rules.specs.declared.Phase.{Phase}
+use Rattle.rules.specs.Phases as rules
+use Rattle.memory.specs.View.{phaseOf}
+use Rattle.phases.specs.declared.Step.{Step}
+use Rattle.phases.specs.declared.Step.the-variants.{Begin, Ready, Fail, Unload, Finish}
+use Rattle.phases.specs.declared.Cell.{Cell}
+use Rattle.phases.specs.declared.Cell.the-variants.{To, Empty}
+
+abbrev pub ruled : Step → rules.Step
+ruled Begin = rules.Begin
+ruled Ready = rules.Ready
+ruled Fail = rules.Fail
+ruled Unload = rules.Unload
+ruled Finish = rules.Finish
+
+-- a cell of the table
+abbrev pub cellOf : Option Phase → Cell
+cellOf none = Empty
+cellOf (some p) = To p
+
+-- a phase by its number; 4 is an empty cell
+abbrev pub numbered : ℕ → Cell
+numbered n = pick (eqb n 4) Empty (To (phaseOf n))

@@ -1,0 +1,63 @@
+// Document 01, "Phases": the table of phases and steps, which is the whole rule.
+ghost use mathlib.Core.Path.{_≡_};
+ghost use Prim.Native.Nat.{_<_};
+ghost use Rattle.rules.specs.Phases.{column, cell};
+ghost use Rattle.rules.specs.Queries.{phaseNumber};
+ghost use Rattle.phases.specs.Table.{ruled, cellOf, numbered};
+use rules::Phase;
+
+pub enum Step {
+    Begin,
+    Ready,
+    Fail,
+    Unload,
+    Finish,
+}
+
+// The phase that a step leads to; or an empty cell.
+pub enum Cell {
+    To(Phase),
+    Empty,
+}
+
+// A row for each of Idle, Loading, Active and Unloading; begin, ready, fail, unload and finish across. A phase by its number, 4 where the cell is empty.
+const NEXT: [u64; 20] = [1, 4, 4, 4, 4, 4, 2, 3, 4, 4, 4, 4, 4, 3, 4, 4, 4, 4, 4, 0];
+
+fn row(phase: Phase) -> usize
+    ensures { λ r. ⌜ r ≡ phaseNumber phase ⌝ ∗ ⌜ r < 4 ⌝ }
+{
+    match phase {
+        Phase::Idle => 0,
+        Phase::Loading => 1,
+        Phase::Active => 2,
+        Phase::Unloading => 3,
+    }
+}
+
+fn column(step: Step) -> usize
+    ensures { λ r. ⌜ r ≡ column (ruled step) ⌝ ∗ ⌜ r < 5 ⌝ }
+{
+    match step {
+        Step::Begin => 0,
+        Step::Ready => 1,
+        Step::Fail => 2,
+        Step::Unload => 3,
+        Step::Finish => 4,
+    }
+}
+
+fn cell_of(number: u64) -> Cell
+    ensures { λ r. ⌜ r ≡ numbered number ⌝ }
+{
+    if number == 4 {
+        return Cell::Empty;
+    }
+    Cell::To(living::phase_of(number))
+}
+
+// The cell of a phase and a step.
+pub fn next(phase: Phase, step: Step) -> Cell
+    ensures { λ r. ⌜ r ≡ cellOf (cell phase (ruled step)) ⌝ }
+{
+    cell_of(NEXT[row(phase) * 5 + column(step)])
+}
