@@ -1,18 +1,16 @@
 -- What removal comes to where the id is found in the words, and where it is not.
-use Prim.Native.Nat.{ℕ, suc, _+_, _-_, _%_, _<_, _≤_}
-use native.Mathlib.Omega.{arith}
+use Prim.Native.Nat.{ℕ, _%_, _<_}
 use native.Mathlib.Nat.{mod-eq-of-lt}
 use mathlib.Core.Path.{_≡_, refl, sym, ap, _∙_}
 use mathlib.Core.Bool.{Bool, true, false, not, _&&_}
 use mathlib.Core.List.{List, [], _∷_}
 use lib.Dec.{eqb}
 use Rattle.rules.specs.Basics.{any, holds}
-use Rattle.rules.specs.Holds.{Plugin, held, plugins, isIdle}
+use Rattle.rules.specs.Holds.{Plugin, plugins, isIdle}
 use Rattle.rules.specs.Refusals.{Refusal, number, Unknown, InvalidState, HasChildren}
 use Rattle.rules.specs.Outcomes.{Outcome, refuses, removes, _⇒_, checked, answerOf}
 use Rattle.rules.specs.Retirement.{isChildOf, remove}
-use Rattle.memory.specs.Layout.{taken}
-use Rattle.memory.specs.View.{parentAt, lifeAt, pluginAt, placeAt, placesFrom, view}
+use Rattle.memory.specs.View.{parentAt, lifeAt, pluginAt, view}
 use Rattle.memory.specs.Writes.{findAt}
 use Rattle.memory.specs.Known.{at-place, at-known, none-known}
 use Rattle.memory.specs.declared.Life.{Life}
@@ -69,36 +67,7 @@ module _ (m : List ℕ) (id i : ℕ) (life : Life) (b : Bool) (e : findAt m id �
     unfolding removedFrom
     freed-done m′ z s = (rw (remove-done z), rw (remove-done z, e) (s ∙ ap (freedPlace m) (at-place m id i e)))
 
--- whether one of the plugins of n places from i on names the id as parent
-unfoldable pub childrenFrom : ℕ → List ℕ → ℕ → ℕ → Bool
-childrenFrom n m id i = any (isChildOf id) (held (placesFrom n m i))
-
-pub children-all : (m : List ℕ) (id : ℕ) → any (isChildOf id) (plugins (view m)) ≡ childrenFrom 32 m id 0
-unfolding childrenFrom view
-children-all m id = refl
-
-module _ (m : List ℕ) (id i : ℕ) where
-  pub children-end : 32 ≤ i → childrenFrom (32 - i) m id i ≡ false
-  unfolding childrenFrom placesFrom
-  children-end h = let s : 32 - i ≡ 0 = omega arith in rw s
-
-  module _ (h : i < 32) where
-    one-less : 32 - i ≡ suc (32 - (i + 1))
-    one-less = omega arith
-
-    pub children-free : taken m i ≡ false → childrenFrom (32 - i) m id i ≡ childrenFrom (32 - (i + 1)) m id (i + 1)
-    unfolding childrenFrom placesFrom placeAt
-    children-free f = rw one-less (rw f)
-
-    module _ (b : Bool) (t : taken m i ≡ true) (c : b ≡ holds (eqb id) (parentAt m (i % 32))) where
-      named : isChildOf id (pluginAt m i) ≡ b
-      unfolding pluginAt
-      named = sym (c ∙ ap (λ k. holds (eqb id) (parentAt m k)) (mod-eq-of-lt h))
-
-      pub children-here : b ≡ true → childrenFrom (32 - i) m id i ≡ true
-      unfolding childrenFrom placesFrom placeAt
-      children-here y = rw one-less (rw t (rw (named ∙ y)))
-
-      pub children-not : b ≡ false → childrenFrom (32 - i) m id i ≡ childrenFrom (32 - (i + 1)) m id (i + 1)
-      unfolding childrenFrom placesFrom placeAt
-      children-not f = rw one-less (rw t (rw (named ∙ f)))
+-- whether the plugin of a place names the id as parent
+pub named : (m : List ℕ) (id i : ℕ) → i < 32 → (b : Bool) → b ≡ holds (eqb id) (parentAt m (i % 32)) → b ≡ isChildOf id (pluginAt m i)
+unfolding pluginAt
+named m id i h b c = c ∙ ap (λ k. holds (eqb id) (parentAt m k)) (mod-eq-of-lt h)

@@ -5,3 +5,4 @@ pub mod Free
 pub mod Placed
 pub mod Rows
 pub mod Above
+pub mod Any

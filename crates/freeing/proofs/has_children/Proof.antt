@@ -6,20 +6,21 @@ use Rattle.rules.specs.Basics.{any}
 use Rattle.rules.specs.Holds.{plugins}
 use Rattle.rules.specs.Retirement.{isChildOf}
 use Rattle.memory.specs.View.{view}
-use Rattle.freeing.specs.Laws.{childrenFrom, children-all, children-end, children-free, children-here, children-not}
+use Rattle.places.specs.Any.{anyFrom, any-plugins, any-end, any-free, any-here, any-not}
+use Rattle.freeing.specs.Laws.{named}
 use native.Mathlib.Omega.{arith}
 use borrow.Author.Needs.{needs}
 use Rattle.freeing.proofs.has_children.Statement.{statement}
 use Rattle.freeing.proofs.has_children.Tie as tie
 
 abbrev Inv-loop : tie.InvT-loop
-Inv-loop m id i₀ i = (i ≤ 32) × (any (isChildOf id) (plugins (view m)) ≡ childrenFrom (32 - i) m id i)
+Inv-loop m id i₀ i = (i ≤ 32) × (any (isChildOf id) (plugins (view m)) ≡ anyFrom (isChildOf id) (32 - i) m i)
 
 abbrev μ-loop : tie.MeasureT-loop
 μ-loop m id i₀ i = 32 - i
 
 loop-holds : tie.Need-loop-holds Inv-loop μ-loop
-loop-holds c = (omega arith, children-all _ _)
+loop-holds c = (omega arith, any-plugins _ _)
 
 is-taken-requires : tie.Need-is-taken-requires Inv-loop μ-loop
 is-taken-requires c κs = search needs
@@ -30,7 +31,10 @@ is-child-of-requires c κs = search needs
 returns : tie.Need-returns Inv-loop μ-loop
 returns c =
     let t = c .before .before in
-    sym (t .before .before .before .loop .inv .1 ∙ children-here _ _ _ (t .before .before .loop-test .taken) _ (sym (t .before .is-taken .ensures) ∙ t .if1 .taken) (c .before .is-child-of .ensures) (c .if2 .taken))
+    let l = t .before .before .before in
+    let a = l .before .args in
+    let h = t .before .before .loop-test .taken in
+    sym (l .loop .inv .1 ∙ any-here (isChildOf (a .id)) (a .m .now) (l .loop .i) h _ (sym (t .before .is-taken .ensures) ∙ t .if1 .taken) (named (a .m .now) (a .id) (l .loop .i) h _ (c .before .is-child-of .ensures)) (c .if2 .taken))
 
 add-i : tie.Need-add-i Inv-loop μ-loop
 add-i c = search needs
@@ -47,11 +51,11 @@ loop-again c =
     let t = sym (c .before .is-taken .ensures) in (
       omega arith,
       c .before .before .before .loop .inv .1
-          ∙ ⊎-elim {C = childrenFrom (32 - i) m id i ≡ childrenFrom (32 - (i + 1)) m id (i + 1)} (λ w. children-not m id i h _ (t ∙ w .0 .taken) (w .1 .ensures) (w .2 .left)) (λ w. children-free m id i h (t ∙ w .left)) (c .if1 .came),
+          ∙ ⊎-elim {C = anyFrom (isChildOf id) (32 - i) m i ≡ anyFrom (isChildOf id) (32 - (i + 1)) m (i + 1)} (λ w. any-not (isChildOf id) m i h _ (t ∙ w .0 .taken) (named m id i h _ (w .1 .ensures)) (w .2 .left)) (λ w. any-free (isChildOf id) m i h (t ∙ w .left)) (c .if1 .came),
     )
 
 returns-2 : tie.Need-returns-2 Inv-loop μ-loop
-returns-2 c = sym (c .before .loop .inv .1 ∙ children-end _ _ _ (c .loop-test .left))
+returns-2 c = sym (c .before .loop .inv .1 ∙ any-end _ _ _ (c .loop-test .left))
 
 pub has-children-spec : {M : Type 1} → statement M
 has-children-spec =
