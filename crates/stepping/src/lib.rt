@@ -1,0 +1,116 @@
+// Document 01, "Phases": each step looks the id up once, and the table of phases and steps says where it leads.
+ghost use mathlib.Core.Path.{_≡_};
+ghost use mathlib.Core.Logic.{_≢_};
+ghost use Rattle.rules.specs.Outcomes.{answerOf};
+ghost use Rattle.rules.specs.Phases.{begin, fail, unload};
+ghost use Rattle.memory.specs.View.{view};
+ghost use Rattle.memory.specs.Known.{storedLife};
+ghost use Rattle.living.specs.Told.{doneAnswer};
+ghost use Rattle.stepping.specs.Lives.{begunAnswer, movedLife, begunLife};
+use living::Done;
+use memory::Life;
+use memory::Place;
+use memory::WORDS;
+use phases::Cell;
+use phases::Step;
+use rules::Phase;
+use rules::Root;
+use rules::refusal;
+
+// A ticket: domain, id, generation, kind.
+pub enum Begun {
+    Ticket(u64, u64, u64, u64),
+    Refused(u64),
+}
+
+const SETUP: u64 = 1;
+
+fn with_phase(life: Life, phase: Phase) -> Life
+    ensures { λ r. ⌜ r ≡ movedLife life phase ⌝ }
+{
+    let root = life.root;
+    Life {
+        revision: life.revision,
+        payload: life.payload,
+        phase: phase,
+        retired: life.retired,
+        generation: life.generation,
+        root: root,
+    }
+}
+
+fn with_begun(life: Life, phase: Phase) -> Life
+    requires { ⌜ life .generation ≢ 18446744073709551615 ⌝ }
+    ensures { λ r. ⌜ r ≡ begunLife life phase ⌝ }
+{
+    Life {
+        revision: life.revision,
+        payload: life.payload,
+        phase: phase,
+        retired: life.retired,
+        generation: life.generation + 1,
+        root: Root::Unissued,
+    }
+}
+
+// 1, 2, phase, 16, 14; generation + 1, root Unissued; it answers a ticket.
+pub fn begin(m: &mut [u64; WORDS], id: u64) -> Begun
+    ensures { λ r. ⌜ begunAnswer r ≡ answerOf (begin (view (now (m .entry))) id) ⌝ ∗ ⌜ now (m .exit) ≡ storedLife (now (m .entry)) (begin (view (now (m .entry))) id) ⌝ }
+{
+    let Place::At(at) = memory::find(m, id) else {
+        return Begun::Refused(refusal::UNKNOWN);
+    };
+    let life = living::load(m, at);
+    if life.retired {
+        return Begun::Refused(refusal::RETIRED);
+    }
+    let phase = life.phase;
+    let Cell::To(next) = phases::next(phase, Step::Begin) else {
+        return Begun::Refused(refusal::INVALID_STATE);
+    };
+    if life.generation == 18446744073709551615 {
+        return Begun::Refused(refusal::EXHAUSTED);
+    }
+    if needing::all_available(m, rows::dependency_words(m, at)) {
+        let domain = memory::domain(m);
+        let new = with_begun(life, next);
+        living::store(m, at, new);
+        return Begun::Ticket(domain, id, new.generation, SETUP);
+    }
+    Begun::Refused(refusal::UNAVAILABLE)
+}
+
+// 1, phase.
+pub fn fail(m: &mut [u64; WORDS], id: u64) -> Done
+    ensures { λ r. ⌜ doneAnswer r ≡ answerOf (fail (view (now (m .entry))) id) ⌝ ∗ ⌜ now (m .exit) ≡ storedLife (now (m .entry)) (fail (view (now (m .entry))) id) ⌝ }
+{
+    let Place::At(at) = memory::find(m, id) else {
+        return Done::Refused(refusal::UNKNOWN);
+    };
+    let life = living::load(m, at);
+    let phase = life.phase;
+    let Cell::To(next) = phases::next(phase, Step::Fail) else {
+        return Done::Refused(refusal::INVALID_STATE);
+    };
+    living::store(m, at, with_phase(life, next));
+    Done::Accepted
+}
+
+// 1, phase, 15.
+pub fn unload(m: &mut [u64; WORDS], id: u64) -> Done
+    ensures { λ r. ⌜ doneAnswer r ≡ answerOf (unload (view (now (m .entry))) id) ⌝ ∗ ⌜ now (m .exit) ≡ storedLife (now (m .entry)) (unload (view (now (m .entry))) id) ⌝ }
+{
+    let Place::At(at) = memory::find(m, id) else {
+        return Done::Refused(refusal::UNKNOWN);
+    };
+    let life = living::load(m, at);
+    let phase = life.phase;
+    let Cell::To(next) = phases::next(phase, Step::Unload) else {
+        return Done::Refused(refusal::INVALID_STATE);
+    };
+    if needing::in_use(m, at) {
+        return Done::Refused(refusal::IN_USE);
+    }
+    living::store(m, at, with_phase(life, next));
+    Done::Accepted
+}
