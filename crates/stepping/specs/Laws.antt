@@ -55,6 +55,19 @@ module _ (m : List ℕ) (id : ℕ) (e : findAt m id ≡ Nowhere) where
   unfolding rules.begin
   begin-none = none-known m id e (beginning m id)
 
+module _ (m : List ℕ) (id i : ℕ) (e : findAt m id ≡ At i) where
+  pub fail-found : rules.fail (view m) id ≡ failing (pluginAt m i)
+  unfolding rules.fail
+  fail-found = at-known m id i e failing
+
+  pub unload-found : rules.unload (view m) id ≡ unloading m (pluginAt m i)
+  unfolding rules.unload
+  unload-found = at-known m id i e (unloading m)
+
+  pub begin-found : rules.begin (view m) id ≡ beginning m id (pluginAt m i)
+  unfolding rules.begin
+  begin-found = at-known m id i e (beginning m id)
+
 module _ (m : List ℕ) (id i : ℕ) (e : findAt m id ≡ At i) (l : Life) (h : l ≡ lifeAt m (i % 32)) where
   same : l ≡ lifeAt m i
   same = life-found m id i e l h
@@ -64,25 +77,17 @@ module _ (m : List ℕ) (id i : ℕ) (e : findAt m id ≡ At i) (l : Life) (h : 
   unfolding pluginAt
   at-phase s c f = sym (ap (λ (x : Life). rules.cell (x .phase) s) same) ∙ f
 
-  fail-found : rules.fail (view m) id ≡ failing (pluginAt m i)
-  unfolding rules.fail
-  fail-found = at-known m id i e failing
-
-  unload-found : rules.unload (view m) id ≡ unloading m (pluginAt m i)
-  unfolding rules.unload
-  unload-found = at-known m id i e (unloading m)
-
   pub fail-stuck : rules.cell (l .phase) rules.Fail ≡ none → rules.fail (view m) id ≡ refuses InvalidState []
   unfolding checked
-  fail-stuck f = fail-found ∙ rw (at-phase rules.Fail none f)
+  fail-stuck f = fail-found m id i e ∙ rw (at-phase rules.Fail none f)
 
   pub fail-moves : (p : Phase) → rules.cell (l .phase) rules.Fail ≡ some p → rules.fail (view m) id ≡ stores (withLife (pluginAt m i) (movedLife l p)) []
   unfolding checked pluginAt
-  fail-moves p f = fail-found ∙ rw (at-phase rules.Fail (some p) f) (rw same)
+  fail-moves p f = fail-found m id i e ∙ rw (at-phase rules.Fail (some p) f) (rw same)
 
   pub unload-stuck : rules.cell (l .phase) rules.Unload ≡ none → rules.unload (view m) id ≡ refuses InvalidState []
   unfolding checked
-  unload-stuck f = unload-found ∙ rw (at-phase rules.Unload none f)
+  unload-stuck f = unload-found m id i e ∙ rw (at-phase rules.Unload none f)
 
   module _ (p : Phase) (f : rules.cell (l .phase) rules.Unload ≡ some p) (b : Bool) (u : b ≡ rules.inUse (view m) (pluginAt m (i % 32))) where
     used : rules.inUse (view m) (pluginAt m i) ≡ b
@@ -90,29 +95,25 @@ module _ (m : List ℕ) (id i : ℕ) (e : findAt m id ≡ At i) (l : Life) (h : 
 
     pub unload-used : b ≡ true → rules.unload (view m) id ≡ refuses InUse []
     unfolding checked
-    unload-used t = unload-found ∙ rw (at-phase rules.Unload (some p) f, used ∙ t)
+    unload-used t = unload-found m id i e ∙ rw (at-phase rules.Unload (some p) f, used ∙ t)
 
     pub unload-moves : b ≡ false → rules.unload (view m) id ≡ stores (withLife (pluginAt m i) (movedLife l p)) []
     unfolding checked pluginAt
-    unload-moves n = unload-found ∙ rw (at-phase rules.Unload (some p) f, used ∙ n) (rw same)
-
-  begin-found : rules.begin (view m) id ≡ beginning m id (pluginAt m i)
-  unfolding rules.begin
-  begin-found = at-known m id i e (beginning m id)
+    unload-moves n = unload-found m id i e ∙ rw (at-phase rules.Unload (some p) f, used ∙ n) (rw same)
 
   pub begin-retired : l .retired ≡ true → rules.begin (view m) id ≡ refuses Retired []
   unfolding checked pluginAt
-  begin-retired t = begin-found ∙ rw (← same) (rw t)
+  begin-retired t = begin-found m id i e ∙ rw (← same) (rw t)
 
   module _ (n : l .retired ≡ false) where
     pub begin-stuck : rules.cell (l .phase) rules.Begin ≡ none → rules.begin (view m) id ≡ refuses InvalidState []
     unfolding checked pluginAt
-    begin-stuck f = begin-found ∙ rw (← same) (rw (n, f))
+    begin-stuck f = begin-found m id i e ∙ rw (← same) (rw (n, f))
 
     module _ (p : Phase) (f : rules.cell (l .phase) rules.Begin ≡ some p) where
       pub begin-last : l .generation ≡ last → rules.begin (view m) id ≡ refuses Exhausted []
       unfolding checked pluginAt
-      begin-last g = begin-found ∙ rw (← same) (rw (n, f, eq-eqb _ _ g))
+      begin-last g = begin-found m id i e ∙ rw (← same) (rw (n, f, eq-eqb _ _ g))
 
       module _ (g : l .generation ≢ last) (ws : List ℕ) (d : ws ≡ depPart m (i % 32)) (b : Bool) (u : b ≡ all (rules.available (view m)) (pairs ws)) where
         ready-for : all (rules.available (view m)) (pairs (depPart m i)) ≡ b
@@ -120,11 +121,11 @@ module _ (m : List ℕ) (id i : ℕ) (e : findAt m id ≡ At i) (l : Life) (h : 
 
         pub begin-lacks : b ≡ false → rules.begin (view m) id ≡ refuses Unavailable []
         unfolding checked pluginAt
-        begin-lacks z = begin-found ∙ rw (← same) (rw (n, f, ne-eqb _ _ g, ready-for ∙ z))
+        begin-lacks z = begin-found m id i e ∙ rw (← same) (rw (n, f, ne-eqb _ _ g, ready-for ∙ z))
 
         pub begin-moves : b ≡ true → rules.begin (view m) id ≡ stores (withLife (pluginAt m i) (begunLife l p)) (word m 0 ∷ id ∷ (l .generation + 1) ∷ 1 ∷ [])
         unfolding checked pluginAt view
-        begin-moves y = begin-found ∙ rw (← same) (rw (n, f, ne-eqb _ _ g, ready-for ∙ y))
+        begin-moves y = begin-found m id i e ∙ rw (← same) (rw (n, f, ne-eqb _ _ g, ready-for ∙ y))
 
         pub begin-told : b ≡ true → (dm : ℕ) → dm ≡ word m 0 → (l′ : Life) → l′ ≡ begunLife l p → (m′ : List ℕ) → m′ ≡ putLife m (i % 32) l′
             → Told (rules.begin (view m) id) m (Accepted (dm ∷ id ∷ l′ .generation ∷ 1 ∷ [])) m′

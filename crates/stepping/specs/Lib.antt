@@ -1,2 +1,3 @@
 pub mod Lives
 pub mod Laws
+pub mod Refines
