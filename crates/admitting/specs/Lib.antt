@@ -1,0 +1,4 @@
+pub mod Answers
+pub mod Lives
+pub mod Laws
+pub mod Refines

@@ -1,0 +1,184 @@
+// Document 01, "Admission and call", over the registry's memory.
+ghost use mathlib.Core.Path.{_≡_};
+ghost use Rattle.rules.specs.Outcomes.{answerOf};
+ghost use Rattle.rules.specs.Admission.{admit, admits, call, isQueued};
+ghost use Rattle.memory.specs.View.{view};
+ghost use Rattle.memory.specs.Known.{storedLife};
+ghost use Rattle.admitting.specs.Answers.{admittedAnswer, admitsAnswer, calledAnswer};
+ghost use Rattle.admitting.specs.Lives.{isCurrent, verdictOf, liveOf, rootedLife};
+use memory::Life;
+use memory::Place;
+use memory::WORDS;
+use rules::Phase;
+use rules::Root;
+use rules::refusal;
+
+// The kind of a Setup ticket.
+pub const SETUP: u64 = 1;
+
+// The request of a root's receipt.
+pub const ROOT_REQUEST: u64 = 0;
+
+// The verdict on a life that is admitted; every other is a refusal's number.
+const ADMITTED: u64 = 0;
+
+// Domain, id, generation, revision and argument, or a refusal.
+pub enum Admitted {
+    Is(u64, u64, u64, u64, u64),
+    Refused(u64),
+}
+
+// Domain, id, generation, request, payload and argument, or a refusal.
+pub enum Called {
+    Receipt(u64, u64, u64, u64, u64, u64),
+    Refused(u64),
+}
+
+// Loading, and of this generation.
+fn is_current(life: Life, generation: u64) -> bool
+    ensures { λ r. ⌜ r ≡ isCurrent life generation ⌝ }
+{
+    let phase = life.phase;
+    match phase {
+        Phase::Idle => false,
+        Phase::Loading => life.generation == generation,
+        Phase::Active => false,
+        Phase::Unloading => false,
+    }
+}
+
+// What admission says of a found plugin's life.
+fn verdict(life: Life, generation: u64) -> u64
+    ensures { λ r. ⌜ r ≡ verdictOf life generation ⌝ }
+{
+    if life.retired {
+        return refusal::RETIRED;
+    }
+    if is_current(life, generation) {
+        let root = life.root;
+        return match root {
+            Root::Unissued => ADMITTED,
+            Root::Queued(_, _) => refusal::INVALID_STATE,
+            Root::Spent => refusal::INVALID_STATE,
+        };
+    }
+    refusal::STALE
+}
+
+// Queued with this revision and argument.
+fn is_queued(root: Root, revision: u64, argument: u64) -> bool
+    ensures { λ r. ⌜ r ≡ isQueued root revision argument ⌝ }
+{
+    match root {
+        Root::Unissued => false,
+        Root::Queued(queued, given) => {
+            if queued == revision {
+                return given == argument;
+            }
+            false
+        }
+        Root::Spent => false,
+    }
+}
+
+// Whether an invocation is still the admitted one of this life.
+fn is_live(life: Life, generation: u64, revision: u64, argument: u64) -> bool
+    ensures { λ r. ⌜ r ≡ liveOf life generation revision argument ⌝ }
+{
+    if is_current(life, generation) {
+        if life.revision == revision {
+            let root = life.root;
+            return is_queued(root, revision, argument);
+        }
+    }
+    false
+}
+
+// The life with this root; nothing else of it changes.
+fn rooted(life: Life, root: Root) -> Life
+    ensures { λ r. ⌜ r ≡ rootedLife root life ⌝ }
+{
+    let phase = life.phase;
+    Life {
+        revision: life.revision,
+        payload: life.payload,
+        phase: phase,
+        retired: life.retired,
+        generation: life.generation,
+        root: root,
+    }
+}
+
+// Admission: domain or kind 3, then 1, 2, then 13 if not Loading or another generation, then 3 if root isn't Unissued.
+pub fn admit(
+    m: &mut [u64; WORDS],
+    domain: u64,
+    id: u64,
+    generation: u64,
+    kind: u64,
+    argument: u64,
+) -> Admitted
+    ensures { λ r. ⌜ admittedAnswer r ≡ answerOf (admit (view (now (m .entry))) (record { domain = domain; id = id; generation = generation; kind = kind }) argument) ⌝ ∗ ⌜ now (m .exit) ≡ storedLife (now (m .entry)) (admit (view (now (m .entry))) (record { domain = domain; id = id; generation = generation; kind = kind }) argument) ⌝ }
+{
+    if domain != memory::domain(m) {
+        return Admitted::Refused(refusal::INVALID_STATE);
+    }
+    if kind != SETUP {
+        return Admitted::Refused(refusal::INVALID_STATE);
+    }
+    let Place::At(at) = memory::find(m, id) else {
+        return Admitted::Refused(refusal::UNKNOWN);
+    };
+    let life = living::load(m, at);
+    let said = verdict(life, generation);
+    if said != ADMITTED {
+        return Admitted::Refused(said);
+    }
+    let revision = life.revision;
+    living::store(m, at, rooted(life, Root::Queued(revision, argument)));
+    Admitted::Is(domain, id, generation, revision, argument)
+}
+
+// Whether a ticket would be admitted (R's accepts_root_invocation).
+pub fn admits(m: &[u64; WORDS], domain: u64, id: u64, generation: u64, kind: u64) -> bool
+    ensures { λ r. ⌜ admitsAnswer r ≡ answerOf (admits (view (now (m .entry))) (record { domain = domain; id = id; generation = generation; kind = kind })) ⌝ }
+{
+    if domain != memory::domain(m) {
+        return false;
+    }
+    if kind != SETUP {
+        return false;
+    }
+    let Place::At(at) = memory::find(m, id) else {
+        return false;
+    };
+    verdict(living::load(m, at), generation) == ADMITTED
+}
+
+// Call: domain 3, 1, 2, then 13 unless it is live; root becomes Spent and nothing else changes.
+pub fn call(
+    m: &mut [u64; WORDS],
+    domain: u64,
+    id: u64,
+    generation: u64,
+    revision: u64,
+    argument: u64,
+) -> Called
+    ensures { λ r. ⌜ calledAnswer r ≡ answerOf (call (view (now (m .entry))) (record { domain = domain; id = id; generation = generation; revision = revision; argument = argument })) ⌝ ∗ ⌜ now (m .exit) ≡ storedLife (now (m .entry)) (call (view (now (m .entry))) (record { domain = domain; id = id; generation = generation; revision = revision; argument = argument })) ⌝ }
+{
+    if domain != memory::domain(m) {
+        return Called::Refused(refusal::INVALID_STATE);
+    }
+    let Place::At(at) = memory::find(m, id) else {
+        return Called::Refused(refusal::UNKNOWN);
+    };
+    let life = living::load(m, at);
+    if life.retired {
+        return Called::Refused(refusal::RETIRED);
+    }
+    if is_live(life, generation, revision, argument) {
+        living::store(m, at, rooted(life, Root::Spent));
+        return Called::Receipt(domain, id, generation, ROOT_REQUEST, life.payload, argument);
+    }
+    Called::Refused(refusal::STALE)
+}
