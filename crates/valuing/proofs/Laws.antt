@@ -2,13 +2,13 @@
 use Prim.Native.Nat.{ℕ, _+_, _*_, _/_, _%_, _^_, _≤_, _<_}
 use native.Mathlib.Nat.{mod-eq-of-lt, one-mul}
 use native.Mathlib.Omega.{arith}
-use mathlib.Core.Path.{_≡_, refl, sym, ap, _∙_}
+use mathlib.Core.Path.{_≡_, sym, ap, _∙_}
 use mathlib.Core.Bool.{Bool, true, false}
-use mathlib.Core.List.{List, [], _∷_}
+use mathlib.Core.List.{List, _∷_}
 use mathlib.Core.Option.{none, some}
 use lib.Bits.{bitOr}
 use lib.Dec.{eqb}
-use lib.ListN.{length, getD, set, drop, length-take, length-drop}
+use lib.ListN.{length, getD, set, drop}
 use lib.Pow.{pow-lt}
 use borrow.Author.Tests.{eq-eqb, eqb-false}
 use Rattle.rules.specs.declared.Port.{Port}
@@ -20,11 +20,11 @@ use Rattle.rules.specs.Laws.Members.{same-port}
 use Rattle.memory.specs.Layout.{word, provPart}
 use Rattle.memory.specs.View.{valueAt, valued, pluginAt}
 use Rattle.places.specs.Bits.{or-free}
-use Rattle.ports.specs.Places.{length-pairs, pairs-at, pairs-end}
+use Rattle.ports.specs.Places.{pairs-at, pairs-end}
 use Rattle.ports.specs.declared.Found.{Found}
 use Rattle.ports.specs.declared.Found.the-variants.{At, Nothing}
 use Rattle.valuing.specs.Values.{maskAt, maskBit, portFrom, lackFrom, withValue}
-use Rattle.valuing.specs.Firsts.{port-there, value-there, value-nowhere}
+use Rattle.valuing.specs.Firsts.{provisions-at, few-words, port-below, value-there, value-nowhere}
 
 module _ (m : List ℕ) (i j : ℕ) (b : Bool) (e : b ≡ eqb (maskBit m i j) 1) where
   pub value-is : b ≡ true → some (word m (i * 72 + 24 + j)) ≡ valueAt m i j
@@ -40,7 +40,7 @@ module _ (m : List ℕ) (i j : ℕ) (b : Bool) (e : b ≡ eqb (maskBit m i j) 1)
   unfolding withValue
   value-stays t v = rw (sym e ∙ t)
 
-  pub bit-zero : b ≡ false → maskBit m i j ≡ 0
+  bit-zero : b ≡ false → maskBit m i j ≡ 0
   bit-zero f = let n = eqb-false (maskBit m i j) 1 (sym e ∙ f) in omega arith
 
   pub value-set : b ≡ false → j < 64 → (v : ℕ) → set (set m (i * 72 + 23) (bitOr (maskAt m i) ((1 * 2 ^ j) % 2 ^ 64))) (i * 72 + 24 + j) v ≡ withValue m i j v
@@ -72,12 +72,12 @@ module _ {l ps : List Port} {p : Port} (s : l ≡ p ∷ ps) where
     unfolding lackFrom valueAt
     lack-miss t = rw (s, sym e ∙ t)
 
-few-words : (m : List ℕ) (i : ℕ) → length (provPart m i) ≤ 30
-few-words m i = simp (length-take, length-drop) (omega arith)
-
 -- the provisions from j on, of which there are 15 at most
 abbrev pub rest : List ℕ → ℕ → ℕ → List Provision
 rest m i j = valued m i j (pairs (drop (j * 2) (provPart m i)))
+
+pub lack-start : (m : List ℕ) (i : ℕ) → lackFrom 0 (pluginAt m i .provisions) ≡ lackFrom 0 (rest m i 0)
+lack-start m i = ap (lackFrom 0) (provisions-at m i)
 
 module _ (m : List ℕ) (i : ℕ) (ws : List ℕ) (w : ws ≡ provPart m i) (j : ℕ) where
   pub lack-end : length ws / 2 ≤ j → lackFrom j (rest m i j) ≡ Nothing
@@ -105,12 +105,10 @@ module _ (m : List ℕ) (i : ℕ) (q : Port) (ws : List ℕ) (w : ws ≡ provPar
   found = e ∙ ap (λ l. portFrom 0 q (pairs l)) w
 
   pub no-value : f ≡ Nothing → none ≡ valueIn q (pluginAt m i .provisions)
-  unfolding pluginAt
-  no-value n = sym (value-nowhere m i q (pairs (provPart m i)) (sym found ∙ n))
+  no-value n = sym (ap (valueIn q) (provisions-at m i) ∙ value-nowhere m i q (pairs (provPart m i)) (sym found ∙ n))
 
   pub its-value : (j : ℕ) → f ≡ At j → valueAt m i (j % 16) ≡ valueIn q (pluginAt m i .provisions)
-  unfolding pluginAt
   its-value j n =
-      let p = port-there q (pairs (provPart m i)) j (sym found ∙ n) in
-      let h : j < 16 = omega (arith, p .within, length-pairs (provPart m i), few-words m i) in
-      ap (valueAt m i) (mod-eq-of-lt h) ∙ sym (value-there m i q (pairs (provPart m i)) j (sym found ∙ n))
+      let e = sym found ∙ n in
+      let h = port-below m i q j e in
+      ap (valueAt m i) (mod-eq-of-lt (omega arith)) ∙ sym (ap (valueIn q) (provisions-at m i) ∙ value-there m i q (pairs (provPart m i)) j e)

@@ -1,20 +1,22 @@
 -- What the first port that is the same, and the first provision without a value, say of a plugin's values.
 use Prim.Native.Nat.{ℕ, suc, _+_, _-_, _≤_, _<_}
 use native.Mathlib.Omega.{arith}
-use mathlib.Core.Path.{_≡_, refl, sym, ap, _∙_}
+use mathlib.Core.Path.{_≡_, refl, ap, _∙_}
 use mathlib.Core.Bool.{Bool, true, false}
 use mathlib.Core.List.{List, [], _∷_, map}
 use mathlib.Core.Option.{Option, none}
-use lib.ListN.{length, getD}
+use lib.ListN.{length, getD, length-take, length-drop}
 use Rattle.rules.specs.Basics.{any, isNone}
 use Rattle.rules.specs.Holds.{port, Provision, samePort, isIn}
 use Rattle.rules.specs.declared.Port.{Port}
-use Rattle.rules.specs.Ports.{flat}
+use Rattle.rules.specs.Ports.{pairs, flat}
 use Rattle.rules.specs.Values.{valueIn, firstMissing}
 use Rattle.rules.specs.Laws.Tests.{by-test}
 use Rattle.rules.specs.Laws.Members.{same-port}
-use Rattle.memory.specs.View.{valueAt, valued}
+use Rattle.memory.specs.Layout.{provPart}
+use Rattle.memory.specs.View.{valueAt, valued, pluginAt}
 use Rattle.rows.specs.Listed.{valued-ports}
+use Rattle.ports.specs.Places.{length-pairs}
 use Rattle.ports.specs.declared.Found.{Found}
 use Rattle.ports.specs.declared.Found.the-variants.{At, Nothing}
 use Rattle.valuing.specs.Values.{portFrom, lackFrom}
@@ -56,6 +58,11 @@ module _ (q : Port) (ps : List Port) where
   unfolding PortOf
   port-nothing e = rw e at (port-of 0 q ps)
 
+-- a place is counted from k
+pub port-least : (k : ℕ) (q : Port) (ps : List Port) (j : ℕ) → portFrom k q ps ≡ At j → k ≤ j
+unfolding PortOf
+port-least k q ps j e = (rw e at (port-of k q ps)) .0
+
 -- from any place on, of which only the count differs
 port-none-from : (k : ℕ) (q : Port) (ps : List Port) → isIn q ps ≡ false → portFrom k q ps ≡ Nothing
 unfolding portFrom
@@ -68,6 +75,17 @@ port-none-from k q (p ∷ ps) e =
 
 pub nothing-port : (q : Port) (ps : List Port) → isIn q ps ≡ false → portFrom 0 q ps ≡ Nothing
 nothing-port q ps e = port-none-from 0 q ps e
+
+-- A plugin has 15 provisions at most.
+pub provisions-at : (m : List ℕ) (i : ℕ) → pluginAt m i .provisions ≡ valued m i 0 (pairs (provPart m i))
+unfolding pluginAt
+provisions-at m i = refl
+
+pub few-words : (m : List ℕ) (i : ℕ) → length (provPart m i) ≤ 30
+few-words m i = simp (length-take, length-drop) (omega arith)
+
+pub port-below : (m : List ℕ) (i : ℕ) (q : Port) (j : ℕ) → portFrom 0 q (pairs (provPart m i)) ≡ At j → j < 15
+port-below m i q j e = omega (arith, port-there q (pairs (provPart m i)) j e .within, length-pairs (provPart m i), few-words m i)
 
 -- The value of a port is that of its place.
 abbrev pub valueFound : List ℕ → ℕ → Found → Option ℕ

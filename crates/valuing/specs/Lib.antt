@@ -1,2 +1,3 @@
 pub mod Values
 pub mod Firsts
+pub mod After

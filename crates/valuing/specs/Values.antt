@@ -35,6 +35,10 @@ unfoldable pub lackFrom : ℕ → List Provision → Found
 lackFrom i [] = Nothing
 lackFrom i (v ∷ vs) = pick (isNone (v .value)) (At i) (lackFrom (i + 1) vs)
 
+-- the words with one more value in the mask
+abbrev pub masked : List ℕ → ℕ → ℕ → List ℕ
+masked m i j = set m (i * 72 + 23) (maskAt m i + 2 ^ j)
+
 -- a provision that has a value keeps it
 unfoldable pub withValue : List ℕ → ℕ → ℕ → ℕ → List ℕ
-withValue m i j v = pick (eqb (maskBit m i j) 1) m (set (set m (i * 72 + 23) (maskAt m i + 2 ^ j)) (i * 72 + 24 + j) v)
+withValue m i j v = pick (eqb (maskBit m i j) 1) m (set (masked m i j) (i * 72 + 24 + j) v)

@@ -1,10 +1,9 @@
 -- Until a value lacks, the first provision without one is that of the rest, counted from j.
 use Prim.Native.Nat.{_-_, _%_}
-use native.Mathlib.Omega.{arith}
-use mathlib.Core.Path.{_≡_, refl, sym, _∙_}
+use mathlib.Core.Path.{_≡_, sym, _∙_}
 use Rattle.memory.specs.View.{pluginAt}
 use Rattle.valuing.specs.Values.{lackFrom}
-use Rattle.valuing.proofs.Laws.{rest, lack-end, lack-here, lack-later}
+use Rattle.valuing.proofs.Laws.{rest, lack-start, lack-end, lack-here, lack-later}
 use borrow.Author.Needs.{needs}
 use Rattle.valuing.proofs.first_lacking.Statement.{statement}
 use Rattle.valuing.proofs.first_lacking.Tie as tie
@@ -19,8 +18,7 @@ provision-words-requires : tie.Need-provision-words-requires Inv-loop μ-loop
 provision-words-requires c κs = search needs
 
 loop-holds : tie.Need-loop-holds Inv-loop μ-loop
-unfolding pluginAt
-loop-holds c = refl
+loop-holds c = let a = c .before .args in lack-start (a .m .now) (a .place % 32)
 
 has-value-requires : tie.Need-has-value-requires Inv-loop μ-loop
 has-value-requires c κs = search needs

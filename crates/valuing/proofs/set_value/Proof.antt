@@ -1,5 +1,4 @@
 -- `set_value` meets its contract.
-use Prim.Native.Nat.{_%_}
 use Rattle.valuing.proofs.Laws.{value-stays, value-set}
 use native.Mathlib.Omega.{arith}
 use borrow.Author.Needs.{needs}

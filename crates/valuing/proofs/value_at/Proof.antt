@@ -1,7 +1,6 @@
 -- `value_at` meets its contract.
 use Prim.Native.Nat.{_%_}
 use Rattle.valuing.proofs.Laws.{value-is, value-not}
-use native.Mathlib.Omega.{arith}
 use borrow.Author.Needs.{needs}
 use Rattle.valuing.proofs.value_at.Statement.{statement}
 use Rattle.valuing.proofs.value_at.Tie as tie
