@@ -22,6 +22,8 @@ use Rattle.registering.specs.Written.{addedTo}
 use Rattle.registering.specs.Refines.{built-fresh, register-refines}
 use Rattle.retiring.specs.Refines.{retire-refines, retire-child-refines}
 use Rattle.stepping.specs.Refines.{begin-refines, fail-refines, unload-refines}
+use Rattle.settling.specs.Finished.{finishedTo}
+use Rattle.settling.specs.Refines.{ready-refines, finish-refines}
 use Rattle.replacing.specs.Refines.{replace-refines}
 use Rattle.admitting.specs.Refines.{admit-refines, call-refines}
 
@@ -30,8 +32,10 @@ pub data Made : List ℕ → Type 0 where
   opened : (m : List ℕ) → length m ≡ 4488 → (domain first : ℕ) → first ≤ last → Made (puts m 0 0 (domain ∷ first ∷ first ∷ 0 ∷ []))
   registered : (m : List ℕ) → Made m → (d : Definition) → Made (addedTo m (register (view m) d))
   begun : (m : List ℕ) → Made m → (id : ℕ) → Made (storedLife m (phases.begin (view m) id))
+  readied : (m : List ℕ) → Made m → (id : ℕ) → Made (storedLife m (phases.ready (view m) id))
   failed : (m : List ℕ) → Made m → (id : ℕ) → Made (storedLife m (phases.fail (view m) id))
   unloaded : (m : List ℕ) → Made m → (id : ℕ) → Made (storedLife m (phases.unload (view m) id))
+  finished : (m : List ℕ) → Made m → (id : ℕ) → Made (finishedTo m (phases.finish (view m) id))
   replaced : (m : List ℕ) → Made m → (id payload : ℕ) → Made (storedLife m (replace (view m) id payload))
   admitted : (m : List ℕ) → Made m → (t : Ticket) (argument : ℕ) → Made (storedLife m (admit (view m) t argument))
   called : (m : List ℕ) → Made m → (t : Invocation) → Made (storedLife m (call (view m) t))
@@ -56,8 +60,10 @@ made-sound _ (registered m w d) =
     let s = made-sound m w in
     keeps m _ (steps.Register d) s (register-refines m d (s .dense) (built-fresh m (s .built)))
 made-sound _ (begun m w id) = let s = made-sound m w in keeps m _ (steps.Begin id) s (begin-refines m (s .dense) id)
+made-sound _ (readied m w id) = let s = made-sound m w in keeps m _ (steps.Ready id) s (ready-refines m (s .dense) id)
 made-sound _ (failed m w id) = let s = made-sound m w in keeps m _ (steps.Fail id) s (fail-refines m (s .dense) id)
 made-sound _ (unloaded m w id) = let s = made-sound m w in keeps m _ (steps.Unload id) s (unload-refines m (s .dense) id)
+made-sound _ (finished m w id) = let s = made-sound m w in keeps m _ (steps.Finish id) s (finish-refines m (s .dense) id)
 made-sound _ (replaced m w id v) = let s = made-sound m w in keeps m _ (steps.Replace id v) s (replace-refines m (s .dense) id v)
 made-sound _ (admitted m w t a) = let s = made-sound m w in keeps m _ (steps.Admit t a) s (admit-refines m (s .dense) t a)
 made-sound _ (called m w t) = let s = made-sound m w in keeps m _ (steps.Call t) s (call-refines m (s .dense) t)

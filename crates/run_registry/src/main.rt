@@ -1,10 +1,10 @@
 // Document 01's boundaries of the registry, run on one lent memory: the last id, 32 plugins, 1,024 rows, places and rows used again, removed children. The calls are those of compare/scripts/registry.txt, and each answer is one line in the console's words.
 use listing::Listed;
+use living::Done;
 use memory::Parent;
 use memory::WORDS;
 use registering::Registered;
 use retiring::Child;
-use living::Done;
 use rules::Port;
 
 fn ok() {

@@ -25,7 +25,7 @@ pub enum Begun {
 
 const SETUP: u64 = 1;
 
-fn with_phase(life: Life, phase: Phase) -> Life
+pub fn with_phase(life: Life, phase: Phase) -> Life
     ensures { λ r. ⌜ r ≡ movedLife life phase ⌝ }
 {
     let root = life.root;
