@@ -13,9 +13,6 @@ use rules::Phase;
 use rules::Root;
 use rules::refusal;
 
-// The kind of a Setup ticket.
-pub const SETUP: u64 = 1;
-
 // The request of a root's receipt.
 pub const ROOT_REQUEST: u64 = 0;
 
@@ -123,7 +120,7 @@ pub fn admit(
     if domain != memory::domain(m) {
         return Admitted::Refused(refusal::INVALID_STATE);
     }
-    if kind != SETUP {
+    if kind != phases::SETUP {
         return Admitted::Refused(refusal::INVALID_STATE);
     }
     let Place::At(at) = memory::find(m, id) else {
@@ -146,7 +143,7 @@ pub fn admits(m: &[u64; WORDS], domain: u64, id: u64, generation: u64, kind: u64
     if domain != memory::domain(m) {
         return false;
     }
-    if kind != SETUP {
+    if kind != phases::SETUP {
         return false;
     }
     let Place::At(at) = memory::find(m, id) else {

@@ -6,6 +6,9 @@ ghost use Rattle.rules.specs.Queries.{phaseNumber};
 ghost use Rattle.phases.specs.Table.{ruled, cellOf, numbered};
 use rules::Phase;
 
+// The kind of a Setup ticket, which beginning answers and admission asks for.
+pub const SETUP: u64 = 1;
+
 pub enum Step {
     Begin,
     Ready,

@@ -23,8 +23,6 @@ pub enum Begun {
     Refused(u64),
 }
 
-const SETUP: u64 = 1;
-
 pub fn with_phase(life: Life, phase: Phase) -> Life
     ensures { λ r. ⌜ r ≡ movedLife life phase ⌝ }
 {
@@ -75,7 +73,7 @@ pub fn begin(m: &mut [u64; WORDS], id: u64) -> Begun
         let domain = memory::domain(m);
         let new = with_begun(life, next);
         living::store(m, at, new);
-        return Begun::Ticket(domain, id, new.generation, SETUP);
+        return Begun::Ticket(domain, id, new.generation, phases::SETUP);
     }
     Begun::Refused(refusal::UNAVAILABLE)
 }
