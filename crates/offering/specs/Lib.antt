@@ -1,0 +1,6 @@
+pub mod Answers
+pub mod Rules
+pub mod Words
+pub mod Offers
+pub mod Questions
+pub mod Refines
