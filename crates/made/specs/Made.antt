@@ -8,6 +8,8 @@ use Rattle.rules.specs.Registration.{Definition, register}
 use Rattle.rules.specs.Phases as phases
 use Rattle.rules.specs.Replacement.{replace}
 use Rattle.rules.specs.Admission.{Ticket, Invocation, admit, call}
+use Rattle.rules.specs.declared.Port.{Port}
+use Rattle.rules.specs.Values.{offer}
 use Rattle.rules.specs.Retirement.{Identity, retire, retireChild, remove}
 use Rattle.rules.specs.Steps as steps
 use Rattle.rules.specs.Built.{Built}
@@ -24,6 +26,8 @@ use Rattle.retiring.specs.Refines.{retire-refines, retire-child-refines}
 use Rattle.stepping.specs.Refines.{begin-refines, fail-refines, unload-refines}
 use Rattle.settling.specs.Finished.{finishedTo}
 use Rattle.settling.specs.Refines.{ready-refines, finish-refines}
+use Rattle.offering.specs.Words.{offeredTo}
+use Rattle.offering.specs.Refines.{offer-refines}
 use Rattle.replacing.specs.Refines.{replace-refines}
 use Rattle.admitting.specs.Refines.{admit-refines, call-refines}
 
@@ -39,6 +43,7 @@ pub data Made : List ℕ → Type 0 where
   replaced : (m : List ℕ) → Made m → (id payload : ℕ) → Made (storedLife m (replace (view m) id payload))
   admitted : (m : List ℕ) → Made m → (t : Ticket) (argument : ℕ) → Made (storedLife m (admit (view m) t argument))
   called : (m : List ℕ) → Made m → (t : Invocation) → Made (storedLife m (call (view m) t))
+  offered : (m : List ℕ) → Made m → (id : ℕ) (q : Port) (value : ℕ) → Made (offeredTo m id q value (offer (view m) id q value))
   retired : (m : List ℕ) → Made m → (id : ℕ) → Made (storedLife m (retire (view m) id))
   childRetired : (m : List ℕ) → Made m → (c : Identity) → Made (storedLife m (retireChild (view m) c))
   removed : (m : List ℕ) → Made m → (id : ℕ) → Made (removedFrom m (remove (view m) id))
@@ -67,10 +72,15 @@ made-sound _ (finished m w id) = let s = made-sound m w in keeps m _ (steps.Fini
 made-sound _ (replaced m w id v) = let s = made-sound m w in keeps m _ (steps.Replace id v) s (replace-refines m (s .dense) id v)
 made-sound _ (admitted m w t a) = let s = made-sound m w in keeps m _ (steps.Admit t a) s (admit-refines m (s .dense) t a)
 made-sound _ (called m w t) = let s = made-sound m w in keeps m _ (steps.Call t) s (call-refines m (s .dense) t)
+made-sound _ (offered m w id q v) = let s = made-sound m w in keeps m _ (steps.Offer id q v) s (offer-refines m (s .dense) (s .built) id q v)
 made-sound _ (retired m w id) = let s = made-sound m w in keeps m _ (steps.Retire id) s (retire-refines m (s .dense) id)
 made-sound _ (childRetired m w c) = let s = made-sound m w in keeps m _ (steps.RetireChild c) s (retire-child-refines m (s .dense) c)
 made-sound _ (removed m w id) = let s = made-sound m w in keeps m _ (steps.Remove id) s (remove-refines m (s .dense) id)
 
--- On such words the registry after a registration is the rule's; its answer is, on any words.
+-- On such words the registry after each operation is the rule's; what it answers is the rule's on any words. Registration and
+-- offers need that the words say a built registry, all others that they are dense.
 pub register-made : (m : List ℕ) → Made m → (d : Definition) → Refines m (addedTo m (register (view m) d)) (register (view m) d)
 register-made m w d = let s = made-sound m w in register-refines m d (s .dense) (built-fresh m (s .built))
+
+pub offer-made : (m : List ℕ) → Made m → (id : ℕ) (q : Port) (v : ℕ) → Refines m (offeredTo m id q v (offer (view m) id q v)) (offer (view m) id q v)
+offer-made m w id q v = let s = made-sound m w in offer-refines m (s .dense) (s .built) id q v
