@@ -1,0 +1,87 @@
+-- Two answers with the same numbers are equal, for the answers whose crates do not say so themselves.
+use Prim.Native.Nat.{ℕ}
+use mathlib.Core.Path.{_≡_, refl, ap}
+use Rattle.rules.specs.declared.Root.{Root}
+use Rattle.rules.specs.declared.Root.the-variants.{Unissued, Queued, Spent}
+use Rattle.rules.specs.Queries.{rootNumbers}
+use Rattle.asking.specs.Answers.{numberAnswer, rootAnswer}
+use Rattle.asking.specs.declared.Number.{Number}
+use Rattle.asking.specs.declared.Number.the-variants as number
+use Rattle.asking.specs.declared.ARoot.{ARoot}
+use Rattle.asking.specs.declared.ARoot.the-variants as root
+use Rattle.memory.specs.Writes.{parentId}
+use Rattle.memory.specs.declared.Parent.{Parent}
+use Rattle.memory.specs.declared.Parent.the-variants as parent
+use Rattle.places.specs.Changes.{aboveAnswer}
+use Rattle.places.specs.declared.Above.{Above}
+use Rattle.places.specs.declared.Above.the-variants as above
+use Rattle.retiring.specs.Answers.{childAnswer}
+use Rattle.retiring.specs.declared.Child.{Child}
+use Rattle.retiring.specs.declared.Child.the-variants as child
+use Rattle.stepping.specs.Lives.{begunAnswer}
+use Rattle.stepping.specs.declared.Begun.{Begun}
+use Rattle.stepping.specs.declared.Begun.the-variants as begun
+
+pub number-exact : (a b : Number) → numberAnswer a ≡ numberAnswer b → a ≡ b
+number-exact (number.Is n) (number.Is k) e = let j : n ≡ k = cc in ap number.Is j
+number-exact (number.Is n) (number.Refused k) e = cc
+number-exact (number.Refused n) (number.Is k) e = cc
+number-exact (number.Refused n) (number.Refused k) e = let j : n ≡ k = cc in ap number.Refused j
+
+pub above-exact : (a b : Above) → aboveAnswer a ≡ aboveAnswer b → a ≡ b
+above-exact (above.Id n) (above.Id k) e = let j : n ≡ k = cc in ap above.Id j
+above-exact (above.Id n) above.Nothing e = cc
+above-exact above.Nothing (above.Id k) e = cc
+above-exact above.Nothing above.Nothing e = refl
+
+pub child-exact : (a b : Child) → childAnswer a ≡ childAnswer b → a ≡ b
+child-exact (child.Of d p i) (child.Of d′ p′ i′) e =
+    let x : d ≡ d′ = cc in
+    let y : p ≡ p′ = cc in
+    let z : i ≡ i′ = cc in
+    λ k. child.Of (x k) (y k) (z k)
+child-exact (child.Of d p i) child.Orphan e = cc
+child-exact (child.Of d p i) (child.Refused n) e = cc
+child-exact child.Orphan (child.Of d p i) e = cc
+child-exact child.Orphan child.Orphan e = refl
+child-exact child.Orphan (child.Refused n) e = cc
+child-exact (child.Refused n) (child.Of d p i) e = cc
+child-exact (child.Refused n) child.Orphan e = cc
+child-exact (child.Refused n) (child.Refused k) e = let j : n ≡ k = cc in ap child.Refused j
+
+pub begun-exact : (a b : Begun) → begunAnswer a ≡ begunAnswer b → a ≡ b
+begun-exact (begun.Ticket d i g k) (begun.Ticket d′ i′ g′ k′) e =
+    let w : d ≡ d′ = cc in
+    let x : i ≡ i′ = cc in
+    let y : g ≡ g′ = cc in
+    let z : k ≡ k′ = cc in
+    λ j. begun.Ticket (w j) (x j) (y j) (z j)
+begun-exact (begun.Ticket d i g k) (begun.Refused n) e = cc
+begun-exact (begun.Refused n) (begun.Ticket d i g k) e = cc
+begun-exact (begun.Refused n) (begun.Refused m) e = let j : n ≡ m = cc in ap begun.Refused j
+
+roots-exact : (r s : Root) → rootNumbers r ≡ rootNumbers s → r ≡ s
+roots-exact Unissued Unissued e = refl
+roots-exact Unissued (Queued v a) e = cc
+roots-exact Unissued Spent e = cc
+roots-exact (Queued v a) Unissued e = cc
+roots-exact (Queued v a) (Queued w b) e =
+    let x : v ≡ w = cc in
+    let y : a ≡ b = cc in
+    λ i. Queued (x i) (y i)
+roots-exact (Queued v a) Spent e = cc
+roots-exact Spent Unissued e = cc
+roots-exact Spent (Queued v a) e = cc
+roots-exact Spent Spent e = refl
+
+pub root-exact : (a b : ARoot) → rootAnswer a ≡ rootAnswer b → a ≡ b
+root-exact (root.Is r) (root.Is s) e = let j : rootNumbers r ≡ rootNumbers s = cc in ap root.Is (roots-exact r s j)
+root-exact (root.Is r) (root.Refused n) e = cc
+root-exact (root.Refused n) (root.Is s) e = cc
+root-exact (root.Refused n) (root.Refused k) e = let j : n ≡ k = cc in ap root.Refused j
+
+pub parent-exact : (a b : Parent) → parentId a ≡ parentId b → a ≡ b
+parent-exact (parent.Of n) (parent.Of k) e = let j : n ≡ k = cc in ap parent.Of j
+parent-exact (parent.Of n) parent.Nobody e = cc
+parent-exact parent.Nobody (parent.Of k) e = cc
+parent-exact parent.Nobody parent.Nobody e = refl
