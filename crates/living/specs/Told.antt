@@ -1,7 +1,7 @@
 -- What an operation that stores a life answers and leaves, once the rule's outcome is known.
 use Prim.Native.Nat.{ℕ, _%_}
 use mathlib.Core.Path.{_≡_, refl, sym, ap, _∙_}
-use mathlib.Core.List.{List, []}
+use mathlib.Core.List.{List, [], _∷_}
 use Rattle.rules.specs.Refusals.{Refusal, number}
 use Rattle.rules.specs.Outcomes.{Answer, Refused, Accepted, Outcome, refuses, answers, stores, answerOf}
 use Rattle.memory.specs.View.{lifeAt, pluginAt}
@@ -12,10 +12,18 @@ use Rattle.memory.specs.declared.Life.{Life}
 use Rattle.memory.specs.declared.Place.the-variants.{At}
 use Rattle.living.specs.declared.Done.{Done}
 use Rattle.living.specs.declared.Done.the-variants as done
+use Rattle.living.specs.declared.Whether.{Whether}
+use Rattle.living.specs.declared.Whether.the-variants as whether
 
 abbrev pub doneAnswer : Done → Answer
 doneAnswer done.Accepted = Accepted []
 doneAnswer (done.Refused n) = Refused n []
+
+-- yes is 1, no is 0
+abbrev pub whetherAnswer : Whether → Answer
+whetherAnswer whether.Yes = Accepted (1 ∷ [])
+whetherAnswer whether.No = Accepted (0 ∷ [])
+whetherAnswer (whether.Refused n) = Refused n []
 
 -- an answer, and the words after an outcome that stores a life
 abbrev pub Told : Outcome → List ℕ → Answer → List ℕ → Type 0
@@ -45,3 +53,14 @@ done-exact done.Accepted done.Accepted e = refl
 done-exact done.Accepted (done.Refused n) e = cc
 done-exact (done.Refused n) done.Accepted e = cc
 done-exact (done.Refused n) (done.Refused k) e = let j : n ≡ k = cc in ap done.Refused j
+
+pub whether-exact : (a b : Whether) → whetherAnswer a ≡ whetherAnswer b → a ≡ b
+whether-exact whether.Yes whether.Yes e = refl
+whether-exact whether.Yes whether.No e = cc
+whether-exact whether.Yes (whether.Refused n) e = cc
+whether-exact whether.No whether.Yes e = cc
+whether-exact whether.No whether.No e = refl
+whether-exact whether.No (whether.Refused n) e = cc
+whether-exact (whether.Refused n) whether.Yes e = cc
+whether-exact (whether.Refused n) whether.No e = cc
+whether-exact (whether.Refused n) (whether.Refused k) e = let j : n ≡ k = cc in ap whether.Refused j

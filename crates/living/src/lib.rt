@@ -15,6 +15,13 @@ pub enum Done {
     Refused(u64),
 }
 
+// What a yes or no question answers.
+pub enum Whether {
+    Yes,
+    No,
+    Refused(u64),
+}
+
 // A phase by its number; any number above 3 is read as 3.
 pub fn phase_of(w: u64) -> Phase
     ensures { λ r. ⌜ r ≡ phaseOf w ⌝ }

@@ -14,7 +14,7 @@ use memory::Place;
 use memory::WORDS;
 use rules::Phase;
 
-fn is_active(life: Life) -> bool
+pub fn is_active(life: Life) -> bool
     ensures { λ r. ⌜ r ≡ isActive (life .phase) ⌝ }
 {
     let phase = life.phase;

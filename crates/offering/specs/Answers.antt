@@ -13,8 +13,6 @@ use Rattle.valuing.specs.declared.Value.the-variants as value
 use Rattle.valuing.specs.Values.{valueOf}
 use Rattle.offering.specs.declared.Reading.{Reading}
 use Rattle.offering.specs.declared.Reading.the-variants as reading
-use Rattle.offering.specs.declared.Whether.{Whether}
-use Rattle.offering.specs.declared.Whether.the-variants as whether
 
 abbrev pub readingAnswer : Reading → Answer
 readingAnswer (reading.Is v p) = Accepted (v ∷ p ∷ [])
@@ -22,11 +20,6 @@ readingAnswer (reading.Refused n) = Refused n []
 
 abbrev pub valueAnswer : Value → Answer
 valueAnswer v = Accepted (one (valueOf v))
-
-abbrev pub whetherAnswer : Whether → Answer
-whetherAnswer whether.Yes = Accepted (1 ∷ [])
-whetherAnswer whether.No = Accepted (0 ∷ [])
-whetherAnswer (whether.Refused n) = Refused n []
 
 -- Any two outcomes that such a promise allows are equal.
 pub reading-exact : (a b : Reading) → readingAnswer a ≡ readingAnswer b → a ≡ b
@@ -40,17 +33,6 @@ value-exact (value.Is v) (value.Is w) e = cc
 value-exact (value.Is v) value.Nothing e = cc
 value-exact value.Nothing (value.Is w) e = cc
 value-exact value.Nothing value.Nothing e = refl
-
-pub whether-exact : (a b : Whether) → whetherAnswer a ≡ whetherAnswer b → a ≡ b
-whether-exact whether.Yes whether.Yes e = refl
-whether-exact whether.Yes whether.No e = cc
-whether-exact whether.Yes (whether.Refused k) e = cc
-whether-exact whether.No whether.Yes e = cc
-whether-exact whether.No whether.No e = refl
-whether-exact whether.No (whether.Refused k) e = cc
-whether-exact (whether.Refused n) whether.Yes e = cc
-whether-exact (whether.Refused n) whether.No e = cc
-whether-exact (whether.Refused n) (whether.Refused k) e = cc
 
 pub perhaps-exact : (a b : Perhaps) → perhapsAnswer a ≡ perhapsAnswer b → a ≡ b
 perhaps-exact (perhaps.Is v) (perhaps.Is w) e = cc

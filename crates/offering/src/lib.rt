@@ -9,15 +9,16 @@ ghost use Rattle.rules.specs.Holds.{port, isLoading, isActive};
 ghost use Rattle.rules.specs.Outcomes.{Accepted, answerOf};
 ghost use Rattle.rules.specs.Values.{offer, read, visible, own, missing, matching, declares};
 ghost use Rattle.memory.specs.View.{pluginAt, view};
-ghost use Rattle.living.specs.Told.{doneAnswer};
+ghost use Rattle.living.specs.Told.{doneAnswer, whetherAnswer};
 ghost use Rattle.asking.specs.Answers.{perhapsAnswer, portAnswer};
 ghost use Rattle.valuing.specs.Values.{valueOf};
-ghost use Rattle.offering.specs.Answers.{readingAnswer, valueAnswer, whetherAnswer};
+ghost use Rattle.offering.specs.Answers.{readingAnswer, valueAnswer};
 ghost use Rattle.offering.specs.Rules.{givenBy, declared};
 ghost use Rattle.offering.specs.Words.{offeredTo};
 use asking::APort;
 use asking::Perhaps;
 use living::Done;
+use living::Whether;
 use memory::Life;
 use memory::Place;
 use memory::WORDS;
@@ -30,12 +31,6 @@ use valuing::Value;
 // The value and its provider's id, or a refusal.
 pub enum Reading {
     Is(u64, u64),
-    Refused(u64),
-}
-
-pub enum Whether {
-    Yes,
-    No,
     Refused(u64),
 }
 
@@ -81,18 +76,6 @@ pub fn offer(m: &mut [u64; WORDS], id: u64, key: u64, realm: u64, value: u64) ->
     Done::Accepted
 }
 
-fn is_active(life: Life) -> bool
-    ensures { λ r. ⌜ r ≡ isActive (life .phase) ⌝ }
-{
-    let phase = life.phase;
-    match phase {
-        Phase::Idle => false,
-        Phase::Loading => false,
-        Phase::Active => true,
-        Phase::Unloading => false,
-    }
-}
-
 // What the plugin of a place gives for a port: the value and its own id, or 22.
 fn given(m: &[u64; WORDS], place: usize, key: u64, realm: u64) -> Reading
     ensures { λ r. ⌜ readingAnswer r ≡ givenBy (pluginAt (now (m .entry)) (place % 32)) (port key realm) ⌝ }
@@ -130,7 +113,7 @@ pub fn visible(m: &[u64; WORDS], key: u64, realm: u64) -> Value
     let Place::At(from) = providing::provider(m, key, realm) else {
         return Value::Nothing;
     };
-    if is_active(living::load(m, from)) {
+    if needing::is_active(living::load(m, from)) {
         return valuing::value_of(m, from, key, realm);
     }
     Value::Nothing

@@ -16,12 +16,12 @@ use Rattle.memory.specs.Frames.{withLife}
 use Rattle.memory.specs.Known.{at-known, none-known}
 use Rattle.memory.specs.declared.Life.{Life}
 use Rattle.memory.specs.declared.Place.the-variants.{At, Nowhere}
-use Rattle.living.specs.Told.{Told, told-refused, told-stored, life-found}
-use Rattle.replacing.specs.Answers.{replacedAnswer, fitsAnswer}
+use Rattle.living.specs.Told.{Told, told-refused, told-stored, life-found, whetherAnswer}
+use Rattle.replacing.specs.Answers.{replacedAnswer}
 use Rattle.replacing.specs.Recipes.{changeOf, was-last, not-last, recipeOf, withRecipe}
 use Rattle.replacing.specs.declared.Change.{Change}
 use Rattle.replacing.specs.declared.Replaced.the-variants as replaced
-use Rattle.replacing.specs.declared.Whether.the-variants as whether
+use Rattle.living.specs.declared.Whether.the-variants as whether
 
 -- what a replacement comes to once the plugin is found
 abbrev tested : ℕ → Plugin → Outcome
@@ -70,7 +70,7 @@ module _ (m : List ℕ) (id v : ℕ) where
 
 -- a count, where the id is not found, and where its life was loaded
 module _ (m : List ℕ) (id n : ℕ) where
-  pub fits-none : findAt m id ≡ Nowhere → fitsAnswer (whether.Refused 1) ≡ answerOf (fits (view m) id n)
+  pub fits-none : findAt m id ≡ Nowhere → whetherAnswer (whether.Refused 1) ≡ answerOf (fits (view m) id n)
   unfolding fits
   fits-none e = rw (none-known m id e (λ p. answers (yesNo (leb (p .revision + n) last) ∷ [])))
 
@@ -80,8 +80,8 @@ module _ (m : List ℕ) (id n : ℕ) where
     fits-found = at-known m id i e (λ p. answers (yesNo (leb (p .revision + n) last) ∷ []))
         ∙ ap (λ (x : Life). answers (yesNo (leb (x .revision + n) last) ∷ [])) (sym (life-found m id i e life l))
 
-    pub fits-yes : life .revision + n ≤ last → fitsAnswer whether.Yes ≡ answerOf (fits (view m) id n)
+    pub fits-yes : life .revision + n ≤ last → whetherAnswer whether.Yes ≡ answerOf (fits (view m) id n)
     fits-yes h = rw (fits-found, le-leb (life .revision + n) last h)
 
-    pub fits-no : last < life .revision + n → fitsAnswer whether.No ≡ answerOf (fits (view m) id n)
+    pub fits-no : last < life .revision + n → whetherAnswer whether.No ≡ answerOf (fits (view m) id n)
     fits-no h = rw (fits-found, lt-leb (life .revision + n) last h)

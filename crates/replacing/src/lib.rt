@@ -4,8 +4,10 @@ ghost use Rattle.rules.specs.Outcomes.{answerOf};
 ghost use Rattle.rules.specs.Replacement.{replace, fits};
 ghost use Rattle.memory.specs.View.{view};
 ghost use Rattle.memory.specs.Known.{storedLife};
-ghost use Rattle.replacing.specs.Answers.{replacedAnswer, fitsAnswer};
+ghost use Rattle.living.specs.Told.{whetherAnswer};
+ghost use Rattle.replacing.specs.Answers.{replacedAnswer};
 ghost use Rattle.replacing.specs.Recipes.{changeOf, withRecipe};
+use living::Whether;
 use memory::Life;
 use memory::Place;
 use memory::WORDS;
@@ -21,12 +23,6 @@ pub struct Recipe {
 pub enum Replaced {
     Former(u64),
     Refused(u64, u64),
-}
-
-pub enum Whether {
-    Yes,
-    No,
-    Refused(u64),
 }
 
 // A recipe afterwards, and the answer.
@@ -115,7 +111,7 @@ pub fn replace(m: &mut [u64; WORDS], id: u64, payload: u64) -> Replaced
 
 // Whether a count of replacements fits: 1, else yes exactly if no revision passes the last, by a difference that cannot wrap.
 pub fn fits(m: &[u64; WORDS], id: u64, count: u64) -> Whether
-    ensures { λ r. ⌜ fitsAnswer r ≡ answerOf (fits (view (now (m .entry))) id count) ⌝ }
+    ensures { λ r. ⌜ whetherAnswer r ≡ answerOf (fits (view (now (m .entry))) id count) ⌝ }
 {
     let Place::At(at) = memory::find(m, id) else {
         return Whether::Refused(refusal::UNKNOWN);

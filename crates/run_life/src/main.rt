@@ -2,11 +2,11 @@
 use admitting::Admitted;
 use admitting::Called;
 use living::Done;
+use living::Whether;
 use memory::Parent;
 use memory::WORDS;
 use registering::Registered;
 use replacing::Replaced;
-use replacing::Whether;
 use rules::Port;
 use stepping::Begun;
 
