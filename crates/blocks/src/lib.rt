@@ -2,6 +2,7 @@
 ghost use mathlib.Core.Path.{_≡_};
 ghost use Prim.Native.Nat.{_≤_, _+_, _%_, min};
 ghost use Rattle.blocks.specs.Moves.{lowered, closedGap, lowerFrom, freedPlace};
+use memory::PLACE_WORDS;
 use memory::WORDS;
 
 fn lower(start: u64, end: usize, count: usize) -> u64
@@ -19,7 +20,7 @@ fn lower_starts(m: &mut [u64; WORDS], end: usize, count: usize)
 {
     let mut i: usize = 0;
     while i < 32 {
-        let b = i * 72;
+        let b = i * PLACE_WORDS;
         m[b + 19] = lower(m[b + 19], end, count);
         i += 1;
     }

@@ -4,6 +4,7 @@ ghost use Prim.Native.Nat.{_*_, _%_, _<_};
 ghost use lib.ListN.{length};
 ghost use Rattle.memory.specs.Writes.{puts};
 ghost use Rattle.filling.specs.Entries.{entryWords, filledPlace};
+use memory::PLACE_WORDS;
 use memory::WORDS;
 
 // What is written of a new plugin beside its lists. A tag of 0 says that it has no parent.
@@ -54,7 +55,7 @@ fn store_entry(m: &mut [u64; WORDS], place: usize, e: Entry)
     requires { ⌜ place < 32 ⌝ }
     ensures { λ _. ⌜ now (m .exit) ≡ puts (now (m .entry)) (place * 72) 8 (entryWords e) ⌝ }
 {
-    let b = place * 72;
+    let b = place * PLACE_WORDS;
     m[b + 8] = e.id;
     m[b + 9] = e.tag;
     m[b + 10] = e.parent;
@@ -95,7 +96,7 @@ pub fn fill_place(
     let row = (start as usize) * 2 + 2312;
     put_words(m, row, dependencies);
     put_words(m, row + dependencies.len(), claims);
-    put_words(m, p * 72 + 39, realms);
+    put_words(m, p * PLACE_WORDS + 39, realms);
     store_entry(m, p, e);
     m[2] = e.next;
     places::occupy(m, p);

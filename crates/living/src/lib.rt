@@ -4,6 +4,7 @@ ghost use Prim.Native.Nat.{_%_, _<_};
 ghost use Rattle.memory.specs.View.{phaseOf, rootOf, wordsAt, decoded, lifeAt};
 ghost use Rattle.memory.specs.Writes.{phaseWord, rootTag, rootRevision, rootArgument, putWords, encoded, putLife};
 use memory::Life;
+use memory::PLACE_WORDS;
 use memory::WORDS;
 use memory::Words;
 use rules::Phase;
@@ -89,7 +90,7 @@ fn load_words(m: &[u64; WORDS], place: usize) -> Words
     requires { ⌜ place < 32 ⌝ }
     ensures { λ r. ⌜ r ≡ wordsAt (now (m .entry)) place ⌝ }
 {
-    let b = place * 72;
+    let b = place * PLACE_WORDS;
     Words {
         revision: m[b + 11],
         payload: m[b + 12],
@@ -106,7 +107,7 @@ fn store_words(m: &mut [u64; WORDS], place: usize, w: Words)
     requires { ⌜ place < 32 ⌝ }
     ensures { λ _. ⌜ now (m .exit) ≡ putWords (now (m .entry)) place w ⌝ }
 {
-    let b = place * 72;
+    let b = place * PLACE_WORDS;
     m[b + 11] = w.revision;
     m[b + 12] = w.payload;
     m[b + 13] = w.phase;

@@ -11,6 +11,9 @@ use rules::Root;
 
 pub const WORDS: usize = 4488;
 
+// The words of a place: 63 in use, and room for what may come.
+pub const PLACE_WORDS: usize = 72;
+
 // A place among the 32.
 pub enum Place {
     At(usize),
@@ -87,7 +90,7 @@ fn names(m: &[u64; WORDS], id: u64, place: usize) -> bool
     ensures { λ r. ⌜ r ≡ namesAt (now (m .entry)) id place ⌝ }
 {
     if is_taken(m, place) {
-        m[place * 72 + 8] == id
+        m[place * PLACE_WORDS + 8] == id
     } else {
         false
     }
@@ -110,7 +113,7 @@ pub fn find(m: &[u64; WORDS], id: u64) -> Place
 pub fn id(m: &[u64; WORDS], place: usize) -> u64
     ensures { λ r. ⌜ r ≡ idAt (now (m .entry)) (place % 32) ⌝ }
 {
-    let b = place % 32 * 72;
+    let b = place % 32 * PLACE_WORDS;
     m[b + 8]
 }
 
@@ -118,7 +121,7 @@ pub fn id(m: &[u64; WORDS], place: usize) -> u64
 pub fn parent_of(m: &[u64; WORDS], place: usize) -> Parent
     ensures { λ r. ⌜ parentId r ≡ parentAt (now (m .entry)) (place % 32) ⌝ }
 {
-    let b = place % 32 * 72;
+    let b = place % 32 * PLACE_WORDS;
     if m[b + 9] == 0 {
         Parent::Nobody
     } else {
@@ -130,7 +133,7 @@ pub fn parent_of(m: &[u64; WORDS], place: usize) -> Parent
 pub fn is_child_of(m: &[u64; WORDS], place: usize, id: u64) -> bool
     ensures { λ r. ⌜ r ≡ holds (eqb id) (parentAt (now (m .entry)) (place % 32)) ⌝ }
 {
-    let b = place % 32 * 72;
+    let b = place % 32 * PLACE_WORDS;
     if m[b + 9] == 0 {
         false
     } else {

@@ -3,6 +3,7 @@ ghost use mathlib.Core.Path.{_≡_};
 ghost use Prim.Native.Nat.{_%_, min};
 ghost use Rattle.memory.specs.Layout.{part, startAt, depsAt, provsAt, realmsAt, depPart, provPart, realmPart};
 ghost use Rattle.memory.specs.View.{anchorAt};
+use memory::PLACE_WORDS;
 use memory::WORDS;
 use rules::Port;
 
@@ -33,7 +34,7 @@ fn at_most(word: u64, limit: usize) -> usize
 pub fn start(m: &[u64; WORDS], place: usize) -> usize
     ensures { λ r. ⌜ r ≡ startAt (now (m .entry)) (place % 32) ⌝ }
 {
-    let b = place % 32 * 72;
+    let b = place % 32 * PLACE_WORDS;
     at_most(m[b + 19], 1024)
 }
 
@@ -41,21 +42,21 @@ pub fn start(m: &[u64; WORDS], place: usize) -> usize
 pub fn dependencies(m: &[u64; WORDS], place: usize) -> usize
     ensures { λ r. ⌜ r ≡ depsAt (now (m .entry)) (place % 32) ⌝ }
 {
-    let b = place % 32 * 72;
+    let b = place % 32 * PLACE_WORDS;
     at_most(m[b + 20], 48)
 }
 
 pub fn provisions(m: &[u64; WORDS], place: usize) -> usize
     ensures { λ r. ⌜ r ≡ provsAt (now (m .entry)) (place % 32) ⌝ }
 {
-    let b = place % 32 * 72;
+    let b = place % 32 * PLACE_WORDS;
     at_most(m[b + 21], 15)
 }
 
 pub fn realm_rows(m: &[u64; WORDS], place: usize) -> usize
     ensures { λ r. ⌜ r ≡ realmsAt (now (m .entry)) (place % 32) ⌝ }
 {
-    let b = place % 32 * 72;
+    let b = place % 32 * PLACE_WORDS;
     at_most(m[b + 22], 16)
 }
 
@@ -79,7 +80,7 @@ pub fn provision_words(m: &[u64; WORDS], place: usize) -> &[u64]
 pub fn realm_words(m: &[u64; WORDS], place: usize) -> &[u64]
     ensures { λ r. ⌜ now r ≡ realmPart (now (m .entry)) (place % 32) ⌝ }
 {
-    let from = place % 32 * 72 + 39;
+    let from = place % 32 * PLACE_WORDS + 39;
     let count = realm_rows(m, place) * 2;
     some_words(m, from, count)
 }

@@ -8,6 +8,7 @@ ghost use Rattle.rules.specs.Ports.{pairs};
 ghost use Rattle.rules.specs.Values.{valueIn};
 ghost use Rattle.memory.specs.View.{valueAt, pluginAt};
 ghost use Rattle.valuing.specs.Values.{maskBit, valueOf, portFrom, lackFrom, withValue};
+use memory::PLACE_WORDS;
 use memory::WORDS;
 use ports::Found;
 
@@ -20,7 +21,7 @@ pub enum Value {
 fn has_value(m: &[u64; WORDS], place: usize, provision: usize) -> bool
     ensures { λ r. ⌜ r ≡ eqb (maskBit (now (m .entry)) (place % 32) (provision % 16)) 1 ⌝ }
 {
-    let b = place % 32 * 72;
+    let b = place % 32 * PLACE_WORDS;
     (m[b + 23] >> (provision % 16)) % 2 == 1
 }
 
@@ -29,7 +30,7 @@ pub fn value_at(m: &[u64; WORDS], place: usize, provision: usize) -> Value
     ensures { λ r. ⌜ valueOf r ≡ valueAt (now (m .entry)) (place % 32) (provision % 16) ⌝ }
 {
     if has_value(m, place, provision) {
-        let b = place % 32 * 72;
+        let b = place % 32 * PLACE_WORDS;
         let j = provision % 16;
         Value::Is(m[b + 24 + j])
     } else {
@@ -87,7 +88,7 @@ pub fn set_value(m: &mut [u64; WORDS], place: usize, provision: usize, value: u6
     if has_value(m, place, provision) {
         return;
     }
-    let b = place % 32 * 72;
+    let b = place % 32 * PLACE_WORDS;
     let j = provision % 16;
     m[b + 23] = m[b + 23] | 1 << j;
     m[b + 24 + j] = value;
@@ -97,6 +98,6 @@ pub fn set_value(m: &mut [u64; WORDS], place: usize, provision: usize, value: u6
 pub fn drop_values(m: &mut [u64; WORDS], place: usize)
     ensures { λ _. ⌜ now (m .exit) ≡ set (now (m .entry)) (place % 32 * 72 + 23) 0 ⌝ }
 {
-    let b = place % 32 * 72;
+    let b = place % 32 * PLACE_WORDS;
     m[b + 23] = 0;
 }
