@@ -1,6 +1,6 @@
 -- Two answers with the same numbers are equal, for the answers whose crates do not say so themselves.
 use Prim.Native.Nat.{ℕ}
-use mathlib.Core.Path.{_≡_, refl, ap}
+use mathlib.Core.Path.{_≡_, refl, sym, ap, _∙_}
 use Rattle.rules.specs.declared.Root.{Root}
 use Rattle.rules.specs.declared.Root.the-variants.{Unissued, Queued, Spent}
 use Rattle.rules.specs.Queries.{rootNumbers}
@@ -21,6 +21,14 @@ use Rattle.retiring.specs.declared.Child.the-variants as child
 use Rattle.stepping.specs.Lives.{begunAnswer}
 use Rattle.stepping.specs.declared.Begun.{Begun}
 use Rattle.stepping.specs.declared.Begun.the-variants as begun
+
+-- The law that every list entry of docs/FUNCTIONS.md uses: a promise fixes f of the outcome; where f tells outcomes apart, it allows
+-- one. For a promise `r ≡ ..`, f is the identity.
+pub one-outcome : {A B : Type 0} (f : A → B) → ((a b : A) → f a ≡ f b → a ≡ b) → (x : B) (a b : A) → f a ≡ x → f b ≡ x → a ≡ b
+one-outcome f exact x a b e g = exact a b (e ∙ sym g)
+
+pub by-equation : {A : Type 0} (x a b : A) → a ≡ x → b ≡ x → a ≡ b
+by-equation x a b e g = one-outcome (λ y. y) (λ c d h. h) x a b e g
 
 pub number-exact : (a b : Number) → numberAnswer a ≡ numberAnswer b → a ≡ b
 number-exact (number.Is n) (number.Is k) e = let j : n ≡ k = cc in ap number.Is j
