@@ -3,8 +3,9 @@ use Prim.Native.Nat.{ℕ}
 use mathlib.Core.Path.{_≡_, refl}
 use mathlib.Core.List.{List}
 use lib.ListN.{length}
-use Rattle.rules.specs.Steps.{Op, step}
-use Rattle.rules.specs.Steps.{ResolveKey, DependencyPort, Register, Begin, Ready, Fail, Unload, Finish, Replace, Fits, Admit, Admits, Call, Retire, RetireChild, ChildIdentity, Remove, Offer, Read, Visible, Own, FirstMissing, Matching, Declares, Listed, AskPlugin, AskRegistry, NextAbove}
+use Rattle.rules.specs.declared.Port.{Port}
+use Rattle.rules.specs.Outcomes.{Outcome}
+use Rattle.rules.specs.Steps.{Op, step, ResolveKey, DependencyPort, Register, Begin, Ready, Fail, Unload, Finish, Replace, Fits, Admit, Admits, Call, Retire, RetireChild, ChildIdentity, Remove, Offer, Read, Visible, Own, FirstMissing, Matching, Declares, Listed, AskPlugin, AskRegistry, NextAbove}
 use Rattle.memory.specs.View.{view}
 use Rattle.memory.specs.Known.{storedLife, stored-size}
 use Rattle.freeing.specs.Words.{removedFrom, removed-size}
@@ -12,64 +13,62 @@ use Rattle.registering.specs.Written.{addedTo, added-size}
 use Rattle.settling.specs.Finished.{finishedTo, finished-size}
 use Rattle.offering.specs.Words.{offeredTo, offered-size}
 
+-- the ways in which an operation changes the words, or does not
+pub data Way : Type 0 where
+  asks adds stores finishes removes : Way
+  offers : (id : ℕ) → Port → (value : ℕ) → Way
+
+abbrev pub wayOf : Op → Way
+wayOf (Register d) = adds
+wayOf (Begin id) = stores
+wayOf (Ready id) = stores
+wayOf (Fail id) = stores
+wayOf (Unload id) = stores
+wayOf (Finish id) = finishes
+wayOf (Replace id payload) = stores
+wayOf (Admit t argument) = stores
+wayOf (Call t) = stores
+wayOf (Retire id) = stores
+wayOf (RetireChild c) = stores
+wayOf (Remove id) = removes
+wayOf (Offer id q value) = offers id q value
+wayOf (ResolveKey realms key) = asks
+wayOf (DependencyPort id key) = asks
+wayOf (Fits id times) = asks
+wayOf (Admits t) = asks
+wayOf (ChildIdentity id) = asks
+wayOf (Read id q) = asks
+wayOf (Visible q) = asks
+wayOf (Own id q) = asks
+wayOf (FirstMissing id) = asks
+wayOf (Matching id ports) = asks
+wayOf (Declares id q) = asks
+wayOf (Listed w id place buffer) = asks
+wayOf (AskPlugin f id) = asks
+wayOf (AskRegistry t) = asks
+wayOf (NextAbove n) = asks
+
+-- The definitions that the functions' promises name.
+abbrev pub leftBy : Way → List ℕ → Outcome → List ℕ
+leftBy asks m o = m
+leftBy adds m o = addedTo m o
+leftBy stores m o = storedLife m o
+leftBy finishes m o = finishedTo m o
+leftBy removes m o = removedFrom m o
+leftBy (offers id q value) m o = offeredTo m id q value o
+
 unfoldable pub leaves : List ℕ → Op → List ℕ
-leaves m (Register d) = addedTo m (step (view m) (Register d))
-leaves m (Begin id) = storedLife m (step (view m) (Begin id))
-leaves m (Ready id) = storedLife m (step (view m) (Ready id))
-leaves m (Fail id) = storedLife m (step (view m) (Fail id))
-leaves m (Unload id) = storedLife m (step (view m) (Unload id))
-leaves m (Finish id) = finishedTo m (step (view m) (Finish id))
-leaves m (Replace id payload) = storedLife m (step (view m) (Replace id payload))
-leaves m (Admit t argument) = storedLife m (step (view m) (Admit t argument))
-leaves m (Call t) = storedLife m (step (view m) (Call t))
-leaves m (Retire id) = storedLife m (step (view m) (Retire id))
-leaves m (RetireChild c) = storedLife m (step (view m) (RetireChild c))
-leaves m (Remove id) = removedFrom m (step (view m) (Remove id))
-leaves m (Offer id q value) = offeredTo m id q value (step (view m) (Offer id q value))
-leaves m (ResolveKey realms key) = m
-leaves m (DependencyPort id key) = m
-leaves m (Fits id times) = m
-leaves m (Admits t) = m
-leaves m (ChildIdentity id) = m
-leaves m (Read id q) = m
-leaves m (Visible q) = m
-leaves m (Own id q) = m
-leaves m (FirstMissing id) = m
-leaves m (Matching id ports) = m
-leaves m (Declares id q) = m
-leaves m (Listed w id place buffer) = m
-leaves m (AskPlugin f id) = m
-leaves m (AskRegistry t) = m
-leaves m (NextAbove n) = m
+leaves m o = leftBy (wayOf o) m (step (view m) o)
 
 -- On any words, there are as many afterwards.
+left-size : (w : Way) (m : List ℕ) (o : Outcome) → length (leftBy w m o) ≡ length m
+left-size asks m o = refl
+left-size adds m o = added-size m o
+left-size stores m o = stored-size m o
+left-size finishes m o = finished-size m o
+left-size removes m o = removed-size m o
+left-size (offers id q value) m o = offered-size m id q value o
+
 pub leaves-size : (m : List ℕ) (o : Op) → length (leaves m o) ≡ length m
 unfolding leaves
-leaves-size m (Register d) = added-size m _
-leaves-size m (Begin id) = stored-size m _
-leaves-size m (Ready id) = stored-size m _
-leaves-size m (Fail id) = stored-size m _
-leaves-size m (Unload id) = stored-size m _
-leaves-size m (Finish id) = finished-size m _
-leaves-size m (Replace id payload) = stored-size m _
-leaves-size m (Admit t argument) = stored-size m _
-leaves-size m (Call t) = stored-size m _
-leaves-size m (Retire id) = stored-size m _
-leaves-size m (RetireChild c) = stored-size m _
-leaves-size m (Remove id) = removed-size m _
-leaves-size m (Offer id q value) = offered-size m id q value _
-leaves-size m (ResolveKey realms key) = refl
-leaves-size m (DependencyPort id key) = refl
-leaves-size m (Fits id times) = refl
-leaves-size m (Admits t) = refl
-leaves-size m (ChildIdentity id) = refl
-leaves-size m (Read id q) = refl
-leaves-size m (Visible q) = refl
-leaves-size m (Own id q) = refl
-leaves-size m (FirstMissing id) = refl
-leaves-size m (Matching id ports) = refl
-leaves-size m (Declares id q) = refl
-leaves-size m (Listed w id place buffer) = refl
-leaves-size m (AskPlugin f id) = refl
-leaves-size m (AskRegistry t) = refl
-leaves-size m (NextAbove n) = refl
+leaves-size m o = left-size (wayOf o) m (step (view m) o)

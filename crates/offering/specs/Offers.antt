@@ -50,7 +50,7 @@ module _ (m : List ℕ) (i : ℕ) (q : Port) where
     pub value-is : valueIn q (pluginAt m i .provisions) ≡ valueAt m i j
     value-is = ap (λ (vs : List Provision). valueIn q vs) (provisions-at m i) ∙ value-there m i q (pairs (provPart m i)) j t
 
-    pub row-is : j % 16 ≡ j
+    pub row-is : j % 15 ≡ j
     row-is = mod-eq-of-lt (omega (arith, port-below m i q j t))
 
     -- an offer that is stored is stored there
@@ -92,11 +92,11 @@ module _ (m : List ℕ) (id : ℕ) (q : Port) (v : ℕ) where
       unfolding checked
       offered-undeclared n = refused Undeclared (offer-found ∙ rw (closed-is ∙ o, undeclared m i q (found-is ∙ n)))
 
-      module _ (j : ℕ) (t : f ≡ found.At j) (x : Value) (y : valueOf x ≡ valueAt m (i % 32) (j % 16)) (c : Bool) (z : c ≡ isSome (valueOf x)) where
+      module _ (j : ℕ) (t : f ≡ found.At j) (x : Value) (y : valueOf x ≡ valueAt m (i % 32) (j % 15)) (c : Bool) (z : c ≡ isSome (valueOf x)) where
         given-is : isSome (valueIn q (pluginAt m i .provisions)) ≡ c
         given-is =
             let u = found-is ∙ t in
-            let h : valueAt m (i % 32) (j % 16) ≡ valueAt m i j = rw (at-place m id i e, row-is m i q j u) in
+            let h : valueAt m (i % 32) (j % 15) ≡ valueAt m i j = rw (at-place m id i e, row-is m i q j u) in
             ap isSome (value-is m i q j u ∙ sym (y ∙ h)) ∙ sym z
 
         pub offered-twice : c ≡ true → Offered (Refused (number Duplicate) []) m
@@ -107,8 +107,8 @@ module _ (m : List ℕ) (id : ℕ) (q : Port) (v : ℕ) where
         unfolding checked
         stored-is s = offer-found ∙ rw (closed-is ∙ o, declared m i q j (found-is ∙ t), given-is ∙ s)
 
-        pub offered-now : c ≡ false → (m′ : List ℕ) → m′ ≡ withValue m (i % 32) (j % 16) v → Offered (Accepted []) m′
+        pub offered-now : c ≡ false → (m′ : List ℕ) → m′ ≡ withValue m (i % 32) (j % 15) v → Offered (Accepted []) m′
         offered-now s m′ p =
             let u = found-is ∙ t in
-            let h : withValue m (i % 32) (j % 16) v ≡ withValue m i j v = rw (at-place m id i e, row-is m i q j u) in
+            let h : withValue m (i % 32) (j % 15) v ≡ withValue m i j v = rw (at-place m id i e, row-is m i q j u) in
             (sym (ap answerOf (stored-is s)), p ∙ h ∙ sym (ap (offeredTo m id q v) (stored-is s) ∙ put-there m i q j u id e v))

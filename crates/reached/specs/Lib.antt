@@ -1,1 +1,4 @@
+pub mod Transcripts
+pub mod Registrations
+pub mod Lives
 pub mod Reached

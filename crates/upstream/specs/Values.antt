@@ -1,21 +1,20 @@
--- Upstream's clauses on ports and values: R's dependency list, S's provisions and reads.
+-- Upstream's clauses on S's provisions and reads.
 use Prim.Native.Nat.{ℕ}
 use native.Mathlib.Omega.{arith}
 use mathlib.Core.Path.{_≡_, refl, sym, ap, _∙_, subst}
-use mathlib.Core.Bool.{Bool, true, false, not, _&&_, _||_, true≢false, and-true, and-false, and-assoc, or-false, or-true, or-assoc, and-or-distrib-left}
-use mathlib.Core.List.{List, [], _∷_, _++_, map, map-map}
+use mathlib.Core.Bool.{Bool, true, false, not, _&&_, _||_, true≢false, and-true, and-false, and-assoc, or-true}
+use mathlib.Core.List.{List, [], _∷_, map, map-map}
 use mathlib.Core.Option.{Option, none, some}
 use mathlib.Core.Logic.{_⊎_, inl, inr, ⊎-elim, _↔_}
 use lib.Dec.{eqb}
-use borrow.Author.Tests.{eqb-true, eqb-false, eq-eqb, ne-eqb, not-false}
+use borrow.Author.Tests.{not-false}
 use Rattle.rules.specs.Basics.{pick, any, isSome, isNone, holds, sameNumbers, yesNo, one}
 use Rattle.rules.specs.declared.Port.{Port}
 use Rattle.rules.specs.declared.Phase.the-variants.{Active}
-use Rattle.rules.specs.Holds.{Realms, Provision, Registry, Plugin, plugins, lookup, provider, provided, provides, samePort, isIn}
+use Rattle.rules.specs.Holds.{Provision, Registry, Plugin, plugins, lookup, provider, provided, provides, samePort, isIn}
 use Rattle.rules.specs.Holds.{isLoading, isActive, running, withProvisions}
 use Rattle.rules.specs.Outcomes.{Refused, Accepted, Outcome, answerOf, checked, found}
-use Rattle.rules.specs.Ports.{pairs, oddLength, flat, samePorts, resolve}
-use Rattle.rules.specs.Dependencies.{candidates, skipped, inherit, dependencyList, firstPort}
+use Rattle.rules.specs.Ports.{pairs, oddLength, flat, samePorts}
 use Rattle.rules.specs.Registration.{repeats}
 use Rattle.rules.specs.Values.{valueIn, offered, offer, isEmpty, firstMissing, matching, declares, given, served, read, seen, visible}
 use Rattle.rules.specs.Laws.Tests.{by-test, both, neither}
@@ -24,134 +23,8 @@ use Rattle.rules.specs.Laws.Table.{is-active}
 use Rattle.rules.specs.Demand3.Lives.{same-true, same-of}
 use Rattle.rules.specs.Built.{Built}
 use Rattle.rules.specs.Kept.Plugins.{alike}
-use Rattle.upstream.specs.Operations.{accepted, exact, held-by, Effect, has-effect, When, when-passed, when-known}
-
-pub any-append : {A : Type 0} (f : A → Bool) (l m : List A) → any f (l ++ m) ≡ (any f l || any f m)
-any-append f [] m = refl
-any-append f (x ∷ l) m = rw (any-append f l m, or-assoc)
-
-eqb-swap : (a b : ℕ) → eqb a b ≡ eqb b a
-eqb-swap a b = by-test (eqb a b)
-    (λ y. y ∙ sym (eq-eqb b a (sym (eqb-true a b y))))
-    (λ n. n ∙ sym (ne-eqb b a (λ i. eqb-false a b n (sym i))))
-
-pub same-swap : (p q : Port) → samePort p q ≡ samePort q p
-same-swap p q = rw (eqb-swap (p .key) (q .key), eqb-swap (p .realm) (q .realm))
-
-pub same-self : (p : Port) → samePort p p ≡ true
-same-self p = rw (eq-eqb (p .key) (p .key) refl, eq-eqb (p .realm) (p .realm) refl)
-
--- a port is appended unless a test holds
-appended : (c : Bool) (l : List Port) (p q : Port) → isIn p (pick c l (l ++ q ∷ [])) ≡ (isIn p l || (not c && samePort p q))
-appended true l p q = sym (or-false _)
-appended false l p q = any-append (samePort p) l (q ∷ []) ∙ ap (λ b. isIn p l || b) (or-false _)
-
-absorb : (a b : Bool) → (a || (not (b || a) && true)) ≡ (a || (not b && true))
-absorb true b = refl
-absorb false b = rw or-false
-
--- R inherit_one: the list contains what it contained, and the port unless that is provided.
-pub inherit-one : (provisions l : List Port) (p q : Port)
-    → isIn p (pick (skipped provisions l q) l (l ++ q ∷ [])) ≡ (isIn p l || (not (isIn p provisions) && samePort p q))
-inherit-one provisions l p q = appended (skipped provisions l q) l p q ∙ by-test (samePort p q)
-    (λ y. let i = same-port p q y in rw (y, ap (λ x. isIn x provisions) i, ap (λ x. isIn x l) i) (absorb (isIn p l) (isIn p provisions)))
-    (λ n. rw n (simp and-false))
-
--- R inherit_dependencies: .. and each candidate that is not provided.
-pub inherit-in : (provisions cs l : List Port) (p : Port)
-    → isIn p (inherit provisions cs l) ≡ (isIn p l || (not (isIn p provisions) && isIn p cs))
-inherit-in provisions [] l p = rw (and-false, or-false)
-inherit-in provisions (q ∷ qs) l p =
-    inherit-in provisions qs _ p ∙ rw (inherit-one provisions l p q, or-assoc, and-or-distrib-left)
-
--- R inherited_at: some port of the parent's list is p, or has a key that resolves to p. These are the candidates.
-abbrev pub inheritedAt : List Port → Realms → Port → Bool
-inheritedAt parents z p = any (λ (q : Port). samePort p q || samePort p (resolve z (q .key))) parents
-
-pub candidates-in : (z : Realms) (parents : List Port) (p : Port) → isIn p (candidates z parents) ≡ inheritedAt parents z p
-candidates-in z [] p = refl
-candidates-in z (q ∷ qs) p = rw (candidates-in z qs p, or-assoc)
-
--- R registered_dependencies: a declared port, or one that is inherited and not provided.
-pub dependencies-in : (z : Realms) (provisions : List Port) (keys : List ℕ) (parents : List Port) (p : Port)
-    → isIn p (dependencyList z provisions keys parents) ≡ (isIn p (map (resolve z) keys) || (not (isIn p provisions) && inheritedAt parents z p))
-unfolding dependencyList
-dependencies-in z provisions keys parents p = inherit-in provisions (candidates z parents) _ p ∙ rw candidates-in
-
-regroup : (a b c d : Bool) → ((a || (b || false)) || (c || d)) ≡ ((a || c) || (b || d))
-regroup true b c d = refl
-regroup false true c d = sym (or-true c)
-regroup false false c d = refl
-
-repeats-append : (l : List Port) (q : Port) → repeats (l ++ q ∷ []) ≡ (repeats l || isIn q l)
-repeats-append [] q = refl
-repeats-append (x ∷ l) q = rw (any-append (samePort x) l (q ∷ []), repeats-append l q, same-swap x q) (regroup (isIn x l) (samePort q x) _ _)
-
--- R inherit_one, inherit_dependencies: distinct_ports stays as it was,
-pub one-distinct : (provisions l : List Port) (q : Port) → repeats (pick (skipped provisions l q) l (l ++ q ∷ [])) ≡ repeats l
-one-distinct provisions l q = by-test (skipped provisions l q)
-    (λ y. rw y)
-    (λ n. rw n (repeats-append l q ∙ rw (neither (isIn q provisions) (isIn q l) n .1, or-false)))
-
-pub inherit-distinct : (provisions cs l : List Port) → repeats (inherit provisions cs l) ≡ repeats l
-inherit-distinct provisions [] l = refl
-inherit-distinct provisions (q ∷ qs) l = inherit-distinct provisions qs _ ∙ one-distinct provisions l q
-
--- .. so a finished list names a port twice only if two declared keys resolve alike.
-pub dependencies-distinct : (z : Realms) (provisions : List Port) (keys : List ℕ) (parents : List Port)
-    → repeats (dependencyList z provisions keys parents) ≡ repeats (map (resolve z) keys)
-unfolding dependencyList
-dependencies-distinct z provisions keys parents = inherit-distinct provisions (candidates z parents) _
-
--- The first of a list that passes a test: where it stands.
-pub record First {A : Type 0} (f : A → Bool) (l : List A) (a : A) : Type 0 where
-  pub before : List A
-  pub behind : List A
-  pub split : l ≡ before ++ a ∷ behind
-  pub member : In a l
-  pub passes : f a ≡ true
-  pub earlier : any f before ≡ false
-
-module _ {A : Type 0} (f : A → Bool) (g : A → Port) where
-  -- its port, or none
-  abbrev pub firstOf : List A → List ℕ
-  firstOf [] = []
-  firstOf (x ∷ l) = pick (f x) (flat (g x ∷ [])) (firstOf l)
-
-  pub firstOf-none : (l : List A) → isEmpty (firstOf l) ≡ not (any f l)
-  firstOf-none [] = refl
-  firstOf-none (x ∷ l) = by-test (f x) (λ y. rw y) (λ n. rw n (firstOf-none l))
-
-  pub firstOf-some : (l : List A) → any f l ≡ true → (a : A) × (firstOf l ≡ flat (g a ∷ [])) × First f l a
-  firstOf-some [] e = absurd (true≢false (sym e))
-  firstOf-some (x ∷ l) e = by-test (f x)
-      (λ y. (x, rw y, record { before = []; behind = l; split = refl; member = inl refl; passes = y; earlier = refl }))
-      (λ n. let (a, i, w) = firstOf-some l (rw n at e) in (
-        a,
-        rw n i,
-        record {
-          before = x ∷ w .before;
-          behind = w .behind;
-          split = ap (λ m. x ∷ m) (w .split);
-          member = inr (w .member);
-          passes = w .passes;
-          earlier = rw n (w .earlier);
-        },
-      ))
-
--- R dependency_port: none exactly if no port has the key; otherwise the first one that has it.
-abbrev pub hasKey : ℕ → Port → Bool
-hasKey k p = eqb (p .key) k
-
-first-port : (k : ℕ) (l : List Port) → firstPort k l ≡ firstOf (hasKey k) (λ p. p) l
-first-port k [] = refl
-first-port k (p ∷ l) = rw (first-port k l)
-
-pub dependency-none : (k : ℕ) (l : List Port) → isEmpty (firstPort k l) ≡ not (any (hasKey k) l)
-dependency-none k l = rw (first-port k l) (firstOf-none (hasKey k) (λ p. p) l)
-
-pub dependency-some : (k : ℕ) (l : List Port) → any (hasKey k) l ≡ true → (p : Port) × (firstPort k l ≡ flat (p ∷ [])) × First (hasKey k) l p
-dependency-some k l e = rw (first-port k l) (firstOf-some (hasKey k) (λ p. p) l e)
+use Rattle.upstream.specs.Accepted.{accepted, exact, held-by, Effect, has-effect, When, when-passed, when-known}
+use Rattle.upstream.specs.Dependencies.{same-swap, same-self, First, firstOf, firstOf-none, firstOf-some}
 
 -- The ports of provisions.
 abbrev pub ports : List Provision → List Port

@@ -84,7 +84,7 @@ module _ (m : List ℕ) (i : ℕ) (ws : List ℕ) (w : ws ≡ provPart m i) (j :
   unfolding lackFrom
   lack-end h = ap (λ (ps : List Port). lackFrom j (valued m i j ps)) (pairs-end (provPart m i) (j * 2) (omega (arith, ap length w)))
 
-  module _ (h : j < length ws / 2) (b : Bool) (e : b ≡ eqb (maskBit m i (j % 16)) 1) where
+  module _ (h : j < length ws / 2) (b : Bool) (e : b ≡ eqb (maskBit m i (j % 15)) 1) where
     first-at : pairs (drop (j * 2) (provPart m i)) ≡ port (getD (provPart m i) (j * 2) 0) (getD (provPart m i) (j * 2 + 1) 0) ∷ pairs (drop (j * 2 + 2) (provPart m i))
     first-at = pairs-at (provPart m i) (j * 2) (omega (arith, ap length w))
 
@@ -107,7 +107,7 @@ module _ (m : List ℕ) (i : ℕ) (q : Port) (ws : List ℕ) (w : ws ≡ provPar
   pub no-value : f ≡ Nothing → none ≡ valueIn q (pluginAt m i .provisions)
   no-value n = sym (ap (valueIn q) (provisions-at m i) ∙ value-nowhere m i q (pairs (provPart m i)) (sym found ∙ n))
 
-  pub its-value : (j : ℕ) → f ≡ At j → valueAt m i (j % 16) ≡ valueIn q (pluginAt m i .provisions)
+  pub its-value : (j : ℕ) → f ≡ At j → valueAt m i (j % 15) ≡ valueIn q (pluginAt m i .provisions)
   its-value j n =
       let e = sym found ∙ n in
       let h = port-below m i q j e in

@@ -1,4 +1,4 @@
-// A plugin's values: one for each provision, or none. Every function takes any words; a place is read modulo 32, a provision's number modulo 16.
+// A plugin's values: one for each provision, or none. Every function takes any words; a place is read modulo 32, a provision's number modulo 15.
 ghost use mathlib.Core.Path.{_≡_};
 ghost use Prim.Native.Nat.{_+_, _*_, _%_};
 ghost use lib.Dec.{eqb};
@@ -19,19 +19,19 @@ pub enum Value {
 
 // Whether a provision has a value: its bit in the mask.
 fn has_value(m: &[u64; WORDS], place: usize, provision: usize) -> bool
-    ensures { λ r. ⌜ r ≡ eqb (maskBit (now (m .entry)) (place % 32) (provision % 16)) 1 ⌝ }
+    ensures { λ r. ⌜ r ≡ eqb (maskBit (now (m .entry)) (place % 32) (provision % 15)) 1 ⌝ }
 {
     let b = place % 32 * PLACE_WORDS;
-    (m[b + 23] >> (provision % 16)) % 2 == 1
+    (m[b + 23] >> (provision % 15)) % 2 == 1
 }
 
 // The value of a provision, or nothing.
 pub fn value_at(m: &[u64; WORDS], place: usize, provision: usize) -> Value
-    ensures { λ r. ⌜ valueOf r ≡ valueAt (now (m .entry)) (place % 32) (provision % 16) ⌝ }
+    ensures { λ r. ⌜ valueOf r ≡ valueAt (now (m .entry)) (place % 32) (provision % 15) ⌝ }
 {
     if has_value(m, place, provision) {
         let b = place % 32 * PLACE_WORDS;
-        let j = provision % 16;
+        let j = provision % 15;
         Value::Is(m[b + 24 + j])
     } else {
         Value::Nothing
@@ -83,13 +83,13 @@ pub fn first_lacking(m: &[u64; WORDS], place: usize) -> Found
 
 // A provision that has no value gets one.
 pub fn set_value(m: &mut [u64; WORDS], place: usize, provision: usize, value: u64)
-    ensures { λ _. ⌜ now (m .exit) ≡ withValue (now (m .entry)) (place % 32) (provision % 16) value ⌝ }
+    ensures { λ _. ⌜ now (m .exit) ≡ withValue (now (m .entry)) (place % 32) (provision % 15) value ⌝ }
 {
     if has_value(m, place, provision) {
         return;
     }
     let b = place % 32 * PLACE_WORDS;
-    let j = provision % 16;
+    let j = provision % 15;
     m[b + 23] = m[b + 23] | 1 << j;
     m[b + 24 + j] = value;
 }

@@ -27,12 +27,12 @@ returns : tie.Need-returns
 returns c =
     let r = c .before .before in
     let a = r .before .args in
-    value-is (a .m .now) (a .place % 32) (a .provision % 16) _ (r .has-value .ensures) (c .before .if1 .taken)
+    value-is (a .m .now) (a .place % 32) (a .provision % 15) _ (r .has-value .ensures) (c .before .if1 .taken)
 
 returns-2 : tie.Need-returns-2
 returns-2 c =
     let a = c .before .before .args in
-    value-not (a .m .now) (a .place % 32) (a .provision % 16) _ (c .before .has-value .ensures) (c .if1 .left)
+    value-not (a .m .now) (a .place % 32) (a .provision % 15) _ (c .before .has-value .ensures) (c .if1 .left)
 
 pub value-at-spec : {M : Type 1} → statement M
 value-at-spec =
