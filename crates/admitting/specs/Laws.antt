@@ -23,7 +23,8 @@ use Rattle.memory.specs.declared.Life.{Life}
 use Rattle.memory.specs.declared.Place.the-variants.{At, Nowhere}
 use Rattle.living.specs.Told.{Told, told-stored, life-found}
 use Rattle.admitting.specs.Answers.{admitsAnswer}
-use Rattle.admitting.specs.Lives.{verdict, verdictOf, liveOf, rootedLife}
+use Rattle.judging.specs.Lives.{verdict, verdictOf, liveOf}
+use Rattle.admitting.specs.Lives.{rootedLife}
 
 -- a found plugin and its life as it was loaded
 module _ (m : List ℕ) (id i : ℕ) (life : Life) (e : findAt m id ≡ At i) (l : life ≡ lifeAt m (i % 32)) where

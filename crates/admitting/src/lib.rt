@@ -1,23 +1,19 @@
 // Document 01, "Admission and call", over the registry's memory.
 ghost use mathlib.Core.Path.{_≡_};
 ghost use Rattle.rules.specs.Outcomes.{answerOf};
-ghost use Rattle.rules.specs.Admission.{admit, admits, call, isQueued};
+ghost use Rattle.rules.specs.Admission.{admit, admits, call};
 ghost use Rattle.memory.specs.View.{view};
 ghost use Rattle.memory.specs.Known.{storedLife};
 ghost use Rattle.admitting.specs.Answers.{admittedAnswer, admitsAnswer, calledAnswer};
-ghost use Rattle.admitting.specs.Lives.{isCurrent, verdictOf, liveOf, rootedLife};
+ghost use Rattle.admitting.specs.Lives.{rootedLife};
 use memory::Life;
 use memory::Place;
 use memory::WORDS;
-use rules::Phase;
 use rules::Root;
 use rules::refusal;
 
 // The request of a root's receipt.
 pub const ROOT_REQUEST: u64 = 0;
-
-// The verdict on a life that is admitted; every other is a refusal's number.
-const ADMITTED: u64 = 0;
 
 // Domain, id, generation, revision and argument, or a refusal.
 pub enum Admitted {
@@ -29,66 +25,6 @@ pub enum Admitted {
 pub enum Called {
     Receipt(u64, u64, u64, u64, u64, u64),
     Refused(u64),
-}
-
-// Loading, and of this generation.
-fn is_current(life: Life, generation: u64) -> bool
-    ensures { λ r. ⌜ r ≡ isCurrent life generation ⌝ }
-{
-    let phase = life.phase;
-    match phase {
-        Phase::Idle => false,
-        Phase::Loading => life.generation == generation,
-        Phase::Active => false,
-        Phase::Unloading => false,
-    }
-}
-
-// What admission says of a found plugin's life.
-fn verdict(life: Life, generation: u64) -> u64
-    ensures { λ r. ⌜ r ≡ verdictOf life generation ⌝ }
-{
-    if life.retired {
-        return refusal::RETIRED;
-    }
-    if is_current(life, generation) {
-        let root = life.root;
-        return match root {
-            Root::Unissued => ADMITTED,
-            Root::Queued(_, _) => refusal::INVALID_STATE,
-            Root::Spent => refusal::INVALID_STATE,
-        };
-    }
-    refusal::STALE
-}
-
-// Queued with this revision and argument.
-fn is_queued(root: Root, revision: u64, argument: u64) -> bool
-    ensures { λ r. ⌜ r ≡ isQueued root revision argument ⌝ }
-{
-    match root {
-        Root::Unissued => false,
-        Root::Queued(queued, given) => {
-            if queued == revision {
-                return given == argument;
-            }
-            false
-        }
-        Root::Spent => false,
-    }
-}
-
-// Whether an invocation is still the admitted one of this life.
-fn is_live(life: Life, generation: u64, revision: u64, argument: u64) -> bool
-    ensures { λ r. ⌜ r ≡ liveOf life generation revision argument ⌝ }
-{
-    if is_current(life, generation) {
-        if life.revision == revision {
-            let root = life.root;
-            return is_queued(root, revision, argument);
-        }
-    }
-    false
 }
 
 // The life with this root; nothing else of it changes.
@@ -127,8 +63,8 @@ pub fn admit(
         return Admitted::Refused(refusal::UNKNOWN);
     };
     let life = living::load(m, at);
-    let said = verdict(life, generation);
-    if said != ADMITTED {
+    let said = judging::verdict(life, generation);
+    if said != judging::ADMITTED {
         return Admitted::Refused(said);
     }
     let revision = life.revision;
@@ -149,7 +85,7 @@ pub fn admits(m: &[u64; WORDS], domain: u64, id: u64, generation: u64, kind: u64
     let Place::At(at) = memory::find(m, id) else {
         return false;
     };
-    verdict(living::load(m, at), generation) == ADMITTED
+    judging::verdict(living::load(m, at), generation) == judging::ADMITTED
 }
 
 // Call: domain 3, 1, 2, then 13 unless it is live; root becomes Spent and nothing else changes.
@@ -173,7 +109,7 @@ pub fn call(
     if life.retired {
         return Called::Refused(refusal::RETIRED);
     }
-    if is_live(life, generation, revision, argument) {
+    if judging::is_live(life, generation, revision, argument) {
         living::store(m, at, rooted(life, Root::Spent));
         return Called::Receipt(domain, id, generation, ROOT_REQUEST, life.payload, argument);
     }

@@ -11,7 +11,7 @@ use lib.Dec.{eqb, ltb, leb}
 use lib.ListN.{length}
 use borrow.Author.Tests.{eq-eqb, ne-eqb, le-leb, lt-leb, lt-ltb, le-ltb}
 use Rattle.rules.specs.Basics.{pick, any, isSome, last}
-use Rattle.rules.specs.Holds.{Plugin, Registry, lookup, provider, count, rowsInUse, isUnloading}
+use Rattle.rules.specs.Holds.{Plugin, Registry, lookup, provider, count, isUnloading}
 use Rattle.rules.specs.Refusals.{DuplicateDependency}
 use Rattle.rules.specs.Outcomes.{Check, _⇒_}
 use Rattle.memory.specs.Layout.{word}
@@ -35,57 +35,57 @@ use Rattle.checks.specs.Runs.{verdict-first, verdict-then}
 use Rattle.checks.specs.Verdicts.{standingOf, parentChecks, earlyChecks, claimChecks, lateChecks, verdict}
 
 -- 9, 10, 11, 12
-module _ (r : Registry) (d c : ℕ) where
-  pub late-9 : r .next ≡ last → 9 ≡ verdict (lateChecks r d c)
+module _ (r : Registry) (u d c : ℕ) where
+  pub late-9 : r .next ≡ last → 9 ≡ verdict (lateChecks r u d c)
   unfolding verdict
   late-9 e = rw (eq-eqb _ _ e)
 
   module _ (n : r .next ≢ last) where
-    pub late-10 : 32 ≤ count r → 10 ≡ verdict (lateChecks r d c)
+    pub late-10 : 32 ≤ count r → 10 ≡ verdict (lateChecks r u d c)
     unfolding verdict
     late-10 h = rw (ne-eqb _ _ n, le-leb _ _ h)
 
     module _ (h : count r < 32) where
-      pub late-11 : 48 < d → 11 ≡ verdict (lateChecks r d c)
+      pub late-11 : 48 < d → 11 ≡ verdict (lateChecks r u d c)
       unfolding verdict
       late-11 k = rw (ne-eqb _ _ n, lt-leb _ _ h, lt-ltb _ _ k)
 
-      pub late-12 : d ≤ 48 → 1024 < rowsInUse r + (d + c) → 12 ≡ verdict (lateChecks r d c)
+      pub late-12 : d ≤ 48 → 1024 < u + (d + c) → 12 ≡ verdict (lateChecks r u d c)
       unfolding verdict
-      late-12 k u = rw (ne-eqb _ _ n, lt-leb _ _ h, le-ltb _ _ k, lt-ltb _ _ u)
+      late-12 k o = rw (ne-eqb _ _ n, lt-leb _ _ h, le-ltb _ _ k, lt-ltb _ _ o)
 
-      pub late-0 : d ≤ 48 → rowsInUse r + (d + c) ≤ 1024 → 0 ≡ verdict (lateChecks r d c)
+      pub late-0 : d ≤ 48 → u + (d + c) ≤ 1024 → 0 ≡ verdict (lateChecks r u d c)
       unfolding verdict
-      late-0 k u = rw (ne-eqb _ _ n, lt-leb _ _ h, le-ltb _ _ k, le-ltb _ _ u)
+      late-0 k o = rw (ne-eqb _ _ n, lt-leb _ _ h, le-ltb _ _ k, le-ltb _ _ o)
 
 next-of : (m : List ℕ) (n : ℕ) → n ≡ word m 2 → n ≡ view m .next
 unfolding view
 next-of m n e = e
 
-module _ (m : List ℕ) (d c n : ℕ) (e : n ≡ word m 2) where
-  pub late-no-id : n ≡ last → 9 ≡ verdict (lateChecks (view m) d c)
-  late-no-id f = late-9 (view m) d c (sym (next-of m n e) ∙ f)
+module _ (m : List ℕ) (u d c n : ℕ) (e : n ≡ word m 2) where
+  pub late-no-id : n ≡ last → 9 ≡ verdict (lateChecks (view m) u d c)
+  late-no-id f = late-9 (view m) u d c (sym (next-of m n e) ∙ f)
 
   module _ (a : n ≡ last → ⊥) (k : ℕ) (g : k ≡ count (view m)) where
     other : view m .next ≢ last
     other f = a (next-of m n e ∙ f)
 
-    pub late-full : 32 ≤ k → 10 ≡ verdict (lateChecks (view m) d c)
-    late-full h = late-10 (view m) d c other (rw (← g) h)
+    pub late-full : 32 ≤ k → 10 ≡ verdict (lateChecks (view m) u d c)
+    late-full h = late-10 (view m) u d c other (rw (← g) h)
 
     module _ (h : k < 32) where
       fewer : count (view m) < 32
       fewer = rw (← g) h
 
-      pub late-long : 48 < d → 11 ≡ verdict (lateChecks (view m) d c)
-      late-long l = late-11 (view m) d c other fewer l
+      pub late-long : 48 < d → 11 ≡ verdict (lateChecks (view m) u d c)
+      late-long l = late-11 (view m) u d c other fewer l
 
-      module _ (l : d ≤ 48) (u : ℕ) (i : u ≡ rowsInUse (view m)) where
-        pub late-rows : 1024 < u + (d + c) → 12 ≡ verdict (lateChecks (view m) d c)
-        late-rows o = late-12 (view m) d c other fewer l (rw (← i) o)
+      module _ (l : d ≤ 48) where
+        pub late-rows : 1024 < u + (d + c) → 12 ≡ verdict (lateChecks (view m) u d c)
+        late-rows o = late-12 (view m) u d c other fewer l o
 
-        pub late-pass : u + (d + c) ≤ 1024 → 0 ≡ verdict (lateChecks (view m) d c)
-        late-pass o = late-0 (view m) d c other fewer l (rw (← i) o)
+        pub late-pass : u + (d + c) ≤ 1024 → 0 ≡ verdict (lateChecks (view m) u d c)
+        late-pass o = late-0 (view m) u d c other fewer l o
 
 -- The parent's checks.
 module _ (m : List ℕ) (p : Parent) where

@@ -6,7 +6,7 @@ use mathlib.Core.Logic.{_≢_}
 use mathlib.Core.List.{List, [], _∷_, _++_}
 use lib.ListN.{length, length-map}
 use Rattle.rules.specs.Basics.{pick}
-use Rattle.rules.specs.Holds.{Registry, rowsOf}
+use Rattle.rules.specs.Holds.{Registry, rowsOf, rowsInUse}
 use Rattle.rules.specs.Refusals.{Refusal, number, Unknown, Retired, InvalidState, BadRealms, TooManyKeys, DuplicateDependency, DuplicateProvision, Taken, NoId, Full, TooLong, NoRows, Stale, Unavailable, InUse, Exhausted, NotRun, HasChildren, Closed, Undeclared, Duplicate, Missing, ShortBuffer}
 use Rattle.rules.specs.Outcomes.{Outcome, refuses, adds, Check, checked}
 use Rattle.rules.specs.Registration.{Definition, resolved, claimed, unoffered, dependenciesOf, newPlugin, registrationChecks, register}
@@ -94,7 +94,7 @@ module _ (r : Registry) (d : Definition) where
   claims = claimChecks r (claimed d)
 
   abbrev pub late : List Check
-  late = lateChecks r (length (dependenciesOf r d)) (length (claimed d))
+  late = lateChecks r (rowsInUse r) (length (dependenciesOf r d)) (length (claimed d))
 
   pub in-runs : registrationChecks r d ≡ early ++ claims ++ late
   in-runs = rw new-rows

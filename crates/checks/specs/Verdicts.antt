@@ -6,7 +6,7 @@ use mathlib.Core.Option.{Option, none, some}
 use lib.Dec.{eqb, ltb, leb}
 use lib.ListN.{length}
 use Rattle.rules.specs.Basics.{pick, any, isSome, isNone, holds, last}
-use Rattle.rules.specs.Holds.{Plugin, Registry, provider, count, rowsInUse, isUnloading}
+use Rattle.rules.specs.Holds.{Plugin, Registry, provider, count, isUnloading}
 use Rattle.rules.specs.Refusals.{Refusal, number, Unknown, Retired, InvalidState, BadRealms, TooManyKeys, DuplicateDependency, DuplicateProvision, Taken, NoId, Full, TooLong, NoRows}
 use Rattle.rules.specs.Outcomes.{Check, _⇒_}
 use Rattle.rules.specs.declared.Port.{Port}
@@ -39,13 +39,13 @@ earlyChecks r id realms dependencies provisions =
 abbrev pub claimChecks : Registry → List Port → List Check
 claimChecks r ports = (repeats ports ⇒ DuplicateProvision) ∷ (any (λ q. isSome (provider r q)) ports ⇒ Taken) ∷ []
 
--- 9, 10, 11, 12, of a plugin with these counts of dependencies and of claimed ports
-abbrev pub lateChecks : Registry → ℕ → ℕ → List Check
-lateChecks r d c =
+-- 9, 10, 11, 12, of a plugin with these counts of dependencies and of claimed ports, where so many rows are in use
+abbrev pub lateChecks : Registry → ℕ → ℕ → ℕ → List Check
+lateChecks r rows d c =
     (eqb (r .next) last ⇒ NoId)
     ∷ (leb 32 (count r) ⇒ Full)
     ∷ (ltb 48 d ⇒ TooLong)
-    ∷ (ltb 1024 (rowsInUse r + (d + c)) ⇒ NoRows)
+    ∷ (ltb 1024 (rows + (d + c)) ⇒ NoRows)
     ∷ []
 
 -- the number of the first check that refuses, or 0

@@ -108,9 +108,9 @@ pub fn claim_verdict(m: &[u64; WORDS], list: &[u64]) -> u64
     0
 }
 
-// 9, 10, 11, 12.
-pub fn late_verdict(m: &[u64; WORDS], dependencies: usize, claims: usize) -> u64
-    ensures { λ r. ⌜ r ≡ verdict (lateChecks (view (now (m .entry))) dependencies claims) ⌝ }
+// 9, 10, 11, 12, where so many rows are in use.
+pub fn late_verdict(m: &[u64; WORDS], rows: usize, dependencies: usize, claims: usize) -> u64
+    ensures { λ r. ⌜ r ≡ verdict (lateChecks (view (now (m .entry))) rows dependencies claims) ⌝ }
 {
     if memory::next_id(m) == 18446744073709551615 {
         return refusal::NO_ID;
@@ -121,14 +121,13 @@ pub fn late_verdict(m: &[u64; WORDS], dependencies: usize, claims: usize) -> u64
     if 48 < dependencies {
         return refusal::TOO_LONG;
     }
-    let used = places::rows_in_use(m);
-    if 1024 < used {
+    if 1024 < rows {
         return refusal::NO_ROWS;
     }
-    if 1024 - used < dependencies {
+    if 1024 - rows < dependencies {
         return refusal::NO_ROWS;
     }
-    if 1024 - used - dependencies < claims {
+    if 1024 - rows - dependencies < claims {
         return refusal::NO_ROWS;
     }
     0

@@ -42,7 +42,6 @@ left-same removes m x vs = refl
 left-same (offers id q value) m x vs = refl
 
 leaves-same : (m : List ℕ) (o : Op) (n : ℕ) → IsRefusal (step (view m) o) n → leaves m o ≡ m
-unfolding leaves
 leaves-same m o n w = ap (leftBy (wayOf o) m) (w .outcome) ∙ left-same (wayOf o) m (w .refusal) (w .values)
 
 pub record Nothing-changed (m : List ℕ) (o : Op) (n : ℕ) : Type 0 where

@@ -124,7 +124,6 @@ module _ (r : Registry) where
   plugin-same f id = asked id _ (λ p. told _)
 
   pub total-same : (t : Total) → Same (askRegistry r t)
-  unfolding askRegistry
   total-same t = told _
 
   pub above-same : (n : ℕ) → Same (nextAbove r n)
@@ -135,7 +134,6 @@ question : (m : List ℕ) → Sound m → (o : Outcome) → after (view m) o ≡
 question m s o e = record { registry = sym e; dense = s .dense }
 
 pub sound-refines : (m : List ℕ) → Sound m → (o : Op) → Refines m (leaves m o) (step (view m) o)
-unfolding leaves step
 sound-refines m s (Register c) = register-refines m c (s .dense) (built-fresh m (s .built))
 sound-refines m s (Begin id) = begin-refines m (s .dense) id
 sound-refines m s (Ready id) = ready-refines m (s .dense) id

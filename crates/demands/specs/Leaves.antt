@@ -57,7 +57,7 @@ leftBy finishes m o = finishedTo m o
 leftBy removes m o = removedFrom m o
 leftBy (offers id q value) m o = offeredTo m id q value o
 
-unfoldable pub leaves : List ℕ → Op → List ℕ
+abbrev pub leaves : List ℕ → Op → List ℕ
 leaves m o = leftBy (wayOf o) m (step (view m) o)
 
 -- On any words, there are as many afterwards.
@@ -70,5 +70,4 @@ left-size removes m o = removed-size m o
 left-size (offers id q value) m o = offered-size m id q value o
 
 pub leaves-size : (m : List ℕ) (o : Op) → length (leaves m o) ≡ length m
-unfolding leaves
 leaves-size m o = left-size (wayOf o) m (step (view m) o)

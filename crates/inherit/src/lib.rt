@@ -1,12 +1,11 @@
 // Document 01, "Dependency list".
 ghost use mathlib.Core.Path.{_≡_};
-ghost use mathlib.Core.List.{[], map};
+ghost use mathlib.Core.List.{[]};
 ghost use lib.ListN.{take};
-ghost use Rattle.rules.specs.Ports.{resolveIn, pairs, realmsWith};
+ghost use Rattle.rules.specs.Ports.{pairs, realmsWith};
 ghost use Rattle.rules.specs.Dependencies.{dependencyList};
 ghost use Rattle.claiming.specs.Blocks.{filled};
-ghost use Rattle.claiming.specs.Filled.{Lists};
-ghost use Rattle.inherit.specs.Blocks.{fitted, candidateRealm};
+ghost use Rattle.inherit.specs.Blocks.{fitted};
 
 // A finished dependency list of at most 48 ports. A count of 49 says that it is longer.
 pub struct Dependencies {
@@ -25,14 +24,13 @@ pub fn dependency_list(
 ) -> Dependencies
     ensures { λ r. ⌜ r ≡ fitted (dependencyList (realmsWith other (now (realms .entry))) (pairs (now (provisions .entry))) (take 16 (now (keys .entry))) (pairs (now (parents .entry)))) ⌝ }
 {
-    let first = declared(realms, other, keys);
-    let mut n = first.count;
-    let mut ports = first.ports;
+    let mut ports = [0u64; 96];
+    let mut n = resolving::declared(realms, other, keys, &mut ports);
     let mut c: usize = 0;
     'next: while c / 2 < parents.len() / 2 {
         let at = c / 2 * 2;
         let key = parents[at];
-        let realm = candidate(realms, other, c % 2, key, parents[at + 1]);
+        let realm = resolving::candidate(realms, other, c % 2, key, parents[at + 1]);
         c += 1;
         if ports::has_port(provisions, key, realm) {
             continue;
@@ -64,33 +62,4 @@ fn longer() -> Dependencies
         count: 49,
         ports: [0u64; 96],
     }
-}
-
-// The first 16 declared keys, resolved.
-fn declared(realms: &[u64], other: u64, keys: &[u64]) -> Dependencies
-    ensures { λ r. ⌜ Lists 96 (r .count) (r .ports) (map (resolveIn other (pairs (now (realms .entry)))) (take 16 (now (keys .entry)))) ⌝ }
-{
-    let mut ports = [0u64; 96];
-    let mut i: usize = 0;
-    while i < keys.len() {
-        if i == 16 {
-            return Dependencies { count: 16, ports };
-        }
-        let q = ports::resolve(realms, other, keys[i]);
-        ports[i * 2] = q.key;
-        ports[i * 2 + 1] = q.realm;
-        i += 1;
-    }
-    Dependencies { count: i, ports }
-}
-
-// The realm of a candidate: its own, or that of its key resolved again.
-fn candidate(realms: &[u64], other: u64, turn: usize, key: u64, realm: u64) -> u64
-    ensures { λ r. ⌜ r ≡ candidateRealm other (pairs (now (realms .entry))) turn key realm ⌝ }
-{
-    if turn == 0 {
-        return realm;
-    }
-    let q = ports::resolve(realms, other, key);
-    q.realm
 }

@@ -1,6 +1,4 @@
-pub mod Answers
 pub mod Rules
 pub mod Words
 pub mod Offers
-pub mod Questions
 pub mod Refines

@@ -79,6 +79,13 @@ past : (p : ℕ) → 32 ≤ p → placeOf p ≡ Nowhere
 unfolding placeOf
 past p h = rw (le-ltb p 32 h)
 
+-- the complement of a word below twice k, halved
+complement-half : (k s w : ℕ) → s ≡ 2 * k → w < s → ((s - 1) - w) / 2 ≡ (k - 1) - w / 2
+complement-half k s w e h = omega arith
+
+complement-odd : (k s w : ℕ) → s ≡ 2 * k → w < s → ((s - 1) - w) % 2 ≡ 1 - w % 2
+complement-odd k s w e h = omega arith
+
 free-zeros : (n : ℕ) (m : List ℕ) (i : ℕ) → i + n ≡ 32 → freeFrom n m i ≡ placeOf (i + trailingZeros n ((2 ^ n - 1) - rest m i))
 unfolding freeFrom trailingZeros
 free-zeros zero m i e = sym (past (i + 0) (omega arith))
@@ -86,8 +93,8 @@ free-zeros (suc n) m i e =
     let r = free-zeros n m (i + 1) (omega arith) in
     let w = rest m i in
     let l = rest-lt m (suc n) i e in
-    let hf : ((2 ^ suc n - 1) - w) / 2 ≡ (2 ^ n - 1) - w / 2 = omega (arith, pow-suc 2 n) in
-    let od : ((2 ^ suc n - 1) - w) % 2 ≡ 1 - w % 2 = omega (arith, pow-suc 2 n) in
+    let hf : ((2 ^ suc n - 1) - w) / 2 ≡ (2 ^ n - 1) - w / 2 = complement-half (2 ^ n) (2 ^ suc n) w (omega (arith, pow-suc 2 n)) l in
+    let od : ((2 ^ suc n - 1) - w) % 2 ≡ 1 - w % 2 = complement-odd (2 ^ n) (2 ^ suc n) w (omega (arith, pow-suc 2 n)) l in
     by-test (taken m i)
     (λ t. rw (t, r, hf, od, rest-one m i t, rest-half m i) (on i (trailingZeros n ((2 ^ n - 1) - w / 2))))
     (λ f. rw (f, hf, od, rest-free m i (omega arith) f, add-zero i) (sym (below i (omega arith))))

@@ -67,14 +67,15 @@ pub fn resolve_key(realms: &[u64], key: u64) -> Resolved
 pub fn has_port(ports: &[u64], key: u64, realm: u64) -> bool
     ensures { λ r. ⌜ r ≡ isIn (port key realm) (pairs (now (ports .entry))) ⌝ }
 {
-    let mut i: usize = 1;
-    while i < ports.len() {
-        if ports[i - 1] == key {
-            if ports[i] == realm {
+    let rows = ports.len() / 2;
+    let mut row: usize = 0;
+    while row < rows {
+        if ports[row * 2] == key {
+            if ports[row * 2 + 1] == realm {
                 return true;
             }
         }
-        i += 2;
+        row += 1;
     }
     false
 }
@@ -107,15 +108,19 @@ pub fn same_ports(list: &[u64], ports: &[u64]) -> bool
     if list.len() % 2 != 0 {
         return false;
     }
-    if list.len() / 2 != ports.len() / 2 {
+    let rows = list.len() / 2;
+    if rows != ports.len() / 2 {
         return false;
     }
-    let mut i: usize = 0;
-    while i < list.len() {
-        if list[i] != ports[i] {
+    let mut row: usize = 0;
+    while row < rows {
+        if list[row * 2] != ports[row * 2] {
             return false;
         }
-        i += 1;
+        if list[row * 2 + 1] != ports[row * 2 + 1] {
+            return false;
+        }
+        row += 1;
     }
     true
 }

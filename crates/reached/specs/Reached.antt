@@ -88,7 +88,7 @@ pub record Reached : Type 0 where
   pub every-refusal : all givenSomewhere (keys 23 1) ≡ true
 
 pub reached : Reached
-unfolding step after lentAfter checked found handingBack lookup count provider rowsInUse badRealms resolve resolveKey dependencyList dependencyPort dependenciesOf newPlugin register begin ready fail unload finish replace fits admit admits isLive call retire retireChild childIdentity remove offer read visible own missing matching declares listing list askPlugin askRegistry nextAbove
+unfolding after lentAfter checked found handingBack lookup count provider rowsInUse badRealms resolve resolveKey dependencyList dependencyPort dependenciesOf newPlugin register begin ready fail unload finish replace fits admit admits isLive call retire retireChild childIdentity remove offer read visible own missing matching declares listing list askPlugin nextAbove
 reached = record {
   registrations = refl;
   lastId = refl;

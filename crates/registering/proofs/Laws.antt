@@ -1,4 +1,4 @@
--- The parts of a registration: inherited rows, rows in front, the late checks, and the plugin written.
+-- The parts of a registration: the late checks, and the plugin written.
 use Prim.Native.Nat.{ℕ, _+_, _-_, _*_, _/_, _%_, _<_}
 use native.Mathlib.Omega.{arith}
 use native.Mathlib.Nat.{mod-eq-of-lt}
@@ -12,6 +12,7 @@ use lib.ListN.{length, take}
 use lib.Seq.{take-all}
 use borrow.Author.Tests.{eq-eqb, ne-eqb, eqb-false}
 use Rattle.rules.specs.Basics.{last}
+use Rattle.rules.specs.Holds.{rowsInUse}
 use Rattle.rules.specs.Outcomes.{Refused, Accepted}
 use Rattle.rules.specs.Laws.Tests.{Passed}
 use Rattle.memory.specs.Layout.{word, depPart}
@@ -26,22 +27,14 @@ use Rattle.filling.specs.Entries.{filledPlace}
 use Rattle.filling.specs.declared.Entry.{Entry}
 use Rattle.checks.specs.Verdicts.{lateChecks, verdict}
 use Rattle.checks.specs.Runs.{passes}
-use Rattle.registering.specs.Written.{inheritedWords, newEntry, writtenAt, lateVerdict, settledAnswer, settledWords}
-
--- no rows where there is no parent, or none registered
-module _ (m : List ℕ) (parent : Parent) (id : ℕ) (e : parent ≡ Of id) where
-  pub inherits-unknown : findAt m id ≡ Nowhere → [] ≡ inheritedWords m parent
-  inherits-unknown f = rw (e, f)
-
-  pub inherits-rows : (at : ℕ) → findAt m id ≡ At at → depPart m (at % 32) ≡ inheritedWords m parent
-  inherits-rows at f = rw (e, f)
-
--- as many rows as there are
-pub all-rows : (l : List ℕ) (n : ℕ) → length l / 2 < n → take (length l) l ≡ take (n * 2) l
-all-rows l n h = take-all (length l) l (omega arith) ∙ sym (take-all (n * 2) l (omega arith))
+use Rattle.registering.specs.Written.{newEntry, writtenAt, lateVerdict, settledAnswer, settledWords}
 
 -- The late checks refuse, or the plugin is written.
-module _ (m : List ℕ) (parent : Option ℕ) (payload count : ℕ) (ds cs zs : List ℕ) (v : ℕ) (e : v ≡ lateVerdict m count cs) where
+module _ (m : List ℕ) (parent : Option ℕ) (payload count : ℕ) (ds cs zs : List ℕ) (u : ℕ) (i : u ≡ rowsInUse (view m))
+    (v : ℕ) (given : v ≡ verdict (lateChecks (view m) u count (length cs / 2))) where
+  e : v ≡ lateVerdict m count cs
+  e = given ∙ ap (λ x. verdict (lateChecks (view m) x count (length cs / 2))) i
+
   pub settle-refuses : v ≢ 0 → (Refused v [] ≡ settledAnswer m count cs) × (m ≡ settledWords m parent payload count ds cs zs)
   unfolding settledAnswer settledWords
   settle-refuses n =
@@ -49,8 +42,8 @@ module _ (m : List ℕ) (parent : Option ℕ) (payload count : ℕ) (ds cs zs : 
       (rw f (ap (λ x. Refused x []) e), rw f)
 
   module _ (z : v ≡ 0) where
-    passed : Passed (lateChecks (view m) count (length cs / 2))
-    passed = passes (lateChecks (view m) count (length cs / 2)) (sym z ∙ e)
+    passed : Passed (lateChecks (view m) (rowsInUse (view m)) count (length cs / 2))
+    passed = passes (lateChecks (view m) (rowsInUse (view m)) count (length cs / 2)) (sym z ∙ e)
 
     pub id-left : word m 2 ≢ last
     unfolding view

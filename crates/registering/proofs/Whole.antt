@@ -9,7 +9,7 @@ use lib.Dec.{eqb, ltb, leb}
 use lib.ListN.{length, take, drop, length-drop, length-map}
 use lib.Seq.{take-all}
 use borrow.Author.Tests.{eq-eqb, eqb-true, eqb-false, ltb-false, lt-ltb, leb-true, leb-false}
-use Rattle.rules.specs.Holds.{Registry, provided}
+use Rattle.rules.specs.Holds.{Registry, provided, rowsInUse}
 use Rattle.rules.specs.declared.Port.{Port}
 use Rattle.rules.specs.Ports.{pairs, flat, badRealms, realmsWith, realmsOf, resolve, resolveIn}
 use Rattle.rules.specs.Dependencies.{dependencyList}
@@ -36,14 +36,15 @@ use Rattle.inherit.specs.Blocks.{fitted}
 use Rattle.inherit.specs.Answers.{dependency-law, fitted-law, fitted-long, fitted-count}
 use Rattle.checks.specs.Verdicts.{earlyChecks, claimChecks, lateChecks, verdict}
 use Rattle.checks.specs.Runs.{passes, RefusesWith, early, claims, late, early-refuses, claims-refuse, late-refuses, all-pass}
-use Rattle.registering.specs.Written.{registeredAnswer, definition, dependenciesAt, inheritedWords, newEntry, writtenAt, addedTo, lateVerdict, settledAnswer, settledWords}
+use Rattle.preparing.specs.Parts.{dependenciesAt, inheritedWords}
+use Rattle.registering.specs.Written.{registeredAnswer, definition, newEntry, writtenAt, addedTo, lateVerdict, settledAnswer, settledWords}
 use Rattle.registering.specs.declared.Registered.{Registered}
 
 -- a list that is too long is refused by its count too
-late-fitted : (r : Registry) (l : List Port) (c : ℕ) → verdict (lateChecks r (fitted l .count) c) ≡ verdict (lateChecks r (length l) c)
+late-fitted : (r : Registry) (u : ℕ) (l : List Port) (c : ℕ) → verdict (lateChecks r u (fitted l .count) c) ≡ verdict (lateChecks r u (length l) c)
 unfolding verdict
-late-fitted r l c = by-test (leb (length l) 48)
-    (λ t. ap (λ n. verdict (lateChecks r n c)) (fitted-law l (leb-true _ _ t) .counted))
+late-fitted r u l c = by-test (leb (length l) 48)
+    (λ t. ap (λ n. verdict (lateChecks r u n c)) (fitted-law l (leb-true _ _ t) .counted))
     (λ f. let h = leb-false _ _ f in rw (fitted-long l h, lt-ltb 48 (length l) h))
 
 module _ (m : List ℕ) (parent : Parent) (anchor : Port) (zs ks vs : List ℕ) (payload : ℕ) where
@@ -124,7 +125,7 @@ module _ (m : List ℕ) (parent : Parent) (anchor : Port) (zs ks vs : List ℕ) 
           ∙ dependency-law (realmsOf zs) (resolved d vs) ks (inheritedFrom (parentOf r (parentId parent))) few-keys)
 
       late-is : lateVerdict m (l .count) cw ≡ verdict (late r d)
-      late-is = (λ i. verdict (lateChecks r (list i .count) (claim-count i))) ∙ late-fitted r (dependenciesOf r d) (length (claimed d))
+      late-is = (λ i. verdict (lateChecks r (rowsInUse r) (list i .count) (claim-count i))) ∙ late-fitted r (rowsInUse r) (dependenciesOf r d) (length (claimed d))
 
       module _ (z : lateVerdict m (l .count) cw ≡ 0) where
         accepted : register r d ≡ adds (newPlugin r d) (r .next ∷ [])

@@ -29,7 +29,8 @@ use Rattle.filling.specs.Entries.{filledPlace}
 use Rattle.blocks.specs.Dense.{used, Dense, used-is, Refines}
 use Rattle.filling.specs.Addition.{Newcomer, newPluginOf, Sized}
 use Rattle.filling.specs.Filled.{entryOf, claimWords, filled-dense, filled-view}
-use Rattle.registering.specs.Written.{tagOf, wordOf, newEntry, writtenAt, addedTo}
+use Rattle.preparing.specs.Parts.{tagOf, wordOf}
+use Rattle.registering.specs.Written.{newEntry, writtenAt, addedTo}
 
 -- No registered plugin has the next id.
 abbrev pub Fresh : List ℕ → Type 0

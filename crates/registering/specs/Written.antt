@@ -1,21 +1,20 @@
 -- What a registration answers, and the words it leaves.
-use Prim.Native.Nat.{ℕ, _+_, _-_, _/_, _%_}
+use Prim.Native.Nat.{ℕ, _+_, _-_, _/_}
 use mathlib.Core.Path.{_≡_, refl, ap}
 use mathlib.Core.List.{List, [], _∷_}
-use mathlib.Core.Option.{Option, none, some}
+use mathlib.Core.Option.{Option}
 use lib.Dec.{eqb}
 use lib.ListN.{length}
-use Rattle.rules.specs.Basics.{pick, orElse, isSome, yesNo}
+use Rattle.rules.specs.Basics.{pick}
 use Rattle.rules.specs.Holds.{Plugin, provided, rowsInUse}
 use Rattle.rules.specs.declared.Port.{Port}
 use Rattle.rules.specs.Ports.{flat}
 use Rattle.rules.specs.Outcomes.{Answer, Refused, Accepted, Outcome, refuses, answers, writes, stores, adds, removes}
 use Rattle.rules.specs.Registration.{Definition}
-use Rattle.memory.specs.Layout.{word, depPart}
+use Rattle.memory.specs.Layout.{word}
 use Rattle.memory.specs.View.{view}
-use Rattle.memory.specs.Writes.{parentId, findAt}
+use Rattle.memory.specs.Writes.{parentId}
 use Rattle.memory.specs.declared.Parent.{Parent}
-use Rattle.memory.specs.declared.Parent.the-variants.{Of, Nobody}
 use Rattle.memory.specs.declared.Place.{Place}
 use Rattle.memory.specs.declared.Place.the-variants.{At, Nowhere}
 use Rattle.places.specs.Changes.{freeAt}
@@ -23,6 +22,7 @@ use Rattle.filling.specs.Entries.{filledPlace}
 use Rattle.filling.specs.Filled.{filled-size}
 use Rattle.filling.specs.declared.Entry.{Entry}
 use Rattle.checks.specs.Verdicts.{lateChecks, verdict}
+use Rattle.preparing.specs.Parts.{tagOf, wordOf}
 use Rattle.registering.specs.declared.Registered.{Registered}
 use Rattle.registering.specs.declared.Registered.the-variants as registered
 
@@ -40,22 +40,6 @@ definition parent anchor realms dependencies provisions payload = record {
   provisions = provisions;
   payload = payload;
 }
-
--- the dependency rows of the plugin at a place
-abbrev pub dependenciesAt : List ℕ → Place → List ℕ
-dependenciesAt m (At i) = depPart m (i % 32)
-dependenciesAt m Nowhere = []
-
-abbrev pub inheritedWords : List ℕ → Parent → List ℕ
-inheritedWords m (Of id) = dependenciesAt m (findAt m id)
-inheritedWords m Nobody = []
-
--- a parent or none, in two words
-abbrev pub tagOf : Option ℕ → ℕ
-tagOf parent = yesNo (isSome parent)
-
-abbrev pub wordOf : Option ℕ → ℕ
-wordOf parent = orElse parent 0
 
 -- The words of a new plugin beside its lists: next id is its id, and its rows stand behind all others.
 abbrev pub newEntry : List ℕ → Option ℕ → ℕ → ℕ → ℕ → ℕ → Entry
@@ -89,7 +73,7 @@ addedTo m (removes id vs) = m
 
 -- The late checks and what is written where they pass, by a count of dependencies and the lent lists.
 abbrev pub lateVerdict : List ℕ → ℕ → List ℕ → ℕ
-lateVerdict m count claims = verdict (lateChecks (view m) count (length claims / 2))
+lateVerdict m count claims = verdict (lateChecks (view m) (rowsInUse (view m)) count (length claims / 2))
 
 unfoldable pub settledAnswer : List ℕ → ℕ → List ℕ → Answer
 settledAnswer m count claims = pick (eqb (lateVerdict m count claims) 0) (Accepted (word m 2 ∷ [])) (Refused (lateVerdict m count claims) [])

@@ -1,14 +1,13 @@
 // Document 01, "Registration", over the registry's memory: nothing is written before the last check has passed.
 ghost use mathlib.Core.Path.{_≡_};
 ghost use mathlib.Core.Logic.{_≢_};
-ghost use Prim.Native.Nat.{_*_, _-_};
-ghost use lib.ListN.{take};
+ghost use Rattle.rules.specs.Holds.{rowsInUse};
 ghost use Rattle.rules.specs.Outcomes.{answerOf};
 ghost use Rattle.rules.specs.Registration.{register};
 ghost use Rattle.memory.specs.Layout.{word};
 ghost use Rattle.memory.specs.View.{view};
 ghost use Rattle.memory.specs.Writes.{parentId};
-ghost use Rattle.registering.specs.Written.{registeredAnswer, definition, inheritedWords, tagOf, wordOf, newEntry, settledAnswer, settledWords, addedTo};
+ghost use Rattle.registering.specs.Written.{registeredAnswer, definition, newEntry, settledAnswer, settledWords, addedTo};
 use filling::Entry;
 use memory::Parent;
 use memory::Place;
@@ -22,75 +21,26 @@ pub enum Registered {
     Refused(u64),
 }
 
-// The parent's dependency rows; none without a parent.
-fn inherited(m: &[u64; WORDS], parent: Parent) -> &[u64]
-    ensures { λ r. ⌜ now r ≡ inheritedWords (now (m .entry)) parent ⌝ }
-{
-    let Parent::Of(id) = parent else {
-        return rows::some_words(m, 0, 0);
-    };
-    let Place::At(at) = memory::find(m, id) else {
-        return rows::some_words(m, 0, 0);
-    };
-    rows::dependency_words(m, at)
-}
-
-// The first rows of a list of ports, as many as there are.
-fn first_rows(ports: &[u64], count: usize) -> &[u64]
-    ensures { λ r. ⌜ now r ≡ take (count * 2) (now (ports .entry)) ⌝ }
-{
-    let n = ports.len();
-    if n / 2 < count {
-        return rows::some_words(ports, 0, n);
-    }
-    rows::some_words(ports, 0, count * 2)
-}
-
-// The provisions among the claims, which the anchor leads.
-fn behind_anchor(claims: usize) -> usize
-    ensures { λ r. ⌜ r ≡ claims - 1 ⌝ }
-{
-    if claims == 0 { 0 } else { claims - 1 }
-}
-
-// A plugin without a parent has tag 0.
-fn parent_tag(parent: Parent) -> u64
-    ensures { λ r. ⌜ r ≡ tagOf (parentId parent) ⌝ }
-{
-    match parent {
-        Parent::Of(_) => 1,
-        Parent::Nobody => 0,
-    }
-}
-
-fn parent_word(parent: Parent) -> u64
-    ensures { λ r. ⌜ r ≡ wordOf (parentId parent) ⌝ }
-{
-    match parent {
-        Parent::Of(id) => id,
-        Parent::Nobody => 0,
-    }
-}
-
 // What is written of the new plugin beside its lists.
 fn entry(
     m: &[u64; WORDS],
     parent: Parent,
     payload: u64,
+    start: usize,
     dependencies: usize,
     provisions: usize,
     realms: usize,
 ) -> Entry
-    requires { ⌜ word (now m) 2 ≢ 18446744073709551615 ⌝ }
+    requires { ⌜ word (now m) 2 ≢ 18446744073709551615 ⌝ ∗ ⌜ start ≡ rowsInUse (view (now m)) ⌝ }
     ensures { λ r. ⌜ r ≡ newEntry (now (m .entry)) (parentId parent) payload dependencies provisions realms ⌝ }
 {
     let id = memory::next_id(m);
     Entry {
         id: id,
-        tag: parent_tag(parent),
-        parent: parent_word(parent),
+        tag: preparing::parent_tag(parent),
+        parent: preparing::parent_word(parent),
         payload: payload,
-        start: places::rows_in_use(m) as u64,
+        start: start as u64,
         dependencies: dependencies as u64,
         provisions: provisions as u64,
         realms: realms as u64,
@@ -111,7 +61,8 @@ fn settle(
     ensures { λ r. ⌜ registeredAnswer r ≡ settledAnswer (now (m .entry)) count (now (claims .entry)) ⌝ ∗ ⌜ now (m .exit) ≡ settledWords (now (m .entry)) (parentId parent) payload count (now (dependencies .entry)) (now (claims .entry)) (now (realms .entry)) ⌝ }
 {
     let claimed = claims.len() / 2;
-    let refused = checks::late_verdict(m, count, claimed);
+    let rows = places::rows_in_use(m);
+    let refused = checks::late_verdict(m, rows, count, claimed);
     if refused != 0 {
         return Registered::Refused(refused);
     }
@@ -122,8 +73,9 @@ fn settle(
         m,
         parent,
         payload,
+        rows,
         count,
-        behind_anchor(claimed),
+        preparing::behind_anchor(claimed),
         realms.len() / 2,
     );
     filling::fill_place(m, at, e, dependencies, claims, realms);
@@ -147,7 +99,7 @@ pub fn register(
         return Registered::Refused(early);
     }
     let claimed = claiming::claims(realms, Port::DEFAULT_REALM, anchor, provisions);
-    let claims = first_rows(&claimed.ports, claimed.count);
+    let claims = preparing::first_rows(&claimed.ports, claimed.count);
     let taken = checks::claim_verdict(m, claims);
     if taken != 0 {
         return Registered::Refused(taken);
@@ -158,14 +110,14 @@ pub fn register(
         Port::DEFAULT_REALM,
         provided,
         dependencies,
-        inherited(m, parent),
+        preparing::inherited(m, parent),
     );
     settle(
         m,
         parent,
         payload,
         list.count,
-        first_rows(&list.ports, list.count),
+        preparing::first_rows(&list.ports, list.count),
         claims,
         realms,
     )

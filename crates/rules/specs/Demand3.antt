@@ -202,7 +202,7 @@ said d t h a o e = go (live t h) refl
 -- Over any sequence of operations from a start, a call is accepted exactly if its admission is still live, by the history alone.
 pub demand-3 : (s : Registry) → Start s → (ops : List Op) (t : Invocation)
     → Demand3 (s .domain) t (story s (t .id) (run s ops .events)) (answerTo (run s ops .registry) (Call t))
-unfolding step call
+unfolding call
 demand-3 s start ops t =
     let w = run-linked s start ops in
     let r = run s ops .registry in

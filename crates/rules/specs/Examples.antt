@@ -139,7 +139,7 @@ pub record Examples : Type 0 where
       ∷ Accepted (7 ∷ 1 ∷ 1 ∷ 0 ∷ 40 ∷ 24 ∷ []) ∷ Refused 13 [] ∷ []
 
 pub examples : Examples
-unfolding step after lentAfter checked found handingBack lookup count provider rowsInUse badRealms resolve resolveKey dependencyList dependencyPort dependenciesOf newPlugin register begin replace fits admit isLive call listing list askRegistry
+unfolding after lentAfter checked found handingBack lookup count provider rowsInUse badRealms resolve resolveKey dependencyList dependencyPort dependenciesOf newPlugin register begin replace fits admit isLive call listing list
 examples = record {
   E1 = refl;
   E2 = refl;

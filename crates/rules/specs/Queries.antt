@@ -50,7 +50,7 @@ totalOf NextId r = r .next
 totalOf Registered r = count r
 totalOf RowsInUse r = rowsInUse r
 
-unfoldable pub askRegistry : Registry → Total → Outcome
+abbrev pub askRegistry : Registry → Total → Outcome
 askRegistry r t = answers (totalOf t r ∷ [])
 
 -- the lowest id above a number, or none

@@ -40,7 +40,7 @@ pub data Op : Type 0 where
   AskRegistry : Total → Op
   NextAbove : (number : ℕ) → Op
 
-unfoldable pub step : Registry → Op → Outcome
+abbrev pub step : Registry → Op → Outcome
 step r (ResolveKey realms key) = resolveKey realms key
 step r (DependencyPort id key) = dependencyPort r id key
 step r (Register d) = register r d

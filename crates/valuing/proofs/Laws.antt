@@ -1,18 +1,21 @@
 -- The steps of the functions: tests of a bit, of a port, of a provision.
-use Prim.Native.Nat.{ℕ, _+_, _*_, _/_, _%_, _^_, _≤_, _<_}
-use native.Mathlib.Nat.{mod-eq-of-lt, one-mul}
+use Prim.Native.Nat.{ℕ, zero, suc, _+_, _-_, _*_, _/_, _%_, _^_, _≤_, _<_}
+use native.Mathlib.Nat.{mod-eq-of-lt, one-mul, pow-suc, add-zero, zero-add, mod-lt}
+use native.Mathlib.Numerals.{add-one}
 use native.Mathlib.Omega.{arith}
 use mathlib.Core.Path.{_≡_, sym, ap, _∙_}
 use mathlib.Core.Bool.{Bool, true, false}
-use mathlib.Core.List.{List, _∷_}
+use mathlib.Core.List.{List, [], _∷_}
 use mathlib.Core.Option.{none, some}
 use lib.Bits.{bitOr}
-use lib.Dec.{eqb}
-use lib.ListN.{length, getD, set, drop}
-use lib.Pow.{pow-lt}
-use borrow.Author.Tests.{eq-eqb, eqb-false}
+use lib.Count.{trailingZeros, under, trailing-le}
+use lib.Dec.{eqb, ltb}
+use lib.ListN.{length, set}
+use lib.Pow.{pow-lt, pow-pos, shr-shr, field, mod-mod-pow}
+use borrow.Author.Tests.{eq-eqb, eqb-true, eqb-false, lt-ltb, le-ltb}
+use Rattle.rules.specs.Basics.{pick}
 use Rattle.rules.specs.declared.Port.{Port}
-use Rattle.rules.specs.Holds.{port, Provision, samePort}
+use Rattle.rules.specs.Holds.{samePort}
 use Rattle.rules.specs.Ports.{pairs}
 use Rattle.rules.specs.Values.{valueIn}
 use Rattle.rules.specs.Laws.Tests.{by-test}
@@ -20,7 +23,7 @@ use Rattle.rules.specs.Laws.Members.{same-port}
 use Rattle.memory.specs.Layout.{word, provPart}
 use Rattle.memory.specs.View.{valueAt, valued, pluginAt}
 use Rattle.places.specs.Bits.{or-free}
-use Rattle.ports.specs.Places.{pairs-at, pairs-end}
+use Rattle.ports.specs.Places.{length-pairs}
 use Rattle.ports.specs.declared.Found.{Found}
 use Rattle.ports.specs.declared.Found.the-variants.{At, Nothing}
 use Rattle.valuing.specs.Values.{maskAt, maskBit, portFrom, lackFrom, withValue}
@@ -62,42 +65,74 @@ module _ {l ps : List Port} {p : Port} (s : l ≡ p ∷ ps) where
       (λ t. let e = same-port q p t in absurd (n (ap (λ (v : Port). v .key) e) (ap (λ (v : Port). v .realm) e)))
       (λ f. rw (s, f))
 
-  -- its ports' values in the words
-  module _ (m : List ℕ) (i j : ℕ) (b : Bool) (e : b ≡ eqb (maskBit m i j) 1) where
-    lack-hit : b ≡ false → lackFrom j (valued m i j l) ≡ At j
-    unfolding lackFrom valueAt
-    lack-hit f = rw (s, sym e ∙ f)
+-- the trailing zeros of the complement of a word's low digits go on where the lowest is 1
+zeros-step : (n w : ℕ) → trailingZeros (suc n) ((2 ^ suc n - 1) - w % 2 ^ suc n) ≡ under (1 - w % 2) (trailingZeros n ((2 ^ n - 1) - w / 2 % 2 ^ n))
+unfolding trailingZeros
+zeros-step n w =
+    let s : 2 ^ suc n ≡ 2 * 2 ^ n = omega (arith, pow-suc 2 n) in
+    let hf = half (2 ^ n) (2 ^ suc n) (w % 2 ^ suc n) s (mod-lt w (pow-pos (suc n))) in
+    let od = odd (2 ^ n) (2 ^ suc n) (w % 2 ^ suc n) s (mod-lt w (pow-pos (suc n))) in
+    let a : w % 2 ^ suc n / 2 ≡ w / 2 % 2 ^ n = ap (λ x. w % 2 ^ x / 2) (sym (add-one n)) ∙ field w n 1 in
+    let b : w % 2 ^ suc n % 2 ≡ w % 2 = ap (λ x. w % 2 ^ x % 2) (sym (add-one n)) ∙ mod-mod-pow w n 1 in
+    rw (hf, od, a, b)
+  where
+    half : (k s x : ℕ) → s ≡ 2 * k → x < s → ((s - 1) - x) / 2 ≡ (k - 1) - x / 2
+    half k s x e h = omega arith
 
-    lack-miss : b ≡ true → lackFrom j (valued m i j l) ≡ lackFrom (j + 1) (valued m i (j + 1) ps)
-    unfolding lackFrom valueAt
-    lack-miss t = rw (s, sym e ∙ t)
+    odd : (k s x : ℕ) → s ≡ 2 * k → x < s → ((s - 1) - x) % 2 ≡ 1 - x % 2
+    odd k s x e h = omega arith
 
--- the provisions from j on, of which there are 15 at most
-abbrev pub rest : List ℕ → ℕ → ℕ → List Provision
-rest m i j = valued m i j (pairs (drop (j * 2) (provPart m i)))
+pub zeros-fit : (n : ℕ) → trailingZeros 32 n < 2 ^ 64
+zeros-fit n = omega (arith, trailing-le 32 n)
 
-pub lack-start : (m : List ℕ) (i : ℕ) → lackFrom 0 (pluginAt m i .provisions) ≡ lackFrom 0 (rest m i 0)
-lack-start m i = ap (lackFrom 0) (provisions-at m i)
+-- a place below n, or none
+below : ℕ → ℕ → Found
+below n j = pick (ltb j n) (At j) Nothing
 
-module _ (m : List ℕ) (i : ℕ) (ws : List ℕ) (w : ws ≡ provPart m i) (j : ℕ) where
-  pub lack-end : length ws / 2 ≤ j → lackFrom j (rest m i j) ≡ Nothing
-  unfolding lackFrom
-  lack-end h = ap (λ (ps : List Port). lackFrom j (valued m i j ps)) (pairs-end (provPart m i) (j * 2) (omega (arith, ap length w)))
+-- the provisions from k on, by the low n digits of the mask halved k times
+lack-zeros : (m : List ℕ) (i n k : ℕ) (ps : List Port) → length ps ≤ n
+    → lackFrom k (valued m i k ps) ≡ below (k + length ps) (k + trailingZeros n ((2 ^ n - 1) - maskAt m i / 2 ^ k % 2 ^ n))
+unfolding lackFrom valueAt below
+lack-zeros m i n k [] h = rw (le-ltb (k + trailingZeros n ((2 ^ n - 1) - maskAt m i / 2 ^ k % 2 ^ n)) (k + 0) (omega arith))
+lack-zeros m i zero k (p ∷ ps) h = absurd (omega arith)
+lack-zeros m i (suc n) k (p ∷ ps) h =
+    let w = maskAt m i / 2 ^ k in
+    let r = lack-zeros m i n (k + 1) ps (omega arith) in
+    let hf : maskAt m i / 2 ^ (k + 1) ≡ w / 2 = sym (shr-shr (maskAt m i) k 1) in
+    let z = zeros-step n w in
+    by-test (eqb (w % 2) 1)
+    (λ t. let o = eqb-true (w % 2) 1 t in rw (t, r, hf, z, o) (on k (length ps) (trailingZeros n ((2 ^ n - 1) - w / 2 % 2 ^ n))))
+    (λ f. let d = eqb-false (w % 2) 1 f in
+    let o : w % 2 ≡ 0 = omega arith in
+    rw (f, z, o, add-zero k, lt-ltb k (k + suc (length ps)) (omega arith)))
+  where
+    on : (k c t : ℕ) → below (k + 1 + c) (k + 1 + t) ≡ below (k + suc c) (k + suc t)
+    on k c t =
+        let x : k + 1 + c ≡ k + suc c = omega arith in
+        let y : k + 1 + t ≡ k + suc t = omega arith in
+        rw (x, y)
 
-  module _ (h : j < length ws / 2) (b : Bool) (e : b ≡ eqb (maskBit m i (j % 15)) 1) where
-    first-at : pairs (drop (j * 2) (provPart m i)) ≡ port (getD (provPart m i) (j * 2) 0) (getD (provPart m i) (j * 2 + 1) 0) ∷ pairs (drop (j * 2 + 2) (provPart m i))
-    first-at = pairs-at (provPart m i) (j * 2) (omega (arith, ap length w))
+-- A plugin has 15 provisions at most, so the mask's low 32 digits are enough.
+module _ (m : List ℕ) (i : ℕ) (ws : List ℕ) (e : ws ≡ provPart m i) where
+  lack-place : lackFrom 0 (pluginAt m i .provisions) ≡ below (length ws / 2) (trailingZeros 32 ((2 ^ 32 - 1) - maskAt m i % 2 ^ 32))
+  lack-place =
+      let ps = pairs (provPart m i) in
+      let w : maskAt m i / 2 ^ 0 ≡ maskAt m i = omega arith in
+      let c : 0 + length ps ≡ length ws / 2 = omega (arith, length-pairs (provPart m i), ap length e) in
+      let z = lack-zeros m i 32 0 ps (omega (arith, length-pairs (provPart m i), few-words m i)) in
+      ap (lackFrom 0) (provisions-at m i) ∙ z
+      ∙ ap (λ x. below x (0 + trailingZeros 32 ((2 ^ 32 - 1) - maskAt m i / 2 ^ 0 % 2 ^ 32))) c
+      ∙ ap (below (length ws / 2)) (zero-add (trailingZeros 32 ((2 ^ 32 - 1) - maskAt m i / 2 ^ 0 % 2 ^ 32)))
+      ∙ ap (λ x. below (length ws / 2) (trailingZeros 32 ((2 ^ 32 - 1) - x % 2 ^ 32))) w
 
-    own-bit : b ≡ eqb (maskBit m i j) 1
-    own-bit = e ∙ ap (λ n. eqb (maskBit m i n) 1) (mod-eq-of-lt (omega (arith, ap length w, few-words m i)))
+  pub lack-here : trailingZeros 32 ((2 ^ 32 - 1) - maskAt m i % 2 ^ 32) < length ws / 2
+      → At (trailingZeros 32 ((2 ^ 32 - 1) - maskAt m i % 2 ^ 32)) ≡ lackFrom 0 (pluginAt m i .provisions)
+  unfolding below
+  lack-here h = sym (lack-place ∙ rw (lt-ltb (trailingZeros 32 ((2 ^ 32 - 1) - maskAt m i % 2 ^ 32)) (length ws / 2) h))
 
-    pub lack-here : b ≡ false → lackFrom j (rest m i j) ≡ At j
-    lack-here f = lack-hit first-at m i j b own-bit f
-
-    pub lack-later : b ≡ true → lackFrom j (rest m i j) ≡ lackFrom (j + 1) (rest m i (j + 1))
-    lack-later t =
-        let n : j * 2 + 2 ≡ (j + 1) * 2 = omega arith in
-        lack-miss first-at m i j b own-bit t ∙ ap (λ k. lackFrom (j + 1) (valued m i (j + 1) (pairs (drop k (provPart m i))))) n
+  pub lack-none : length ws / 2 ≤ trailingZeros 32 ((2 ^ 32 - 1) - maskAt m i % 2 ^ 32) → Nothing ≡ lackFrom 0 (pluginAt m i .provisions)
+  unfolding below
+  lack-none h = sym (lack-place ∙ rw (le-ltb (trailingZeros 32 ((2 ^ 32 - 1) - maskAt m i % 2 ^ 32)) (length ws / 2) h))
 
 -- a port's place among the provisions is below 15
 module _ (m : List ℕ) (i : ℕ) (q : Port) (ws : List ℕ) (w : ws ≡ provPart m i) (f : Found) (e : f ≡ portFrom 0 q (pairs ws)) where

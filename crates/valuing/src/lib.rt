@@ -64,21 +64,19 @@ pub fn value_of(m: &[u64; WORDS], place: usize, key: u64, realm: u64) -> Value
     value_at(m, place, j)
 }
 
-// The first provision without a value.
+// The first provision without a value: a plugin has 15 at most, so the low half of the mask tells.
 pub fn first_lacking(m: &[u64; WORDS], place: usize) -> Found
     ensures { λ r. ⌜ r ≡ lackFrom 0 (pluginAt (now (m .entry)) (place % 32) .provisions) ⌝ }
 {
     let words = rows::provision_words(m, place);
-    let count = words.len() / 2;
-    let mut j: usize = 0;
-    while j < count {
-        if has_value(m, place, j) {
-            j += 1;
-        } else {
-            return Found::At(j);
-        }
+    let b = place % 32 * PLACE_WORDS;
+    let mask = (m[b + 23] % 4294967296) as u32;
+    let j = u32::trailing_zeros(!mask) as usize;
+    if j < words.len() / 2 {
+        Found::At(j)
+    } else {
+        Found::Nothing
     }
-    Found::Nothing
 }
 
 // A provision that has no value gets one.

@@ -13,6 +13,7 @@ use Rattle.rules.specs.Dependencies.{candidates, inherit, dependencyList}
 use Rattle.ports.specs.Places.{in-hit, in-miss}
 use Rattle.inherit.specs.Blocks.{fitted}
 use Rattle.claiming.specs.Filled.{Lists, listed, lists-own, lists-at, lists-end, lists-more}
+use Rattle.resolving.specs.Blocks.{declared-lists}
 use Rattle.inherit.specs.Answers.{fitted-lists, fitted-longer}
 use Rattle.inherit.proofs.Turns.{candidate-at, candidates-end, skip-provision, skip-listed, append-new, grows}
 use Rattle.inherit.proofs.dependency_list.Statement.{statement}
@@ -23,20 +24,20 @@ abbrev soFar : ℕ → List ℕ → List Port
 soFar n ports = pairs (take (n * 2) ports)
 
 abbrev Inv-loop : tie.InvT-loop
-Inv-loop realms other provisions keys parents n ports c at key realm k₀ k =
+Inv-loop realms other provisions keys parents ports n c at key realm k₀ k =
     (k ≤ n) × (isIn (port key realm) (soFar n ports) ≡ isIn (port key realm) (drop k (soFar n ports)))
 
 abbrev μ-loop : tie.MeasureT-loop
-μ-loop realms other provisions keys parents n ports c at key realm k₀ k = n - k
+μ-loop realms other provisions keys parents ports n c at key realm k₀ k = n - k
 
 abbrev Inv-next : tie.InvT-next
-Inv-next realms other provisions keys parents n₀ ports₀ c₀ n ports c =
+Inv-next realms other provisions keys parents ports₀ n₀ c₀ ports n c =
     (n ≤ 48) × Lists 96 n ports (soFar n ports)
     × (dependencyList (realmsWith other realms) (pairs provisions) (take 16 keys) (pairs parents)
     ≡ inherit (pairs provisions) (drop c (candidates (realmsWith other realms) (pairs parents))) (soFar n ports))
 
 abbrev μ-next : tie.MeasureT-next
-μ-next realms other provisions keys parents n₀ ports₀ c₀ n ports c = length parents / 2 * 2 - c
+μ-next realms other provisions keys parents ports₀ n₀ c₀ ports n c = length parents / 2 * 2 - c
 
 -- the test of the provisions: the loop's head before it, and the function's entry
 abbrev Tested : Type 0
@@ -75,8 +76,8 @@ next-holds c =
     let a = c .before .before .before .before .before .before .args in
     let f = resolveIn (a .other) (pairs (a .realms .now)) in
     let keys = take 16 (a .keys .now) in
-    let r = c .before .declared .ensures in
-    let h : c .before .declared .result .count ≤ 48 = omega (arith, r .counted, length-map keys f, length-take 16 (a .keys .now)) in
+    let r = declared-lists (a .other) (pairs (a .realms .now)) (a .keys .now) (c .declared .ensures .0) (c .declared .ensures .1) in
+    let h : c .declared .result ≤ 48 = omega (arith, r .counted, length-map keys f, length-take 16 (a .keys .now)) in
     (h, lists-own r, ap (λ (l : List Port). inherit (pairs (a .provisions .now)) (candidates (realmsWith (a .other) (a .realms .now)) (pairs (a .parents .now))) l) (sym (listed r)))
 
 mul-at : tie.Need-mul-at Inv-loop μ-loop Inv-next μ-next

@@ -12,23 +12,19 @@ parent-tag-requires c κs = search needs
 parent-word-requires : tie.Need-parent-word-requires
 parent-word-requires c κs = search needs
 
-rows-in-use-requires : tie.Need-rows-in-use-requires
-rows-in-use-requires c κs = search needs
-
 add-t15 : tie.Need-add-t15
 add-t15 c = search needs
 
 returns : tie.Need-returns
 returns c =
-    let w = c .before in
-    let t = w .before in
+    let t = c .before in
     let n = t .before in
     λ i. record {
       id = n .next-id .ensures i;
       tag = t .parent-tag .ensures i;
-      parent = w .parent-word .ensures i;
+      parent = c .parent-word .ensures i;
       payload = n .before .args .payload;
-      start = c .rows-in-use .ensures i;
+      start = n .before .pre .1 i;
       dependencies = n .before .args .dependencies;
       provisions = n .before .args .provisions;
       realms = n .before .args .realms;
@@ -42,6 +38,5 @@ entry-spec =
     next-id-requires
     parent-tag-requires
     parent-word-requires
-    rows-in-use-requires
     add-t15
     returns)

@@ -154,7 +154,7 @@ module _ (s : Registry) (es : List Event) (r : Registry) (w : Linked s es r) whe
   resolve-kept l k = passes _ _ _ λ c. answered s es r w _ _ refl
 
   pub kept : (o : Op) → Good s es r o (step r o)
-  unfolding step dependencyPort fits admits childIdentity visible own missing matching declares askPlugin askRegistry nextAbove
+  unfolding dependencyPort fits admits childIdentity visible own missing matching declares askPlugin nextAbove
   kept (ResolveKey realms key) = resolve-kept realms key
   kept (DependencyPort id key) = asks _ id _ (λ vs. refl)
   kept (Register f) = register-kept f

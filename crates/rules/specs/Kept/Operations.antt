@@ -192,7 +192,7 @@ module _ (r : Registry) where
   asks o id f n = knows o id _ λ p e. answered o (f p) (n (f p))
 
   pub lawful : (o : Op) → Lawful r o (step r o)
-  unfolding step resolveKey dependencyPort fits admits childIdentity read visible own missing matching declares list listing askPlugin askRegistry nextAbove
+  unfolding resolveKey dependencyPort fits admits childIdentity read visible own missing matching declares list listing askPlugin nextAbove
   lawful (ResolveKey realms key) = passes _ _ _ λ c. answered _ _ refl
   lawful (DependencyPort id key) = asks _ id _ (λ vs. refl)
   lawful (Register d) = register-lawful d

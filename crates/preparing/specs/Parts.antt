@@ -1,0 +1,27 @@
+-- What a registration takes of its parent: the dependency rows, and the words that name it.
+use Prim.Native.Nat.{ℕ, _%_}
+use mathlib.Core.List.{List, []}
+use mathlib.Core.Option.{Option}
+use Rattle.rules.specs.Basics.{orElse, isSome, yesNo}
+use Rattle.memory.specs.Layout.{depPart}
+use Rattle.memory.specs.Writes.{findAt}
+use Rattle.memory.specs.declared.Parent.{Parent}
+use Rattle.memory.specs.declared.Parent.the-variants.{Of, Nobody}
+use Rattle.memory.specs.declared.Place.{Place}
+use Rattle.memory.specs.declared.Place.the-variants.{At, Nowhere}
+
+-- the dependency rows of the plugin at a place
+abbrev pub dependenciesAt : List ℕ → Place → List ℕ
+dependenciesAt m (At i) = depPart m (i % 32)
+dependenciesAt m Nowhere = []
+
+abbrev pub inheritedWords : List ℕ → Parent → List ℕ
+inheritedWords m (Of id) = dependenciesAt m (findAt m id)
+inheritedWords m Nobody = []
+
+-- a parent or none, in two words
+abbrev pub tagOf : Option ℕ → ℕ
+tagOf parent = yesNo (isSome parent)
+
+abbrev pub wordOf : Option ℕ → ℕ
+wordOf parent = orElse parent 0

@@ -1,0 +1,59 @@
+// Document 01, "Registration": what is read off the parent and the lists before a plugin is written.
+ghost use mathlib.Core.Path.{_≡_};
+ghost use Prim.Native.Nat.{_*_, _-_};
+ghost use lib.ListN.{take};
+ghost use Rattle.memory.specs.Writes.{parentId};
+ghost use Rattle.preparing.specs.Parts.{inheritedWords, tagOf, wordOf};
+use memory::Parent;
+use memory::Place;
+use memory::WORDS;
+
+// The parent's dependency rows; none without a parent.
+pub fn inherited(m: &[u64; WORDS], parent: Parent) -> &[u64]
+    ensures { λ r. ⌜ now r ≡ inheritedWords (now (m .entry)) parent ⌝ }
+{
+    let Parent::Of(id) = parent else {
+        return rows::some_words(m, 0, 0);
+    };
+    let Place::At(at) = memory::find(m, id) else {
+        return rows::some_words(m, 0, 0);
+    };
+    rows::dependency_words(m, at)
+}
+
+// The first rows of a list of ports, as many as there are.
+pub fn first_rows(ports: &[u64], count: usize) -> &[u64]
+    ensures { λ r. ⌜ now r ≡ take (count * 2) (now (ports .entry)) ⌝ }
+{
+    let n = ports.len();
+    if n / 2 < count {
+        return rows::some_words(ports, 0, n);
+    }
+    rows::some_words(ports, 0, count * 2)
+}
+
+// The provisions among the claims, which the anchor leads.
+pub fn behind_anchor(claims: usize) -> usize
+    ensures { λ r. ⌜ r ≡ claims - 1 ⌝ }
+{
+    if claims == 0 { 0 } else { claims - 1 }
+}
+
+// A plugin without a parent has tag 0.
+pub fn parent_tag(parent: Parent) -> u64
+    ensures { λ r. ⌜ r ≡ tagOf (parentId parent) ⌝ }
+{
+    match parent {
+        Parent::Of(_) => 1,
+        Parent::Nobody => 0,
+    }
+}
+
+pub fn parent_word(parent: Parent) -> u64
+    ensures { λ r. ⌜ r ≡ wordOf (parentId parent) ⌝ }
+{
+    match parent {
+        Parent::Of(id) => id,
+        Parent::Nobody => 0,
+    }
+}
