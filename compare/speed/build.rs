@@ -1,0 +1,21 @@
+//! Links both sides; `run` says where they lie.
+
+use std::env;
+
+fn main() {
+    let folder = |name: &str| {
+        println!("cargo:rerun-if-env-changed={name}");
+        env::var(name).unwrap_or_else(|_| panic!("{name} names a folder; see run"))
+    };
+    let plain = folder("PLAIN_SIDE");
+    println!("cargo:rerun-if-changed={plain}/libplain_side.so");
+    println!("cargo:rustc-link-search=native={plain}");
+    println!("cargo:rustc-link-lib=dylib=plain_side");
+    println!("cargo:rustc-link-arg=-Wl,-rpath,$ORIGIN");
+    if env::var_os("CARGO_FEATURE_TWICE").is_none() {
+        let ours = folder("VASKELBI");
+        println!("cargo:rerun-if-changed={ours}/libvaskelbi.a");
+        println!("cargo:rustc-link-search=native={ours}");
+        println!("cargo:rustc-link-lib=static=vaskelbi");
+    }
+}

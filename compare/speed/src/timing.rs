@@ -1,0 +1,102 @@
+//! Times: the sides take turns on worlds that are copied anew between the rounds.
+
+use std::fs;
+use std::hint::black_box;
+use std::time::Instant;
+
+use crate::cases::{Case, Room};
+use crate::sides::{EMPTY, OURS, PLAIN, SLOT, Side, WORLD};
+use crate::slots;
+use crate::worlds::World;
+
+/// Worlds in one round. They should stay in a core's second cache.
+pub const WORLDS: usize = 16;
+
+const ROUNDS: usize = 1001;
+
+/// Nanoseconds for one operation, without the driver's.
+pub struct Times {
+    pub plain: f64,
+    pub ours: f64,
+}
+
+/// The words of the world that a case starts from.
+pub fn prepared(side: &'static Side, case: &Case) -> Vec<u64> {
+    if side.name == EMPTY.name {
+        return vec![0; WORLD];
+    }
+    let mut world = World::new(side);
+    (case.prepare)(&mut world);
+    world.words().to_vec()
+}
+
+pub fn copies(of: &[u64], count: usize) -> Vec<u64> {
+    of.repeat(count)
+}
+
+/// Runs a case on so many of the worlds.
+#[inline(never)]
+pub fn run(side: &'static Side, case: &Case, worlds: &mut [u64], count: usize) -> u64 {
+    let (side, mut room) = (black_box(side), Room::new());
+    let mut sum = 0u64;
+    for world in worlds.chunks_exact_mut(WORLD).take(count) {
+        sum = sum.wrapping_add(unsafe { (case.run)(side, world.as_mut_ptr(), &mut room) });
+    }
+    black_box(&room);
+    sum
+}
+
+/// Says if a case doesn't do what its name says, or the sides don't do the same.
+pub fn check(case: &Case) -> Result<(), String> {
+    let [plain, ours] = [&PLAIN, &OURS].map(|side| {
+        let (mut world, mut room) = (prepared(side, case), Room::new());
+        let sum = unsafe { (case.run)(side, world.as_mut_ptr(), &mut room) };
+        let slots = slots::told(side, &world[..case.slots * SLOT]);
+        (side.name, sum, room, slots)
+    });
+    for (name, sum, ..) in [&plain, &ours] {
+        if *sum != case.operations * case.returns {
+            return Err(format!("{}: the {name} side returns {sum} in all", case.name));
+        }
+    }
+    if (plain.2.out, plain.2.buffer) != (ours.2.out, ours.2.buffer) {
+        return Err(format!("{}: {:?} and {:?}", case.name, plain.2.out, ours.2.out));
+    }
+    if plain.3 != ours.3 {
+        return Err(format!("{}: the slots differ", case.name));
+    }
+    Ok(())
+}
+
+fn median(mut times: Vec<f64>) -> f64 {
+    times.sort_by(f64::total_cmp);
+    times[times.len() / 2]
+}
+
+pub fn time(case: &Case) -> Times {
+    let sides = [&PLAIN, &OURS, &EMPTY];
+    let ready = sides.map(|side| prepared(side, case));
+    let mut times = [const { Vec::new() }; 3];
+    let mut worlds = vec![0; WORLDS * WORLD];
+    for round in 0..ROUNDS {
+        for turn in 0..3 {
+            let n = (round + turn) % 3;
+            for world in worlds.chunks_exact_mut(WORLD) {
+                world.copy_from_slice(&ready[n]);
+            }
+            let start = Instant::now();
+            black_box(run(sides[n], case, &mut worlds, WORLDS));
+            times[n].push(start.elapsed().as_nanos() as f64);
+        }
+    }
+    let operations = case.operations as f64 * WORLDS as f64;
+    let [plain, ours, empty] = times.map(median);
+    let net = |time: f64| (time - empty).max(0.0) / operations;
+    Times { plain: net(plain), ours: net(ours) }
+}
+
+/// The machine's load over the last minute, if it tells.
+pub fn load() -> Option<f64> {
+    let told = fs::read_to_string("/proc/loadavg").ok()?;
+    told.split(' ').next()?.parse().ok()
+}

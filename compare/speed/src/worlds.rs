@@ -1,0 +1,532 @@
+//! Registries made ready for a case, through the same C functions on each side.
+
+use crate::sides::{Out, SLOT, Side, WORLD};
+
+pub const DOMAIN: u64 = 7;
+
+/// The id of the plugin that is registered first; the next has the next id.
+pub const FIRST: u64 = 1000;
+
+/// The kind of a ticket.
+pub const SETUP: u64 = 1;
+
+/// Anchors lie apart from all other keys.
+pub const ANCHORS: u64 = 1 << 40;
+
+/// What a root is called with.
+pub const ARGUMENT: u64 = 5;
+
+/// A registry under construction. Every step has to be accepted.
+pub struct World {
+    side: &'static Side,
+    words: Vec<u64>,
+    out: Out,
+    registered: u64,
+}
+
+/// The lists that a plugin declares.
+#[derive(Clone, Copy, Default)]
+pub struct Lists<'a> {
+    pub realms: &'a [u64],
+    pub dependencies: &'a [u64],
+    pub provisions: &'a [u64],
+}
+
+/// Two dependencies, two provisions and three realm rows, none shared with another.
+pub struct Stranger {
+    pub anchor: u64,
+    pub realms: [u64; 6],
+    pub dependencies: [u64; 2],
+    pub provisions: [u64; 2],
+}
+
+/// Its provisions' ports: the first key has a realm row, the second none.
+pub const STRANGER_REALM: u64 = 7;
+
+pub static STRANGERS: [Stranger; 32] = {
+    let mut all = [const { Stranger::numbered(0) }; 32];
+    let mut n = 0;
+    while n < 32 {
+        all[n] = Stranger::numbered(n as u64);
+        n += 1;
+    }
+    all
+};
+
+impl Stranger {
+    pub const fn numbered(n: u64) -> Self {
+        let base = 1000 * (n + 1);
+        Self {
+            anchor: ANCHORS + n,
+            realms: [base + 1, STRANGER_REALM, base + 5, 8, base + 9, 9],
+            dependencies: [base + 5, base + 6],
+            provisions: [base + 1, base + 2],
+        }
+    }
+
+    pub fn lists(&self) -> Lists<'_> {
+        Lists {
+            realms: &self.realms,
+            dependencies: &self.dependencies,
+            provisions: &self.provisions,
+        }
+    }
+}
+
+impl World {
+    pub fn new(side: &'static Side) -> Self {
+        let mut world = Self { side, words: vec![0; WORLD], out: [0; 7], registered: 0 };
+        unsafe {
+            (side.prepare)(world.words.as_mut_ptr());
+            (side.open)(world.words.as_mut_ptr(), DOMAIN, FIRST);
+        }
+        world
+    }
+
+    pub fn words(&self) -> &[u64] {
+        &self.words
+    }
+
+    fn m(&mut self) -> *mut u64 {
+        self.words.as_mut_ptr()
+    }
+
+    fn accepted(&self, step: &str, status: u64) {
+        assert_eq!(
+            status, 0,
+            "{step} was refused while a world was made on the {} side",
+            self.side.name
+        );
+    }
+
+    /// Registers a plugin without a parent and answers its id.
+    pub fn register(&mut self, lists: Lists<'_>) -> u64 {
+        let Lists { realms, dependencies, provisions } = lists;
+        let (m, anchor) = (self.m(), ANCHORS + self.registered);
+        let status = unsafe {
+            (self.side.register)(
+                m,
+                anchor,
+                0,
+                self.registered,
+                realms.as_ptr(),
+                realms.len(),
+                dependencies.as_ptr(),
+                dependencies.len(),
+                provisions.as_ptr(),
+                provisions.len(),
+                &mut self.out,
+            )
+        };
+        self.accepted("register", status);
+        self.registered += 1;
+        FIRST + self.registered - 1
+    }
+
+    /// Registers a plugin under a parent and answers its id.
+    pub fn register_child(&mut self, parent: u64, lists: Lists<'_>) -> u64 {
+        let Lists { realms, dependencies, provisions } = lists;
+        let (m, anchor) = (self.m(), ANCHORS + self.registered);
+        let status = unsafe {
+            (self.side.register_child)(
+                m,
+                parent,
+                anchor,
+                0,
+                self.registered,
+                realms.as_ptr(),
+                realms.len(),
+                dependencies.as_ptr(),
+                dependencies.len(),
+                provisions.as_ptr(),
+                provisions.len(),
+                &mut self.out,
+            )
+        };
+        self.accepted("register_child", status);
+        self.registered += 1;
+        FIRST + self.registered - 1
+    }
+
+    pub fn begin(&mut self, id: u64) {
+        let status = unsafe { (self.side.begin)(self.m(), id, &mut self.out) };
+        self.accepted("begin", status);
+    }
+
+    /// Admits the first generation of a plugin that was never replaced.
+    pub fn admit(&mut self, id: u64) {
+        let m = self.m();
+        let status = unsafe { (self.side.admit)(m, DOMAIN, id, 1, SETUP, ARGUMENT, &mut self.out) };
+        self.accepted("admit", status);
+    }
+
+    pub fn call(&mut self, id: u64) {
+        let m = self.m();
+        let status = unsafe { (self.side.call)(m, DOMAIN, id, 1, 0, ARGUMENT, &mut self.out) };
+        self.accepted("call", status);
+    }
+
+    pub fn offer(&mut self, id: u64, key: u64, realm: u64) {
+        let status = unsafe { (self.side.offer)(self.m(), id, key, realm, key + 100) };
+        self.accepted("offer", status);
+    }
+
+    pub fn ready(&mut self, id: u64) {
+        let status = unsafe { (self.side.ready)(self.m(), id) };
+        self.accepted("ready", status);
+    }
+
+    pub fn fail(&mut self, id: u64) {
+        let status = unsafe { (self.side.fail)(self.m(), id) };
+        self.accepted("fail", status);
+    }
+
+    pub fn replace(&mut self, id: u64) {
+        let status = unsafe { (self.side.replace)(self.m(), id, 1, &mut self.out) };
+        self.accepted("replace", status);
+    }
+
+    pub fn retire(&mut self, id: u64) {
+        let status = unsafe { (self.side.retire)(self.m(), id) };
+        self.accepted("retire", status);
+    }
+
+    /// Makes a slot Pending, over the registry's words: a world has the one or the other.
+    fn slot(&mut self, n: usize) -> *mut u64 {
+        let slot = self.words[n * SLOT..][..SLOT].as_mut_ptr();
+        unsafe { (self.side.slot_pending)(slot, DOMAIN, FIRST, n as u64) };
+        slot
+    }
+
+    /// Makes an Idle plugin Active. Its provisions have realm 0.
+    pub fn raise(&mut self, id: u64, provisions: &[u64]) {
+        self.begin(id);
+        self.admit(id);
+        self.call(id);
+        for &key in provisions {
+            self.offer(id, key, 0);
+        }
+        self.ready(id);
+    }
+}
+
+/// 32 Idle plugins that have nothing to do with each other.
+pub fn strangers(world: &mut World) {
+    for stranger in &STRANGERS {
+        world.register(stranger.lists());
+    }
+}
+
+/// The same but for the last.
+pub fn all_but_one(world: &mut World) {
+    for stranger in &STRANGERS[..31] {
+        world.register(stranger.lists());
+    }
+}
+
+/// The two provision keys of a plugin that needs nobody.
+pub const fn own_keys(n: u64) -> [u64; 2] {
+    [2 * n + 1, 2 * n + 2]
+}
+
+fn independent(world: &mut World, n: u64) -> u64 {
+    world.register(Lists { provisions: &own_keys(n), ..Lists::default() })
+}
+
+/// 32 Idle plugins without dependencies, with two provisions each.
+pub fn idle(world: &mut World) {
+    for n in 0..32 {
+        independent(world, n);
+    }
+}
+
+/// The same, Loading.
+pub fn loading(world: &mut World) {
+    for n in 0..32 {
+        let id = independent(world, n);
+        world.begin(id);
+    }
+}
+
+/// The same, admitted.
+pub fn queued(world: &mut World) {
+    loading(world);
+    for n in 0..32 {
+        world.admit(FIRST + n);
+    }
+}
+
+/// The same, replaced after their admission.
+pub fn overtaken(world: &mut World) {
+    queued(world);
+    for n in 0..32 {
+        world.replace(FIRST + n);
+    }
+}
+
+/// The same, called, with the second value missing.
+pub fn nearly_ready(world: &mut World) {
+    queued(world);
+    for n in 0..32 {
+        world.call(FIRST + n);
+        world.offer(FIRST + n, own_keys(n)[0], 0);
+    }
+}
+
+/// The same, with all values.
+pub fn settled(world: &mut World) {
+    nearly_ready(world);
+    for n in 0..32 {
+        world.offer(FIRST + n, own_keys(n)[1], 0);
+    }
+}
+
+/// The same, Unloading.
+pub fn unloading(world: &mut World) {
+    settled(world);
+    for n in 0..32 {
+        world.fail(FIRST + n);
+    }
+}
+
+/// How many providers there are in a supplied world, and plugins that need them.
+pub const PROVIDERS: u64 = 20;
+pub const USERS: u64 = 12;
+
+/// The keys that a user needs: four of the providers' provisions.
+pub const fn needs(user: u64) -> [u64; 4] {
+    let mut keys = [0; 4];
+    let mut n = 0;
+    while n < 4 {
+        let provider = (3 * user + 5 * n as u64 + 1) % PROVIDERS;
+        keys[n] = own_keys(provider)[n % 2];
+        n += 1;
+    }
+    keys
+}
+
+/// A key that nobody provides.
+pub const NOBODYS: u64 = 999_999;
+
+/// The provision keys of a user.
+pub const fn user_keys(user: u64) -> [u64; 2] {
+    own_keys(100 + user)
+}
+
+fn providers(world: &mut World) {
+    for n in 0..PROVIDERS {
+        let id = independent(world, n);
+        world.raise(id, &own_keys(n));
+    }
+}
+
+/// 20 Active plugins, and 12 Idle ones with four dependencies among them.
+pub fn supplied(world: &mut World) {
+    providers(world);
+    for user in 0..USERS {
+        world.register(Lists {
+            dependencies: &needs(user),
+            provisions: &user_keys(user),
+            ..Lists::default()
+        });
+    }
+}
+
+/// The same, but the fourth dependency of each has no provider.
+pub fn unsupplied(world: &mut World) {
+    providers(world);
+    for user in 0..USERS {
+        let mut dependencies = needs(user);
+        dependencies[3] = NOBODYS;
+        world.register(Lists {
+            dependencies: &dependencies,
+            provisions: &user_keys(user),
+            ..Lists::default()
+        });
+    }
+}
+
+/// The supplied world with all 32 Active.
+pub fn active(world: &mut World) {
+    supplied(world);
+    for user in 0..USERS {
+        world.raise(FIRST + PROVIDERS + user, &user_keys(user));
+    }
+}
+
+/// Two providers and 30 Active plugins with four dependencies. Nobody needs the
+/// 30; the second provider is needed by the last of them alone.
+pub fn crowd(world: &mut World) {
+    let common = [1, 2, 3, 4];
+    let rare = [5, 6];
+    for provisions in [&common[..], &rare[..]] {
+        let id = world.register(Lists { provisions, ..Lists::default() });
+        world.raise(id, provisions);
+    }
+    for n in 2..32 {
+        let provisions = own_keys(100 + n);
+        let dependencies = if n < 31 { common } else { [1, 2, 3, 5] };
+        let id = world.register(Lists {
+            dependencies: &dependencies,
+            provisions: &provisions,
+            ..Lists::default()
+        });
+        world.raise(id, &provisions);
+    }
+}
+
+/// Numbers that follow each other.
+pub const fn run<const N: usize>(first: u64) -> [u64; N] {
+    let mut keys = [0; N];
+    let mut n = 0;
+    while n < N {
+        keys[n] = first + n as u64;
+        n += 1;
+    }
+    keys
+}
+
+/// The plugin of a deep world that has 48 dependencies, 15 provisions and 16 realm rows.
+pub const DEEP: u64 = FIRST + 6;
+
+/// The key of its dependency at place 40: 33 to 48 come first, then 17 to 32, then 1 to 16.
+pub const AT_40: u64 = 8;
+
+pub const DEEP_PROVISIONS: [u64; 15] = run(301);
+
+/// Its realm rows.
+pub const DEEP_REALMS: [u64; 32] = {
+    let mut rows = [3; 32];
+    let mut n = 0;
+    while n < 16 {
+        rows[2 * n] = 401 + n as u64;
+        n += 1;
+    }
+    rows
+};
+
+/// Four Active plugins that provide keys 1 to 60, then a grandparent, a parent and
+/// a child of 16 declared dependencies each: the child has 48.
+pub fn deep(world: &mut World) {
+    for n in 0..4 {
+        let provisions = run::<15>(15 * n + 1);
+        let id = world.register(Lists { provisions: &provisions, ..Lists::default() });
+        world.raise(id, &provisions);
+    }
+    let top = world.register(Lists { dependencies: &run::<16>(1), ..Lists::default() });
+    let middle =
+        world.register_child(top, Lists { dependencies: &run::<16>(17), ..Lists::default() });
+    let deep = world.register_child(
+        middle,
+        Lists { dependencies: &run::<16>(33), provisions: &DEEP_PROVISIONS, realms: &DEEP_REALMS },
+    );
+    assert_eq!(deep, DEEP);
+}
+
+/// The same, with the child Active.
+pub fn deep_active(world: &mut World) {
+    deep(world);
+    world.raise(DEEP, &DEEP_PROVISIONS);
+}
+
+/// The same, with the child Loading and without values.
+pub fn deep_loading(world: &mut World) {
+    deep(world);
+    world.begin(DEEP);
+}
+
+/// A stranger whose first realm row resolves one of the inherited keys anew.
+pub static HEIRS: [Stranger; 32] = {
+    let mut all = [const { Stranger::numbered(0) }; 32];
+    let mut n = 0;
+    while n < 32 {
+        let mut heir = Stranger::numbered(n as u64);
+        heir.realms = [3, 5, heir.provisions[0], STRANGER_REALM, heir.dependencies[0], 8];
+        all[n] = heir;
+        n += 1;
+    }
+    all
+};
+
+/// A parent with 16 dependencies.
+pub fn parent_of_16(world: &mut World) {
+    world.register(Lists { dependencies: &run::<16>(1), ..Lists::default() });
+}
+
+/// A parent with 46 dependencies.
+pub const HEIR: u64 = FIRST + 2;
+
+pub fn parent_of_46(world: &mut World) {
+    let top = world.register(Lists { dependencies: &run::<16>(1), ..Lists::default() });
+    let middle =
+        world.register_child(top, Lists { dependencies: &run::<16>(17), ..Lists::default() });
+    world.register_child(middle, Lists { dependencies: &run::<14>(33), ..Lists::default() });
+}
+
+/// 32 Idle plugins of 32 rows each: all places and all rows are taken.
+pub fn full(world: &mut World) {
+    for n in 0..32 {
+        world.register(Lists {
+            dependencies: &run::<16>(1_000_000),
+            provisions: &run::<15>(100 * n + 1),
+            ..Lists::default()
+        });
+    }
+}
+
+/// The same, with the newest retired.
+pub fn newest_retired(world: &mut World) {
+    full(world);
+    world.retire(FIRST + 31);
+}
+
+/// The same, with the oldest retired.
+pub fn oldest_retired(world: &mut World) {
+    full(world);
+    world.retire(FIRST);
+}
+
+/// A parent and 31 children.
+pub fn family(world: &mut World) {
+    let parent = world.register(Lists::default());
+    for _ in 1..32 {
+        world.register_child(parent, Lists::default());
+    }
+}
+
+/// A parent that is retired, and its child, the last of 32.
+pub fn orphanage(world: &mut World) {
+    for _ in 0..31 {
+        world.register(Lists::default());
+    }
+    world.register_child(FIRST, Lists::default());
+    world.retire(FIRST);
+}
+
+/// The slots of a world that has them.
+pub const SLOTS: usize = 32;
+
+/// The child that a slot is offered.
+pub const CHILD: u64 = FIRST + 1;
+
+/// Pending slots of the same parent.
+pub fn pending_slots(world: &mut World) {
+    for n in 0..SLOTS {
+        world.slot(n);
+    }
+}
+
+/// The same, Assigned, Failed and Cancelled by turns.
+pub fn decided_slots(world: &mut World) {
+    for n in 0..SLOTS {
+        let slot = world.slot(n);
+        let status = unsafe {
+            match n % 3 {
+                0 => (world.side.slot_assign)(slot, DOMAIN, FIRST, CHILD),
+                1 => (world.side.slot_reject)(slot),
+                _ => (world.side.slot_cancel)(slot),
+            }
+        };
+        world.accepted("a slot's decision", status);
+    }
+}
