@@ -1,0 +1,484 @@
+// Calls every function of vaskelbi.h, accepted and refused. All that a call can reach stands in one struct with canary words
+// between; after each call the whole struct is held to what it must be. Each call is written with its answer.
+#include "vaskelbi.h"
+#include <inttypes.h>
+#include <stdio.h>
+#include <stdlib.h>
+#include <string.h>
+
+enum { GUARD = 64 };
+static const uint64_t CANARY = 0xC0FFEE11DEADBEEF;
+static const uint64_t LAST = UINT64_MAX;
+
+static struct {
+    uint64_t before[GUARD];
+    vaskelbi_registry registry;
+    uint64_t between[GUARD];
+    vaskelbi_answer out;
+    uint64_t behind[GUARD];
+    uint64_t buffer[VASKELBI_ROOM];
+    uint64_t further[GUARD];
+    vaskelbi_slot slot;
+    uint64_t after[GUARD];
+} all, was;
+
+static vaskelbi_registry *const m = &all.registry;
+static vaskelbi_answer *const out = &all.out;
+static uint64_t *const buffer = all.buffer;
+static vaskelbi_slot *const slot = &all.slot;
+
+static unsigned calls;
+
+static void expect(int holds, const char *what, const char *call) {
+    if (!holds) {
+        printf("FAILED: %s\n        %s\n", call, what);
+        exit(1);
+    }
+}
+
+static void fill(void *words, size_t size) {
+    for (size_t i = 0; i < size; i += sizeof CANARY) memcpy((char *)words + i, &CANARY, sizeof CANARY);
+}
+
+// Answer and buffer hold canaries before a call, so that each number it writes is seen.
+static void before(void) {
+    fill(out, sizeof *out);
+    fill(buffer, sizeof all.buffer);
+    was = all;
+}
+
+// A number for the registry's words, so that two runs can be held to each other.
+static uint64_t sum(void) {
+    uint64_t h = 14695981039346656037u;
+    for (int i = 0; i < VASKELBI_WORDS; i++) h = (h ^ m->word[i]) * 1099511628211u;
+    return h;
+}
+
+enum { NOTHING, REGISTRY }; // what an acceptance changes besides `out`
+
+// Holds everything to what it was, but for the numbers answered and, where that must change, the registry.
+static void hold(const char *call, uint64_t status, uint64_t expected, int changes, const uint64_t *numbers, size_t count) {
+    printf("%s: %" PRIu64, call, status);
+    for (size_t i = 0; i < count; i++) printf(i ? " %" PRIu64 : " with %" PRIu64, out->number[i]);
+    printf(", words %016" PRIx64 "\n", sum());
+    calls++;
+    expect(status == expected, "another status", call);
+    if (changes == REGISTRY) {
+        expect(memcmp(m, &was.registry, sizeof *m) != 0, "the registry did not change", call);
+        was.registry = *m;
+    }
+    if (numbers) {
+        was.out.count = count;
+        memcpy(was.out.number, numbers, count * sizeof *numbers);
+    }
+    expect(!memcmp(&all, &was, sizeof all), "it left other words than it must", call);
+}
+
+static void hold_listed(const char *call, uint64_t status, size_t place, const uint64_t *numbers, size_t count) {
+    const uint64_t pairs = count / 2;
+    memcpy(was.buffer + place, numbers, count * sizeof *numbers);
+    hold(call, status, 0, NOTHING, &pairs, 1);
+}
+
+static const uint64_t none[1];
+#define NONE none, 0
+#define IS(...) ((uint64_t[]){__VA_ARGS__}), sizeof((uint64_t[]){__VA_ARGS__}) / sizeof(uint64_t)
+#define CALL(call, ...) do { before(); uint64_t s_ = (call); hold(#call, s_, __VA_ARGS__); } while (0)
+// Accepted: the registry changes; it changes and numbers are answered; numbers are answered; nothing changes.
+#define DONE(call) CALL(call, 0, REGISTRY, NULL, 0)
+#define TOLD(call, ...) CALL(call, 0, REGISTRY, __VA_ARGS__)
+#define ASKED(call, ...) CALL(call, 0, NOTHING, __VA_ARGS__)
+#define KEPT(call) CALL(call, 0, NOTHING, NULL, 0)
+// Refused with a number, and where that is answered with the payload.
+#define REFUSED(call, number) CALL(call, number, NOTHING, NULL, 0)
+#define HANDED_BACK(call, number, ...) CALL(call, number, NOTHING, __VA_ARGS__)
+// The number itself is returned.
+#define NUMBER(call, number) CALL(call, number, NOTHING, NULL, 0)
+// Pairs are listed from a place in the buffer.
+#define LISTED(call, place, ...) do { before(); uint64_t s_ = (call); hold_listed(#call, s_, place, __VA_ARGS__); } while (0)
+// The slot afterwards.
+#define SLOT(call, ...) do { \
+        before(); uint64_t s_ = (call); was.slot = (vaskelbi_slot){__VA_ARGS__}; hold(#call, s_, 0, NOTHING, NULL, 0); \
+    } while (0)
+// No status is returned.
+#define OPENED(call) CALL((call, 0), 0, REGISTRY, NULL, 0)
+#define MADE(call, ...) SLOT((call, 0), __VA_ARGS__)
+
+static const uint64_t E1[] = {2, 5, 9, 1};
+static const uint64_t many[17] = {1, 2, 3, 4, 5, 6, 7, 8, 9, 10, 11, 12, 13, 14, 15, 16, 17};
+
+// A plugin with an anchor of its own and nothing else; accepted.
+static uint64_t bare(uint64_t n) {
+    expect(vaskelbi_register(m, 1000 + n, 77, n, none, 0, none, 0, none, 0, out) == 0, "refused", "bare");
+    return out->number[0];
+}
+
+static void opening(void) {
+    OPENED(vaskelbi_open(m, 7, 40));
+    NUMBER(vaskelbi_domain(m), 7);
+    NUMBER(vaskelbi_first(m), 40);
+    NUMBER(vaskelbi_next(m), 40);
+    NUMBER(vaskelbi_count(m), 0);
+    NUMBER(vaskelbi_rows(m), 0);
+    ASKED(vaskelbi_next_above(m, 0, out), NONE);
+}
+
+static void resolving(void) { // E1, E8
+    uint64_t rows[34];
+    for (uint64_t i = 0; i < 17; i++) rows[2 * i] = i, rows[2 * i + 1] = i + 100;
+    ASKED(vaskelbi_resolve(E1, 4, 2, out), IS(2, 5));
+    ASKED(vaskelbi_resolve(E1, 4, 3, out), IS(3, 0));
+    ASKED(vaskelbi_resolve(none, 0, 3, out), IS(3, 0));
+    ASKED(vaskelbi_resolve(rows, 32, 15, out), IS(15, 115));
+    REFUSED(vaskelbi_resolve(rows, 34, 15, out), 4);
+    REFUSED(vaskelbi_resolve(E1, 3, 2, out), 4);
+    REFUSED(vaskelbi_resolve((uint64_t[]){2, 5, 2, 1}, 4, 2, out), 4);
+    REFUSED(vaskelbi_resolve((uint64_t[]){9, 1, 2, 5}, 4, 2, out), 4);
+}
+
+// Plugin 40 provides (2,5) and (3,0) at anchor (90,0); its child 41 depends on (2,5) and (90,0).
+static void registering(void) {
+    const uint64_t provided[] = {2, 3}, needed[] = {2, 90}, twice[] = {8, 8}, ninety[] = {90};
+    TOLD(vaskelbi_register(m, 90, 0, 501, E1, 4, none, 0, provided, 2, out), IS(40));
+    REFUSED(vaskelbi_register(m, 91, 0, 1, E1, 3, many, 17, none, 0, out), 4);
+    REFUSED(vaskelbi_register(m, 91, 0, 1, none, 0, many, 17, none, 0, out), 5);
+    REFUSED(vaskelbi_register(m, 91, 0, 1, none, 0, none, 0, many, 16, out), 5);
+    REFUSED(vaskelbi_register(m, 91, 0, 1, none, 0, twice, 2, twice, 2, out), 6);
+    REFUSED(vaskelbi_register(m, 91, 0, 1, none, 0, none, 0, twice, 2, out), 7);
+    REFUSED(vaskelbi_register(m, 8, 0, 1, none, 0, none, 0, twice, 1, out), 7);
+    REFUSED(vaskelbi_register(m, 90, 0, 1, none, 0, none, 0, none, 0, out), 8);
+    REFUSED(vaskelbi_register(m, 2, 5, 1, none, 0, none, 0, none, 0, out), 8);
+    REFUSED(vaskelbi_register(m, 91, 0, 1, none, 0, none, 0, ninety, 1, out), 8);
+
+    TOLD(vaskelbi_register_child(m, 40, 91, 6, 502, E1, 4, needed, 2, none, 0, out), IS(41));
+    REFUSED(vaskelbi_register_child(m, 39, 92, 0, 1, E1, 3, many, 17, none, 0, out), 4);
+    REFUSED(vaskelbi_register_child(m, 39, 92, 0, 1, none, 0, many, 17, none, 0, out), 5);
+    REFUSED(vaskelbi_register_child(m, 39, 92, 0, 1, none, 0, twice, 2, none, 0, out), 1);
+    REFUSED(vaskelbi_register_child(m, 40, 92, 0, 1, none, 0, twice, 2, none, 0, out), 6);
+    REFUSED(vaskelbi_register_child(m, 40, 92, 0, 1, none, 0, none, 0, twice, 2, out), 7);
+    REFUSED(vaskelbi_register_child(m, 40, 91, 6, 1, none, 0, none, 0, none, 0, out), 8);
+    NUMBER(vaskelbi_next(m), 42);
+    NUMBER(vaskelbi_count(m), 2);
+    NUMBER(vaskelbi_rows(m), 6);
+}
+
+static void listing(void) {
+    LISTED(vaskelbi_list_dependencies(m, 41, 0, buffer, 4, out), 0, IS(2, 5, 90, 0));
+    LISTED(vaskelbi_list_dependencies(m, 41, 92, buffer, 96, out), 92, IS(2, 5, 90, 0));
+    LISTED(vaskelbi_list_dependencies(m, 40, 96, buffer, 96, out), 0, NONE);
+    LISTED(vaskelbi_list_dependencies(m, 40, 0, buffer, 0, out), 0, NONE);
+    REFUSED(vaskelbi_list_dependencies(m, 39, 97, buffer, 96, out), 1);
+    REFUSED(vaskelbi_list_dependencies(m, 40, 97, buffer, 96, out), 23);
+    REFUSED(vaskelbi_list_dependencies(m, 41, 93, buffer, 96, out), 23);
+    REFUSED(vaskelbi_list_dependencies(m, 41, LAST, buffer, 96, out), 23);
+    LISTED(vaskelbi_list_provisions(m, 40, 7, buffer, 11, out), 7, IS(2, 5, 3, 0));
+    REFUSED(vaskelbi_list_provisions(m, 39, 0, buffer, 96, out), 1);
+    REFUSED(vaskelbi_list_provisions(m, 40, 7, buffer, 10, out), 23);
+    LISTED(vaskelbi_list_realms(m, 40, 20, buffer, 96, out), 20, IS(2, 5, 9, 1));
+    REFUSED(vaskelbi_list_realms(m, 39, 0, buffer, 96, out), 1);
+    REFUSED(vaskelbi_list_realms(m, 40, 0, buffer, 3, out), 23);
+}
+
+static void asking(void) {
+    ASKED(vaskelbi_lookup(m, 41, 90, out), IS(90, 0));
+    ASKED(vaskelbi_lookup(m, 41, 3, out), NONE);
+    REFUSED(vaskelbi_lookup(m, 42, 90, out), 1);
+    ASKED(vaskelbi_parent(m, 41, out), IS(40));
+    ASKED(vaskelbi_parent(m, 40, out), NONE);
+    REFUSED(vaskelbi_parent(m, 42, out), 1);
+    ASKED(vaskelbi_anchor(m, 41, out), IS(91, 6));
+    REFUSED(vaskelbi_anchor(m, 42, out), 1);
+    ASKED(vaskelbi_phase(m, 41, out), IS(VASKELBI_IDLE));
+    REFUSED(vaskelbi_phase(m, 42, out), 1);
+    ASKED(vaskelbi_retired(m, 41, out), IS(0));
+    REFUSED(vaskelbi_retired(m, 42, out), 1);
+    ASKED(vaskelbi_generation(m, 41, out), IS(0));
+    REFUSED(vaskelbi_generation(m, 42, out), 1);
+    ASKED(vaskelbi_revision(m, 41, out), IS(0));
+    REFUSED(vaskelbi_revision(m, 42, out), 1);
+    ASKED(vaskelbi_payload(m, 41, out), IS(502));
+    REFUSED(vaskelbi_payload(m, 42, out), 1);
+    ASKED(vaskelbi_root(m, 41, out), IS(VASKELBI_UNISSUED));
+    REFUSED(vaskelbi_root(m, 42, out), 1);
+    ASKED(vaskelbi_next_above(m, 0, out), IS(40));
+    ASKED(vaskelbi_next_above(m, 40, out), IS(41));
+    ASKED(vaskelbi_next_above(m, 41, out), NONE);
+    ASKED(vaskelbi_matches(m, 40, (uint64_t[]){2, 5, 3, 0}, 4, out), IS(1));
+    ASKED(vaskelbi_matches(m, 40, (uint64_t[]){3, 0, 2, 5}, 4, out), IS(0));
+    ASKED(vaskelbi_matches(m, 40, (uint64_t[]){2, 5, 3}, 3, out), IS(0));
+    ASKED(vaskelbi_matches(m, 41, none, 0, out), IS(1));
+    REFUSED(vaskelbi_matches(m, 42, none, 0, out), 1);
+    ASKED(vaskelbi_declares(m, 40, 2, 5, out), IS(1));
+    ASKED(vaskelbi_declares(m, 41, 2, 5, out), IS(0));
+    REFUSED(vaskelbi_declares(m, 42, 2, 5, out), 1);
+    ASKED(vaskelbi_child(m, 41, out), IS(7, 40, 41));
+    ASKED(vaskelbi_child(m, 40, out), NONE);
+    REFUSED(vaskelbi_child(m, 42, out), 1);
+    ASKED(vaskelbi_fits(m, 41, LAST, out), IS(1));
+    REFUSED(vaskelbi_fits(m, 42, 0, out), 1);
+}
+
+// Plugin 40 to Active, by way of a stale call.
+static void calling(void) {
+    REFUSED(vaskelbi_begin(m, 41, out), 14);
+    REFUSED(vaskelbi_begin(m, 42, out), 1);
+    TOLD(vaskelbi_begin(m, 40, out), IS(7, 40, 1, VASKELBI_SETUP));
+    REFUSED(vaskelbi_begin(m, 40, out), 3);
+    ASKED(vaskelbi_phase(m, 40, out), IS(VASKELBI_LOADING));
+    ASKED(vaskelbi_generation(m, 40, out), IS(1));
+
+    ASKED(vaskelbi_admits(m, 7, 40, 1, 1, out), IS(1));
+    ASKED(vaskelbi_admits(m, 8, 40, 1, 1, out), IS(0));
+    REFUSED(vaskelbi_admit(m, 8, 42, 1, 1, 600, out), 3);
+    REFUSED(vaskelbi_admit(m, 7, 42, 1, 2, 600, out), 3);
+    REFUSED(vaskelbi_admit(m, 7, 42, 1, 1, 600, out), 1);
+    REFUSED(vaskelbi_admit(m, 7, 40, 2, 1, 600, out), 13);
+    REFUSED(vaskelbi_admit(m, 7, 41, 0, 1, 600, out), 13);
+    TOLD(vaskelbi_admit(m, 7, 40, 1, 1, 600, out), IS(7, 40, 1, 0, 600));
+    REFUSED(vaskelbi_admit(m, 7, 40, 1, 1, 600, out), 3);
+    ASKED(vaskelbi_admits(m, 7, 40, 1, 1, out), IS(0));
+    ASKED(vaskelbi_root(m, 40, out), IS(VASKELBI_QUEUED, 0, 600));
+
+    REFUSED(vaskelbi_call(m, 8, 42, 1, 0, 600, out), 3);
+    REFUSED(vaskelbi_call(m, 7, 42, 1, 0, 600, out), 1);
+    REFUSED(vaskelbi_call(m, 7, 40, 2, 0, 600, out), 13);
+    REFUSED(vaskelbi_call(m, 7, 40, 1, 1, 600, out), 13);
+    REFUSED(vaskelbi_call(m, 7, 40, 1, 0, 601, out), 13);
+    TOLD(vaskelbi_replace(m, 40, 501, out), IS(501)); // E9
+    REFUSED(vaskelbi_call(m, 7, 40, 1, 0, 600, out), 13);
+    HANDED_BACK(vaskelbi_replace(m, 42, 503, out), 1, IS(503));
+    ASKED(vaskelbi_revision(m, 40, out), IS(1));
+
+    REFUSED(vaskelbi_fail(m, 42), 1);
+    DONE(vaskelbi_fail(m, 40));
+    REFUSED(vaskelbi_fail(m, 40), 3);
+    REFUSED(vaskelbi_register_child(m, 40, 92, 0, 1, none, 0, none, 0, none, 0, out), 3);
+    REFUSED(vaskelbi_finish(m, 42), 1);
+    DONE(vaskelbi_finish(m, 40));
+    REFUSED(vaskelbi_finish(m, 40), 3);
+
+    TOLD(vaskelbi_begin(m, 40, out), IS(7, 40, 2, 1));
+    TOLD(vaskelbi_admit(m, 7, 40, 2, 1, 600, out), IS(7, 40, 2, 1, 600));
+    REFUSED(vaskelbi_ready(m, 42), 1);
+    REFUSED(vaskelbi_ready(m, 41), 3);
+    REFUSED(vaskelbi_ready(m, 40), 17);
+    TOLD(vaskelbi_call(m, 7, 40, 2, 1, 600, out), IS(7, 40, 2, 0, 501, 600)); // E10
+    REFUSED(vaskelbi_call(m, 7, 40, 2, 1, 600, out), 13);
+    ASKED(vaskelbi_root(m, 40, out), IS(VASKELBI_SPENT));
+    REFUSED(vaskelbi_ready(m, 40), 22);
+}
+
+static void offering(void) {
+    ASKED(vaskelbi_missing(m, 40, out), IS(2, 5));
+    REFUSED(vaskelbi_missing(m, 42, out), 1);
+    REFUSED(vaskelbi_offer(m, 42, 2, 5, 700), 1);
+    REFUSED(vaskelbi_offer(m, 41, 2, 5, 700), 19);
+    REFUSED(vaskelbi_offer(m, 40, 5, 2, 700), 20);
+    REFUSED(vaskelbi_offer(m, 40, 90, 0, 700), 20);
+    DONE(vaskelbi_offer(m, 40, 2, 5, 700));
+    REFUSED(vaskelbi_offer(m, 40, 2, 5, 701), 21);
+    ASKED(vaskelbi_missing(m, 40, out), IS(3, 0));
+    ASKED(vaskelbi_own(m, 40, 2, 5, out), IS(700));
+    ASKED(vaskelbi_own(m, 40, 3, 0, out), NONE);
+    REFUSED(vaskelbi_own(m, 42, 2, 5, out), 1);
+    ASKED(vaskelbi_visible(m, 2, 5, out), NONE);
+    DONE(vaskelbi_offer(m, 40, 3, 0, 702));
+    ASKED(vaskelbi_missing(m, 40, out), NONE);
+    DONE(vaskelbi_ready(m, 40));
+    ASKED(vaskelbi_phase(m, 40, out), IS(VASKELBI_ACTIVE));
+    ASKED(vaskelbi_visible(m, 2, 5, out), IS(700));
+    REFUSED(vaskelbi_offer(m, 40, 2, 5, 701), 19);
+
+    REFUSED(vaskelbi_read(m, 42, 2, 5, out), 1);
+    REFUSED(vaskelbi_read(m, 41, 2, 5, out), 19);
+    TOLD(vaskelbi_begin(m, 41, out), IS(7, 41, 1, 1));
+    ASKED(vaskelbi_read(m, 41, 2, 5, out), IS(700, 40));
+    REFUSED(vaskelbi_read(m, 41, 3, 0, out), 20);
+    REFUSED(vaskelbi_read(m, 41, 90, 0, out), 22);
+    ASKED(vaskelbi_declares(m, 41, 2, 5, out), IS(1));
+
+    REFUSED(vaskelbi_unload(m, 42), 1);
+    REFUSED(vaskelbi_unload(m, 41), 3);
+    REFUSED(vaskelbi_unload(m, 40), 15);
+}
+
+// Both retired and removed; 41 while Loading.
+static void retiring(void) {
+    REFUSED(vaskelbi_retire_child(m, 8, 40, 41), 3);
+    REFUSED(vaskelbi_retire_child(m, 7, 40, 39), 1);
+    REFUSED(vaskelbi_retire_child(m, 7, 40, 42), 1);
+    REFUSED(vaskelbi_retire_child(m, 7, 41, 41), 3);
+    REFUSED(vaskelbi_retire_child(m, 7, 40, 40), 3);
+    DONE(vaskelbi_retire_child(m, 7, 40, 41));
+    REFUSED(vaskelbi_retire_child(m, 7, 40, 41), 2);
+    REFUSED(vaskelbi_admit(m, 7, 41, 1, 1, 600, out), 2);
+    REFUSED(vaskelbi_call(m, 7, 41, 1, 0, 600, out), 2);
+    REFUSED(vaskelbi_ready(m, 41), 2);
+    REFUSED(vaskelbi_offer(m, 41, 2, 5, 700), 19);
+    REFUSED(vaskelbi_remove(m, 41), 3);
+    DONE(vaskelbi_fail(m, 41));
+    DONE(vaskelbi_finish(m, 41));
+    REFUSED(vaskelbi_begin(m, 41, out), 2);
+
+    DONE(vaskelbi_unload(m, 40));
+    ASKED(vaskelbi_visible(m, 2, 5, out), NONE);
+    ASKED(vaskelbi_own(m, 40, 2, 5, out), IS(700));
+    DONE(vaskelbi_finish(m, 40));
+    ASKED(vaskelbi_own(m, 40, 2, 5, out), NONE);
+    REFUSED(vaskelbi_remove(m, 40), 3);
+    REFUSED(vaskelbi_retire(m, 42), 1);
+    DONE(vaskelbi_retire(m, 40));
+    REFUSED(vaskelbi_retire(m, 40), 2);
+    ASKED(vaskelbi_retired(m, 40, out), IS(1));
+    REFUSED(vaskelbi_register_child(m, 40, 92, 0, 1, none, 0, none, 0, none, 0, out), 2);
+    REFUSED(vaskelbi_remove(m, 42), 1);
+    REFUSED(vaskelbi_remove(m, 40), 18);
+    DONE(vaskelbi_remove(m, 41));
+    KEPT(vaskelbi_retire_child(m, 7, 99, 41));
+    DONE(vaskelbi_remove(m, 40));
+    NUMBER(vaskelbi_count(m), 0);
+    NUMBER(vaskelbi_rows(m), 0);
+    NUMBER(vaskelbi_next(m), 42);
+}
+
+static void full(void) {
+    OPENED(vaskelbi_open(m, 0, 0));
+    for (uint64_t n = 0; n < 32; n++) bare(n);
+    NUMBER(vaskelbi_count(m), 32);
+    REFUSED(vaskelbi_register(m, 1000, 77, 0, none, 0, none, 0, none, 0, out), 8);
+    REFUSED(vaskelbi_register(m, 999, 77, 0, none, 0, none, 0, none, 0, out), 10);
+    REFUSED(vaskelbi_register_child(m, 5, 999, 77, 0, none, 0, none, 0, none, 0, out), 10);
+    DONE(vaskelbi_retire(m, 5));
+    DONE(vaskelbi_remove(m, 5));
+    TOLD(vaskelbi_register(m, 1005, 77, 0, none, 0, none, 0, none, 0, out), IS(32));
+    ASKED(vaskelbi_next_above(m, 4, out), IS(6));
+}
+
+static void last_id(void) {
+    OPENED(vaskelbi_open(m, 0, LAST - 1));
+    TOLD(vaskelbi_register(m, 1, 0, 0, none, 0, none, 0, none, 0, out), IS(LAST - 1));
+    REFUSED(vaskelbi_register(m, 2, 0, 0, none, 0, none, 0, none, 0, out), 9);
+    REFUSED(vaskelbi_register_child(m, LAST - 1, 2, 0, 0, none, 0, none, 0, none, 0, out), 9);
+    NUMBER(vaskelbi_next(m), LAST);
+}
+
+// 48 dependencies are inherited over three plugins, 16 keys in three realms; then the rows are filled.
+static void long_lists(void) {
+    uint64_t realms[32];
+    const uint64_t more[] = {99}, *keys = many;
+    OPENED(vaskelbi_open(m, 0, 0));
+    for (uint64_t i = 0; i < 16; i++) realms[2 * i] = keys[i], realms[2 * i + 1] = 0;
+    TOLD(vaskelbi_register(m, 1000, 77, 0, realms, 32, keys, 16, none, 0, out), IS(0));
+    for (uint64_t i = 0; i < 16; i++) realms[2 * i + 1] = 1;
+    TOLD(vaskelbi_register_child(m, 0, 1001, 77, 0, realms, 32, none, 0, none, 0, out), IS(1));
+    for (uint64_t i = 0; i < 16; i++) realms[2 * i + 1] = 2;
+    TOLD(vaskelbi_register_child(m, 1, 1002, 77, 0, realms, 32, none, 0, none, 0, out), IS(2));
+    NUMBER(vaskelbi_rows(m), 17 + 33 + 49);
+    expect(vaskelbi_list_dependencies(m, 2, 0, buffer, 96, out) == 0 && out->number[0] == 48, "no 48", "long_lists");
+    for (uint64_t i = 0; i < 16; i++) // each inherited port is followed by its key in the newest realm
+        expect(!memcmp(buffer + 6 * i, (uint64_t[]){i + 1, 0, i + 1, 2, i + 1, 1}, 48), "another order", "long_lists");
+    REFUSED(vaskelbi_list_dependencies(m, 2, 0, buffer, 95, out), 23);
+    REFUSED(vaskelbi_register_child(m, 2, 1003, 77, 0, none, 0, more, 1, none, 0, out), 11);
+
+    for (uint64_t n = 3; n < 21; n++)
+        expect(vaskelbi_register_child(m, 2, 1000 + n, 77, 0, none, 0, none, 0, none, 0, out) == 0, "refused", "an heir");
+    NUMBER(vaskelbi_rows(m), 981);
+    REFUSED(vaskelbi_register_child(m, 2, 1021, 77, 0, none, 0, none, 0, none, 0, out), 12);
+    REFUSED(vaskelbi_register_child(m, 2, 1021, 77, 0, none, 0, more, 1, none, 0, out), 11);
+    const uint64_t provisions[15] = {200, 201, 202, 203, 204, 205, 206, 207, 208, 209, 210, 211, 212, 213, 214};
+    TOLD(vaskelbi_register(m, 1021, 77, 0, none, 0, keys, 16, provisions, 15, out), IS(21));
+    REFUSED(vaskelbi_register(m, 1022, 77, 0, none, 0, keys, 11, none, 0, out), 12);
+    TOLD(vaskelbi_register(m, 1022, 77, 0, none, 0, keys, 10, none, 0, out), IS(22));
+    NUMBER(vaskelbi_rows(m), 1024);
+    REFUSED(vaskelbi_register(m, 1023, 77, 0, none, 0, none, 0, none, 0, out), 12);
+    DONE(vaskelbi_retire(m, 22));
+    DONE(vaskelbi_remove(m, 22));
+    NUMBER(vaskelbi_rows(m), 1013);
+}
+
+// The only word of the registry that is not as it was.
+static uint64_t *changed(void) {
+    uint64_t *word = NULL;
+    for (int i = 0; i < VASKELBI_WORDS; i++)
+        if (m->word[i] != was.registry.word[i]) {
+            expect(!word, "two words changed", "changed");
+            word = &m->word[i];
+        }
+    expect(word != NULL, "no word changed", "changed");
+    return word;
+}
+
+// No lifetime is long enough to count to 2^64, so revision and generation are written by hand (E6, 16).
+static void exhausted(void) {
+    OPENED(vaskelbi_open(m, 7, 1));
+    uint64_t id = bare(3);
+    was = all;
+    expect(vaskelbi_replace(m, id, 3, out) == 0, "refused", "exhausted");
+    uint64_t *revision = changed();
+    *revision = LAST - 3;
+    ASKED(vaskelbi_fits(m, id, 3, out), IS(1));
+    ASKED(vaskelbi_fits(m, id, 4, out), IS(0));
+    ASKED(vaskelbi_fits(m, id, LAST, out), IS(0));
+    *revision = LAST;
+    HANDED_BACK(vaskelbi_replace(m, id, 9, out), 16, IS(9));
+    ASKED(vaskelbi_payload(m, id, out), IS(3));
+
+    expect(vaskelbi_begin(m, id, out) == 0, "refused", "exhausted");
+    was = all;
+    expect(!vaskelbi_fail(m, id) && !vaskelbi_finish(m, id) && !vaskelbi_begin(m, id, out), "refused", "exhausted");
+    uint64_t *generation = changed();
+    DONE(vaskelbi_fail(m, id));
+    DONE(vaskelbi_finish(m, id));
+    *generation = LAST;
+    REFUSED(vaskelbi_begin(m, id, out), 16);
+    *generation = LAST - 1;
+    TOLD(vaskelbi_begin(m, id, out), IS(7, id, LAST, 1));
+}
+
+// Assigned's identity is 0 where there is none, and so is a generation.
+static void slots(void) {
+    MADE(vaskelbi_slot_pending(slot, 7, 40, 9), 7, 40, 1, 9, VASKELBI_PENDING, {0, 0, 0});
+    const vaskelbi_slot pending = *slot;
+    REFUSED(vaskelbi_slot_assign(slot, 8, 40, 41), 3);
+    REFUSED(vaskelbi_slot_assign(slot, 7, 39, 41), 3);
+    SLOT(vaskelbi_slot_assign(slot, 7, 40, 41), 7, 40, 1, 9, VASKELBI_ASSIGNED, {7, 40, 41});
+    REFUSED(vaskelbi_slot_assign(slot, 7, 40, 41), 3);
+    REFUSED(vaskelbi_slot_reject(slot), 3);
+    REFUSED(vaskelbi_slot_cancel(slot), 3);
+
+    *slot = pending;
+    SLOT(vaskelbi_slot_reject(slot), 7, 40, 1, 9, VASKELBI_FAILED, {0, 0, 0});
+    REFUSED(vaskelbi_slot_assign(slot, 7, 40, 41), 3);
+    REFUSED(vaskelbi_slot_reject(slot), 3);
+    REFUSED(vaskelbi_slot_cancel(slot), 3);
+
+    *slot = pending;
+    SLOT(vaskelbi_slot_cancel(slot), 7, 40, 1, 9, VASKELBI_CANCELLED, {0, 0, 0});
+    REFUSED(vaskelbi_slot_assign(slot, 7, 40, 41), 3);
+    REFUSED(vaskelbi_slot_reject(slot), 3);
+    REFUSED(vaskelbi_slot_cancel(slot), 3);
+
+    MADE(vaskelbi_slot_assigned(slot, 8, 50, 51), 8, 50, 0, 0, VASKELBI_ASSIGNED, {8, 50, 51});
+    REFUSED(vaskelbi_slot_assign(slot, 8, 50, 51), 3);
+    REFUSED(vaskelbi_slot_reject(slot), 3);
+    REFUSED(vaskelbi_slot_cancel(slot), 3);
+}
+
+int main(void) {
+    fill(&all, sizeof all);
+    opening();
+    resolving();
+    registering();
+    listing();
+    asking();
+    calling();
+    offering();
+    retiring();
+    full();
+    last_id();
+    long_lists();
+    exhausted();
+    slots();
+    printf("%u calls answered as they must, and wrote nowhere else\n", calls);
+    return 0;
+}

@@ -1,0 +1,489 @@
+//! The registry and its operations.
+
+use core::fmt;
+use core::iter::FusedIterator;
+
+use crate::engine::{self, ANSWER, WORDS};
+use crate::numbers::{
+    Definition, Identity, Invocation, Phase, Port, Reading, Receipt, Root, Ticket,
+};
+use crate::refusal::{Refusal, Refused};
+
+/// A plugin registry, 35,904 bytes inline.
+///
+/// A refusal changes nothing. The checks of an operation run in the order that stands with it, and the first that holds
+/// refuses.
+///
+/// It cannot be cloned: a copy would have the same domain, and what was admitted once could be called in both.
+///
+/// ```
+/// use vaskelbi::{Definition, Port, Refusal, Registry};
+///
+/// let mut registry = Registry::open(7, 100);
+/// let driver = registry.register(&Definition::new(Port::in_default_realm(30), 12))?;
+/// let ticket = registry.begin(driver)?;
+/// let invocation = registry.admit(ticket, 6)?;
+/// let receipt = registry.call(invocation)?;
+/// assert_eq!((receipt.payload, receipt.argument), (12, 6));
+/// assert_eq!(registry.call(invocation), Err(Refusal::Stale));
+/// # Ok::<(), Refusal>(())
+/// ```
+#[repr(transparent)]
+pub struct Registry {
+    words: [u64; WORDS],
+}
+
+const _: () = assert!(size_of::<Registry>() == 35_904 && align_of::<Registry>() == 8);
+
+type Answer = [u64; ANSWER];
+
+/// What a status says of an operation that answers no number.
+pub(crate) fn done(status: u64) -> Result<(), Refusal> {
+    match Refusal::from_number(status) {
+        None if status == 0 => Ok(()),
+        None => unreachable!("there is no refusal {status}"),
+        Some(refusal) => Err(refusal),
+    }
+}
+
+/// The answer of an operation that may refuse.
+fn answer(call: impl FnOnce(&mut Answer) -> u64) -> Result<Answer, Refusal> {
+    let mut out = [0; ANSWER];
+    done(call(&mut out))?;
+    Ok(out)
+}
+
+/// The answer of one that never does.
+fn plain_answer(call: impl FnOnce(&mut Answer) -> u64) -> Answer {
+    let mut out = [0; ANSWER];
+    let status = call(&mut out);
+    debug_assert_eq!(status, 0);
+    out
+}
+
+fn number([_, number, ..]: Answer) -> u64 {
+    number
+}
+
+fn yes([_, number, ..]: Answer) -> bool {
+    number != 0
+}
+
+fn port([_, key, realm, ..]: Answer) -> Port {
+    Port { key, realm }
+}
+
+/// Reads an answer that may be none.
+fn perhaps<T>(answer: Answer, read: impl FnOnce(Answer) -> T) -> Option<T> {
+    (answer[0] != 0).then(|| read(answer))
+}
+
+/// The port that a key resolves to in a realm list of key, realm, key, realm. Refuses 4.
+pub fn resolve(realms: &[u64], key: u64) -> Result<Port, Refusal> {
+    answer(|out| {
+        // SAFETY: pointer and length are one borrowed slice's.
+        unsafe { engine::vaskelbi_resolve(realms.as_ptr(), realms.len(), key, out) }
+    })
+    .map(port)
+}
+
+/// Opening, and the registry as a whole.
+impl Registry {
+    /// A fresh registry. `Box::new` keeps it off the stack.
+    #[inline]
+    pub fn open(domain: u64, first: u64) -> Self {
+        let mut words = [0; WORDS];
+        engine::vaskelbi_open(&mut words, domain, first);
+        Self { words }
+    }
+
+    /// Puts a fresh registry in this one's place.
+    pub fn reopen(&mut self, domain: u64, first: u64) {
+        engine::vaskelbi_open(&mut self.words, domain, first);
+    }
+
+    /// The domain of its tickets, invocations and child identities.
+    pub fn domain(&self) -> u64 {
+        engine::vaskelbi_domain(&self.words)
+    }
+
+    /// The first id that it could answer.
+    pub fn first_id(&self) -> u64 {
+        engine::vaskelbi_first(&self.words)
+    }
+
+    /// The id that the next registration answers.
+    pub fn next_id(&self) -> u64 {
+        engine::vaskelbi_next(&self.words)
+    }
+
+    /// How many plugins are registered.
+    pub fn count(&self) -> u64 {
+        engine::vaskelbi_count(&self.words)
+    }
+
+    /// Declaration rows in use.
+    pub fn rows(&self) -> u64 {
+        engine::vaskelbi_rows(&self.words)
+    }
+
+    /// The lowest registered id above a number.
+    pub fn next_above(&self, number: u64) -> Option<u64> {
+        let found = plain_answer(|out| engine::vaskelbi_next_above(&self.words, number, out));
+        perhaps(found, self::number)
+    }
+
+    /// The registered ids, rising.
+    pub fn ids(&self) -> Ids<'_> {
+        let first = self.first_id();
+        // No number is below 0, so id 0 is asked for by itself.
+        let zero = first == 0 && self.phase(0).is_ok();
+        Ids { registry: self, zero, above: first.saturating_sub(1) }
+    }
+
+    /// The words, to compare or to look at. What they mean is the engine's own.
+    pub fn words(&self) -> &[u64; WORDS] {
+        &self.words
+    }
+}
+
+/// Registration.
+impl Registry {
+    /// Registers a plugin and answers its id. Refuses 4, 5, 1 and 2 of the parent, 3 if the parent is Unloading, 6, 7, 8,
+    /// 9, 10, 11, 12.
+    pub fn register(&mut self, new: &Definition<'_>) -> Result<u64, Refusal> {
+        let Definition { parent, anchor, realms, dependencies, provisions, payload } = *new;
+        let words = &mut self.words;
+        answer(|out| match parent {
+            // SAFETY: each pointer and length are one borrowed slice's, and `&mut self` overlaps none.
+            None => unsafe {
+                engine::vaskelbi_register(
+                    words,
+                    anchor.key,
+                    anchor.realm,
+                    payload,
+                    realms.as_ptr(),
+                    realms.len(),
+                    dependencies.as_ptr(),
+                    dependencies.len(),
+                    provisions.as_ptr(),
+                    provisions.len(),
+                    out,
+                )
+            },
+            // SAFETY: as above.
+            Some(parent) => unsafe {
+                engine::vaskelbi_register_child(
+                    words,
+                    parent,
+                    anchor.key,
+                    anchor.realm,
+                    payload,
+                    realms.as_ptr(),
+                    realms.len(),
+                    dependencies.as_ptr(),
+                    dependencies.len(),
+                    provisions.as_ptr(),
+                    provisions.len(),
+                    out,
+                )
+            },
+        })
+        .map(number)
+    }
+}
+
+/// Phases.
+impl Registry {
+    /// Idle to Loading: generation + 1, root Unissued. Refuses 1, 2, 3 by phase, 16, 14.
+    pub fn begin(&mut self, id: u64) -> Result<Ticket, Refusal> {
+        let [_, domain, id, generation, kind, ..] =
+            answer(|out| engine::vaskelbi_begin(&mut self.words, id, out))?;
+        Ok(Ticket { domain, id, generation, kind })
+    }
+
+    /// Loading to Active. Refuses 1, 2, 3 by phase, 17, 22 if a provision has no value.
+    pub fn ready(&mut self, id: u64) -> Result<(), Refusal> {
+        done(engine::vaskelbi_ready(&mut self.words, id))
+    }
+
+    /// Loading to Unloading. Refuses 1, 3 by phase.
+    pub fn fail(&mut self, id: u64) -> Result<(), Refusal> {
+        done(engine::vaskelbi_fail(&mut self.words, id))
+    }
+
+    /// Active to Unloading. Refuses 1, 3 by phase, 15.
+    pub fn unload(&mut self, id: u64) -> Result<(), Refusal> {
+        done(engine::vaskelbi_unload(&mut self.words, id))
+    }
+
+    /// Unloading to Idle: values are dropped, root is Unissued. Refuses 1, 3 by phase.
+    pub fn finish(&mut self, id: u64) -> Result<(), Refusal> {
+        done(engine::vaskelbi_finish(&mut self.words, id))
+    }
+}
+
+/// Replacement.
+impl Registry {
+    /// Stores a payload, revision + 1, in any phase, retired or not, and answers the former one. Refuses 1, 16.
+    pub fn replace(&mut self, id: u64, payload: u64) -> Result<u64, Refused> {
+        let mut out = [0; ANSWER];
+        let status = engine::vaskelbi_replace(&mut self.words, id, payload, &mut out);
+        match done(status) {
+            Ok(()) => Ok(number(out)),
+            Err(refusal) => Err(Refused { refusal, payload: number(out) }),
+        }
+    }
+
+    /// Whether a count of replacements fits: revision + count is at most 2^64 − 1. Refuses 1.
+    pub fn fits(&self, id: u64, count: u64) -> Result<bool, Refusal> {
+        answer(|out| engine::vaskelbi_fits(&self.words, id, count, out)).map(yes)
+    }
+}
+
+/// Admission and call.
+impl Registry {
+    /// Admits a ticket's setup; root becomes Queued. Refuses 3 by domain or kind, 1, 2, 13 if not Loading or of another
+    /// generation, 3 if root isn't Unissued.
+    pub fn admit(&mut self, ticket: Ticket, argument: u64) -> Result<Invocation, Refusal> {
+        let Ticket { domain, id, generation, kind } = ticket;
+        let [_, domain, id, generation, revision, argument, ..] = answer(|out| {
+            engine::vaskelbi_admit(&mut self.words, domain, id, generation, kind, argument, out)
+        })?;
+        Ok(Invocation { domain, id, generation, revision, argument })
+    }
+
+    /// Whether a ticket would be admitted now.
+    pub fn admits(&self, ticket: Ticket) -> bool {
+        let Ticket { domain, id, generation, kind } = ticket;
+        yes(plain_answer(|out| {
+            engine::vaskelbi_admits(&self.words, domain, id, generation, kind, out)
+        }))
+    }
+
+    /// Calls what was admitted, once; root becomes Spent. Refuses 3 by domain, 1, 2, 13 unless Loading, Queued, and
+    /// generation, current revision, queued revision and argument all agree.
+    pub fn call(&mut self, invocation: Invocation) -> Result<Receipt, Refusal> {
+        let Invocation { domain, id, generation, revision, argument } = invocation;
+        let [_, domain, id, generation, request, payload, argument] = answer(|out| {
+            engine::vaskelbi_call(&mut self.words, domain, id, generation, revision, argument, out)
+        })?;
+        Ok(Receipt { domain, id, generation, request, payload, argument })
+    }
+}
+
+/// Retirement.
+impl Registry {
+    /// Sets the retired mark. Refuses 1, 2.
+    pub fn retire(&mut self, id: u64) -> Result<(), Refusal> {
+        done(engine::vaskelbi_retire(&mut self.words, id))
+    }
+
+    /// Retires by child identity. Refuses 3 by domain, 1 if the id was never issued; accepts a plugin that is gone, and
+    /// nothing changes; refuses 3 if its parent is another or none, 2.
+    pub fn retire_child(&mut self, child: Identity) -> Result<(), Refusal> {
+        let Identity { domain, parent, id } = child;
+        done(engine::vaskelbi_retire_child(&mut self.words, domain, parent, id))
+    }
+
+    /// A plugin's child identity, or none without a parent. Refuses 1.
+    pub fn child(&self, id: u64) -> Result<Option<Identity>, Refusal> {
+        let found = answer(|out| engine::vaskelbi_child(&self.words, id, out))?;
+        Ok(perhaps(found, |[_, domain, parent, id, ..]| Identity { domain, parent, id }))
+    }
+
+    /// Removes a plugin and frees its rows. Refuses 1, 3 unless Idle and retired, 18.
+    pub fn remove(&mut self, id: u64) -> Result<(), Refusal> {
+        done(engine::vaskelbi_remove(&mut self.words, id))
+    }
+}
+
+/// Values.
+impl Registry {
+    /// Offers the value of a provision. Refuses 1, 19 unless Loading and not retired, 20 if not a provision, 21.
+    pub fn offer(&mut self, id: u64, port: Port, value: u64) -> Result<(), Refusal> {
+        done(engine::vaskelbi_offer(&mut self.words, id, port.key, port.realm, value))
+    }
+
+    /// Reads a dependency's value. Refuses 1, 19 if neither Loading nor Active, 20 if not a dependency, 22.
+    pub fn read(&self, id: u64, port: Port) -> Result<Reading, Refusal> {
+        let [_, value, provider, ..] =
+            answer(|out| engine::vaskelbi_read(&self.words, id, port.key, port.realm, out))?;
+        Ok(Reading { value, provider })
+    }
+
+    /// The Active provider's value of a port.
+    pub fn visible(&self, port: Port) -> Option<u64> {
+        let found =
+            plain_answer(|out| engine::vaskelbi_visible(&self.words, port.key, port.realm, out));
+        perhaps(found, number)
+    }
+
+    /// A plugin's own value of a provision. Refuses 1.
+    pub fn own(&self, id: u64, port: Port) -> Result<Option<u64>, Refusal> {
+        answer(|out| engine::vaskelbi_own(&self.words, id, port.key, port.realm, out))
+            .map(|found| perhaps(found, number))
+    }
+
+    /// The first provision in order without a value. Refuses 1.
+    pub fn missing(&self, id: u64) -> Result<Option<Port>, Refusal> {
+        answer(|out| engine::vaskelbi_missing(&self.words, id, out))
+            .map(|found| perhaps(found, port))
+    }
+
+    /// Whether a list of key, realm, key, realm is the provision list in order; not if its length is odd. Refuses 1.
+    pub fn matches(&self, id: u64, list: &[u64]) -> Result<bool, Refusal> {
+        answer(|out| {
+            // SAFETY: pointer and length are one borrowed slice's.
+            unsafe { engine::vaskelbi_matches(&self.words, id, list.as_ptr(), list.len(), out) }
+        })
+        .map(yes)
+    }
+
+    /// Whether a port is a provision, or a dependency while Loading or Active. Refuses 1.
+    pub fn declares(&self, id: u64, port: Port) -> Result<bool, Refusal> {
+        answer(|out| engine::vaskelbi_declares(&self.words, id, port.key, port.realm, out)).map(yes)
+    }
+}
+
+/// Lists. Each is written as key, realm, key, realm from a place in the lent buffer, and every number outside stays; the
+/// count of pairs is answered.
+impl Registry {
+    /// Lists the dependencies. Refuses 1, 23.
+    pub fn list_dependencies(
+        &self,
+        id: u64,
+        place: usize,
+        buffer: &mut [u64],
+    ) -> Result<usize, Refusal> {
+        self.listed(engine::vaskelbi_list_dependencies, id, place, buffer)
+    }
+
+    /// Lists the provisions. Refuses 1, 23.
+    pub fn list_provisions(
+        &self,
+        id: u64,
+        place: usize,
+        buffer: &mut [u64],
+    ) -> Result<usize, Refusal> {
+        self.listed(engine::vaskelbi_list_provisions, id, place, buffer)
+    }
+
+    /// Lists the realm rows. Refuses 1, 23.
+    pub fn list_realms(&self, id: u64, place: usize, buffer: &mut [u64]) -> Result<usize, Refusal> {
+        self.listed(engine::vaskelbi_list_realms, id, place, buffer)
+    }
+
+    fn listed(
+        &self,
+        list: engine::List,
+        id: u64,
+        place: usize,
+        buffer: &mut [u64],
+    ) -> Result<usize, Refusal> {
+        answer(|out| {
+            // SAFETY: pointer and length are one slice's, borrowed here alone.
+            unsafe { list(&self.words, id, place, buffer.as_mut_ptr(), buffer.len(), out) }
+        })
+        .map(|found| number(found) as usize)
+    }
+
+    /// The first dependency with a key. Refuses 1.
+    pub fn lookup(&self, id: u64, key: u64) -> Result<Option<Port>, Refusal> {
+        answer(|out| engine::vaskelbi_lookup(&self.words, id, key, out))
+            .map(|found| perhaps(found, port))
+    }
+}
+
+/// What a plugin holds. Each refuses 1.
+impl Registry {
+    /// Its parent's id.
+    pub fn parent(&self, id: u64) -> Result<Option<u64>, Refusal> {
+        answer(|out| engine::vaskelbi_parent(&self.words, id, out))
+            .map(|found| perhaps(found, number))
+    }
+
+    /// Its anchor.
+    pub fn anchor(&self, id: u64) -> Result<Port, Refusal> {
+        answer(|out| engine::vaskelbi_anchor(&self.words, id, out)).map(port)
+    }
+
+    /// Its phase.
+    pub fn phase(&self, id: u64) -> Result<Phase, Refusal> {
+        let [_, phase, ..] = answer(|out| engine::vaskelbi_phase(&self.words, id, out))?;
+        Ok(match phase {
+            0 => Phase::Idle,
+            1 => Phase::Loading,
+            2 => Phase::Active,
+            3 => Phase::Unloading,
+            _ => unreachable!("there is no phase {phase}"),
+        })
+    }
+
+    /// Its retired mark.
+    pub fn retired(&self, id: u64) -> Result<bool, Refusal> {
+        answer(|out| engine::vaskelbi_retired(&self.words, id, out)).map(yes)
+    }
+
+    /// Its generation; 0 if it has never begun.
+    pub fn generation(&self, id: u64) -> Result<u64, Refusal> {
+        answer(|out| engine::vaskelbi_generation(&self.words, id, out)).map(number)
+    }
+
+    /// Its revision: how often its payload was replaced.
+    pub fn revision(&self, id: u64) -> Result<u64, Refusal> {
+        answer(|out| engine::vaskelbi_revision(&self.words, id, out)).map(number)
+    }
+
+    /// Its payload.
+    pub fn payload(&self, id: u64) -> Result<u64, Refusal> {
+        answer(|out| engine::vaskelbi_payload(&self.words, id, out)).map(number)
+    }
+
+    /// Its root.
+    pub fn root(&self, id: u64) -> Result<Root, Refusal> {
+        let [_, root, revision, argument, ..] =
+            answer(|out| engine::vaskelbi_root(&self.words, id, out))?;
+        Ok(match root {
+            0 => Root::Unissued,
+            1 => Root::Queued { revision, argument },
+            2 => Root::Spent,
+            _ => unreachable!("there is no root {root}"),
+        })
+    }
+}
+
+impl fmt::Debug for Registry {
+    fn fmt(&self, f: &mut fmt::Formatter<'_>) -> fmt::Result {
+        f.debug_struct("Registry")
+            .field("domain", &self.domain())
+            .field("first_id", &self.first_id())
+            .field("next_id", &self.next_id())
+            .field("count", &self.count())
+            .field("rows", &self.rows())
+            .finish_non_exhaustive()
+    }
+}
+
+/// The registered ids of a registry, rising.
+#[derive(Clone, Debug)]
+pub struct Ids<'a> {
+    registry: &'a Registry,
+    /// Id 0 is registered and still to come.
+    zero: bool,
+    above: u64,
+}
+
+impl Iterator for Ids<'_> {
+    type Item = u64;
+
+    fn next(&mut self) -> Option<u64> {
+        if core::mem::take(&mut self.zero) {
+            return Some(0);
+        }
+        self.above = self.registry.next_above(self.above)?;
+        Some(self.above)
+    }
+}
+
+impl FusedIterator for Ids<'_> {}
