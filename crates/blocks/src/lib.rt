@@ -1,16 +1,21 @@
 // The rows of the registry's memory. A plugin's rows stand together; where one goes, those behind it come down.
 ghost use mathlib.Core.Path.{_≡_};
-ghost use Prim.Native.Nat.{_≤_, _+_, _%_, min};
+ghost use Prim.Native.Nat.{_<_, _≤_, _+_, _%_, min};
+ghost use lib.ListN.{set};
+ghost use Rattle.memory.specs.Layout.{word};
 ghost use Rattle.blocks.specs.Moves.{lowered, closedGap, lowerFrom, freedPlace};
 use memory::PLACE_WORDS;
 use memory::WORDS;
 
-fn lower(start: u64, end: usize, count: usize) -> u64
-    requires { ⌜ count ≤ end ⌝ }
-    ensures { λ r. ⌜ r ≡ lowered start end count ⌝ }
+// A start behind a gap comes down; any other is not written.
+fn lower_start(m: &mut [u64; WORDS], at: usize, end: usize, count: usize)
+    requires { ⌜ (count ≤ end) × (at < 4488) ⌝ }
+    ensures { λ _. ⌜ now (m .exit) ≡ set (now (m .entry)) at (lowered (word (now (m .entry)) at) end count) ⌝ }
 {
-    let s = start as usize;
-    if end <= s { (s - count) as u64 } else { start }
+    let start = m[at] as usize;
+    if end <= start {
+        m[at] = (start - count) as u64;
+    }
 }
 
 // The starts behind a gap come down.
@@ -20,8 +25,7 @@ fn lower_starts(m: &mut [u64; WORDS], end: usize, count: usize)
 {
     let mut i: usize = 0;
     while i < 32 {
-        let b = i * PLACE_WORDS;
-        m[b + 19] = lower(m[b + 19], end, count);
+        lower_start(m, i * PLACE_WORDS + 19, end, count);
         i += 1;
     }
 }

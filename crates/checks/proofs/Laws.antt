@@ -26,9 +26,7 @@ use Rattle.memory.specs.declared.Parent.{Parent}
 use Rattle.memory.specs.declared.Parent.the-variants.{Of, Nobody}
 use Rattle.memory.specs.Known.{at-place, at-lookup, none-lookup, life-of}
 use Rattle.memory.specs.declared.Life.{Life}
-use Rattle.memory.specs.declared.Place.{Place}
 use Rattle.memory.specs.declared.Place.the-variants.{At, Nowhere}
-use Rattle.providing.specs.Providers.{providerAt, provider-view}
 use Rattle.claiming.specs.Blocks.{keysRepeat}
 use Rattle.claiming.specs.Answers.{keys-repeat-in}
 use Rattle.checks.specs.Runs.{verdict-first, verdict-then}
@@ -144,20 +142,6 @@ module _ (r : Registry) (p : Option ℕ) (zs ds vs : List ℕ) where
           early-0 t = sym (last-check ∙ rw t)
 
 -- 7, 8
-module _ (m : List ℕ) (q : Port) (x : Place) (e : x ≡ providerAt m q) where
-  pub provided-here : (i : ℕ) → x ≡ At i → true ≡ isSome (provider (view m) q)
-  provided-here i f = rw (provider-view m q, sym e ∙ f)
-
-  pub provided-nowhere : x ≡ Nowhere → false ≡ isSome (provider (view m) q)
-  provided-nowhere f = rw (provider-view m q, sym e ∙ f)
-
-module _ (f : Port → Bool) {l ps : List Port} {q : Port} (s : l ≡ q ∷ ps) where
-  pub any-hit : f q ≡ true → any f l ≡ true
-  any-hit t = rw (s, t)
-
-  pub any-miss : f q ≡ false → any f l ≡ any f ps
-  any-miss t = rw (s, t)
-
 module _ (r : Registry) (ports : List Port) (b : Bool) (e : b ≡ repeats ports) where
   pub claim-7 : b ≡ true → 7 ≡ verdict (claimChecks r ports)
   unfolding verdict

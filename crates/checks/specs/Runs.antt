@@ -7,7 +7,7 @@ use mathlib.Core.List.{List, [], _∷_, _++_}
 use lib.ListN.{length, length-map}
 use Rattle.rules.specs.Basics.{pick}
 use Rattle.rules.specs.Holds.{Registry, rowsOf, rowsInUse}
-use Rattle.rules.specs.Refusals.{Refusal, number, Unknown, Retired, InvalidState, BadRealms, TooManyKeys, DuplicateDependency, DuplicateProvision, Taken, NoId, Full, TooLong, NoRows, Stale, Unavailable, InUse, Exhausted, NotRun, HasChildren, Closed, Undeclared, Duplicate, Missing, ShortBuffer}
+use Rattle.rules.specs.Refusals.{Refusal, number, number-within}
 use Rattle.rules.specs.Outcomes.{Outcome, refuses, adds, Check, checked}
 use Rattle.rules.specs.Registration.{Definition, resolved, claimed, unoffered, dependenciesOf, newPlugin, registrationChecks, register}
 use Rattle.rules.specs.Laws.Tests.{by-test, Passed}
@@ -15,29 +15,9 @@ use Rattle.checks.specs.Verdicts.{earlyChecks, claimChecks, lateChecks, 
 
 -- no refusal has number 0
 number-not-zero : (x : Refusal) → number x ≢ 0
-number-not-zero Unknown e = omega arith
-number-not-zero Retired e = omega arith
-number-not-zero InvalidState e = omega arith
-number-not-zero BadRealms e = omega arith
-number-not-zero TooManyKeys e = omega arith
-number-not-zero DuplicateDependency e = omega arith
-number-not-zero DuplicateProvision e = omega arith
-number-not-zero Taken e = omega arith
-number-not-zero NoId e = omega arith
-number-not-zero Full e = omega arith
-number-not-zero TooLong e = omega arith
-number-not-zero NoRows e = omega arith
-number-not-zero Stale e = omega arith
-number-not-zero Unavailable e = omega arith
-number-not-zero InUse e = omega arith
-number-not-zero Exhausted e = omega arith
-number-not-zero NotRun e = omega arith
-number-not-zero HasChildren e = omega arith
-number-not-zero Closed e = omega arith
-number-not-zero Undeclared e = omega arith
-number-not-zero Duplicate e = omega arith
-number-not-zero Missing e = omega arith
-number-not-zero ShortBuffer e = omega arith
+number-not-zero x e =
+    let h = number-within x .0 in
+    omega arith
 
 -- two runs of checks, one after the other
 pub verdict-first : (cs ds : List Check) (n : ℕ) → n ≡ verdict cs → n ≢ 0 → n ≡ verdict (cs ++ ds)

@@ -1,8 +1,6 @@
 // The checks of document 01, "Registration", in its order and in three runs; the number of the first that refuses, or 0.
 ghost use mathlib.Core.Path.{_≡_};
 ghost use Prim.Native.Nat.{ℕ};
-ghost use Rattle.rules.specs.Basics.{any, isSome};
-ghost use Rattle.rules.specs.Holds.{port, provider};
 ghost use Rattle.rules.specs.Ports.{pairs};
 ghost use Rattle.memory.specs.View.{view};
 ghost use Rattle.memory.specs.Writes.{parentId};
@@ -71,30 +69,6 @@ pub fn early_verdict(
     0
 }
 
-fn is_provided(m: &[u64; WORDS], key: u64, realm: u64) -> bool
-    ensures { λ r. ⌜ r ≡ isSome (provider (view (now (m .entry))) (port key realm)) ⌝ }
-{
-    let found = providing::provider(m, key, realm);
-    match found {
-        Place::At(_) => true,
-        Place::Nowhere => false,
-    }
-}
-
-// Whether one of the ports is provided by a registered plugin, anchors counted.
-fn one_provided(m: &[u64; WORDS], list: &[u64]) -> bool
-    ensures { λ r. ⌜ r ≡ any (λ q. isSome (provider (view (now (m .entry))) q)) (pairs (now (list .entry))) ⌝ }
-{
-    let mut i: usize = 1;
-    while i < list.len() {
-        if is_provided(m, list[i - 1], list[i]) {
-            return true;
-        }
-        i += 2;
-    }
-    false
-}
-
 // 7, 8.
 pub fn claim_verdict(m: &[u64; WORDS], list: &[u64]) -> u64
     ensures { λ r. ⌜ r ≡ verdict (claimChecks (view (now (m .entry))) (pairs (now (list .entry)))) ⌝ }
@@ -102,7 +76,7 @@ pub fn claim_verdict(m: &[u64; WORDS], list: &[u64]) -> u64
     if ports::repeated(list) {
         return refusal::DUPLICATE_PROVISION;
     }
-    if one_provided(m, list) {
+    if providing::one_provided(m, list) {
         return refusal::TAKEN;
     }
     0

@@ -32,8 +32,8 @@ fn has_children(m: &[u64; WORDS], id: u64) -> bool
 {
     let mut i: usize = 0;
     while i < 32 {
-        if memory::is_taken(m, i) {
-            if memory::is_child_of(m, i, id) {
+        if memory::is_child_of(m, i, id) {
+            if memory::is_taken(m, i) {
                 return true;
             }
         }

@@ -1,11 +1,30 @@
 -- The search for a place, one place on.
 use Prim.Native.Nat.{ℕ, suc, _+_, _-_, _<_, _≤_}
-use mathlib.Core.Path.{_≡_}
-use mathlib.Core.Bool.{true, false}
+use mathlib.Core.Path.{_≡_, refl, sym, _∙_}
+use mathlib.Core.Bool.{Bool, true, false, _&&_}
 use mathlib.Core.List.{List}
 use native.Mathlib.Omega.{arith}
+use borrow.Author.Tests.{eq-eqb, ne-eqb}
+use Rattle.memory.specs.Layout.{taken, idAt}
 use Rattle.memory.specs.Writes.{namesAt, findFrom}
 use Rattle.memory.specs.declared.Place.the-variants.{At, Nowhere}
+
+-- A place names the id where it is taken and the id is its own, whichever is asked first.
+and-true : (b : Bool) → (b && true) ≡ b
+and-true true = refl
+and-true false = refl
+
+and-false : (b : Bool) → (b && false) ≡ false
+and-false true = refl
+and-false false = refl
+
+pub names-taken : (m : List ℕ) (id i : ℕ) (b : Bool) → idAt m i ≡ id → b ≡ taken m i → b ≡ namesAt m id i
+unfolding namesAt
+names-taken m id i b e t = rw (eq-eqb _ _ e) (t ∙ sym (and-true (taken m i)))
+
+pub names-other : (m : List ℕ) (id i : ℕ) → (idAt m i ≡ id → ⊥) → false ≡ namesAt m id i
+unfolding namesAt
+names-other m id i n = rw (ne-eqb _ _ n) (sym (and-false (taken m i)))
 
 one-less : (i : ℕ) → i < 32 → 32 - i ≡ suc (32 - (i + 1))
 one-less i h = omega arith

@@ -84,13 +84,13 @@ pub fn is_taken(m: &[u64; WORDS], place: usize) -> bool
     }
 }
 
-// Whether the plugin of this place has the id.
+// Whether the plugin of this place has the id: that is asked first, as few places have it.
 fn names(m: &[u64; WORDS], id: u64, place: usize) -> bool
     requires { ⌜ place < 32 ⌝ }
     ensures { λ r. ⌜ r ≡ namesAt (now (m .entry)) id place ⌝ }
 {
-    if is_taken(m, place) {
-        m[place * PLACE_WORDS + 8] == id
+    if m[place * PLACE_WORDS + 8] == id {
+        is_taken(m, place)
     } else {
         false
     }

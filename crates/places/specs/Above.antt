@@ -1,5 +1,5 @@
 -- The lowest id above a number, place by place.
-use Prim.Native.Nat.{ℕ, suc, _+_, _<_, _≤_}
+use Prim.Native.Nat.{ℕ, zero, suc, _+_, _<_, _≤_}
 use mathlib.Core.Path.{_≡_, refl, ap, _∙_}
 use mathlib.Core.Bool.{true, false}
 use mathlib.Core.List.{List}
@@ -15,9 +15,14 @@ use Rattle.places.specs.Changes.{aboveAnswer}
 use Rattle.places.specs.declared.Above.{Above}
 use Rattle.places.specs.declared.Above.the-variants.{Id, Nothing}
 
-abbrev pub idOf : Above → Option ℕ
+abbrev idOf : Above → Option ℕ
 idOf (Id n) = some n
 idOf Nothing = none
+
+-- 0 stands for none
+abbrev pub idIn : ℕ → Option ℕ
+idIn zero = none
+idIn (suc n) = some (suc n)
 
 -- of n places from i on
 unfoldable pub aboveFrom : ℕ → ℕ → List ℕ → ℕ → Option ℕ
@@ -44,6 +49,17 @@ answer-one : (r : Above) → aboveAnswer r ≡ Accepted (one (idOf r))
 answer-one (Id n) = refl
 answer-one Nothing = refl
 
-pub above-view : (number : ℕ) (m : List ℕ) (r : Above) → idOf r ≡ aboveFrom number 32 m 0 → aboveAnswer r ≡ answerOf (nextAbove (view m) number)
-unfolding aboveFrom nextAbove view
-above-view number m r e = answer-one r ∙ ap (λ o. Accepted (one o)) e
+module _ (number : ℕ) (m : List ℕ) (n : ℕ) (e : idIn n ≡ aboveFrom number 32 m 0) where
+  answers-view : (r : Above) → idOf r ≡ idIn n → aboveAnswer r ≡ answerOf (nextAbove (view m) number)
+  unfolding aboveFrom nextAbove view
+  answers-view r f = answer-one r ∙ ap (λ o. Accepted (one o)) (f ∙ e)
+
+  pub nothing-view : n ≡ 0 → aboveAnswer Nothing ≡ answerOf (nextAbove (view m) number)
+  nothing-view z = answers-view Nothing (rw z)
+
+  pub id-view : (n ≡ 0 → ⊥) → aboveAnswer (Id n) ≡ answerOf (nextAbove (view m) number)
+  id-view z = answers-view (Id n) (some-id n z)
+    where
+      some-id : (k : ℕ) → (k ≡ 0 → ⊥) → some k ≡ idIn k
+      some-id zero h = absurd (h refl)
+      some-id (suc k) h = refl

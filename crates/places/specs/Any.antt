@@ -39,3 +39,11 @@ module _ (f : Plugin → Bool) (m : List ℕ) where
         pub any-not : b ≡ false → anyFrom f (32 - i) m i ≡ anyFrom f (32 - (i + 1)) m (i + 1)
         unfolding anyFrom placesFrom placeAt
         any-not n = rw one-less (rw t (rw (sym c ∙ n)))
+
+      -- taken or not
+      pub any-never : (b : Bool) → b ≡ f (pluginAt m i) → b ≡ false → anyFrom f (32 - i) m i ≡ anyFrom f (32 - (i + 1)) m (i + 1)
+      any-never b c n = either (taken m i) refl
+        where
+          either : (t : Bool) → taken m i ≡ t → anyFrom f (32 - i) m i ≡ anyFrom f (32 - (i + 1)) m (i + 1)
+          either true t = any-not b t c n
+          either false t = any-free t

@@ -1,5 +1,5 @@
 -- The rows in use, place by place.
-use Prim.Native.Nat.{ℕ, zero, suc, _+_, _*_, _<_, _≤_}
+use Prim.Native.Nat.{ℕ, zero, suc, _+_, _*_, _%_, _<_, _≤_}
 use native.Mathlib.Omega.{arith}
 use mathlib.Core.Path.{_≡_, refl, ap}
 use mathlib.Core.Bool.{true}
@@ -19,6 +19,10 @@ use Rattle.places.specs.Taken.{taken-below}
 -- dependencies, provisions and the anchor
 abbrev pub rowsAt : List ℕ → ℕ → ℕ
 rowsAt m i = depsAt m i + provsAt m i + 1
+
+-- those of a place that is taken where the lowest bit of a word says so
+abbrev pub rowsBy : ℕ → List ℕ → ℕ → ℕ
+rowsBy w m i = pick (eqb (w % 2) 1) (rowsAt m i) 0
 
 -- the rows of the taken ones of n places from i on
 unfoldable pub rowsFrom : ℕ → List ℕ → ℕ → ℕ

@@ -1,12 +1,15 @@
 // The 32 plugin places: one occupancy word. Its ones are the registered count, the trailing zeros of its complement the lowest free place.
 ghost use mathlib.Core.Path.{_≡_};
+ghost use Prim.Native.Nat.{_<_, _≤_, _/_, _%_, _^_};
 ghost use lib.ListN.{length};
 ghost use Rattle.rules.specs.Holds.{count, rowsInUse};
 ghost use Rattle.rules.specs.Outcomes.{answerOf};
 ghost use Rattle.rules.specs.Queries.{nextAbove, lower as lowerId};
+ghost use Rattle.memory.specs.Layout.{occupancy};
 ghost use Rattle.memory.specs.View.{view};
 ghost use Rattle.places.specs.Changes.{freeAt, occupiedAt, vacatedAt, aboveAnswer};
-ghost use Rattle.places.specs.Above.{idOf};
+ghost use Rattle.places.specs.Above.{idIn};
+ghost use Rattle.places.specs.Rows.{rowsBy, rowsFrom};
 use memory::Place;
 use memory::WORDS;
 
@@ -59,27 +62,50 @@ pub fn vacate(m: &mut [u64; WORDS], place: usize)
     }
 }
 
+// The rows of a place that is taken, by the lowest bit of a word.
+fn rows_at(m: &[u64; WORDS], place: usize, word: u32) -> usize
+    ensures { λ r. ⌜ (r ≤ 64) × (r ≡ rowsBy word (now (m .entry)) (place % 32)) ⌝ }
+{
+    if word % 2 == 1 {
+        rows::dependencies(m, place) + rows::provisions(m, place) + 1
+    } else {
+        0
+    }
+}
+
+// The rows of four places; the word's lowest bits are theirs.
+fn rows_of_four(m: &[u64; WORDS], place: usize, word: u32) -> usize
+    requires { ⌜ (place < 29) × (word ≡ occupancy (now m) / 2 ^ place) ⌝ }
+    ensures { λ r. ⌜ (r ≤ 256) × (r ≡ rowsFrom 4 (now (m .entry)) place) ⌝ }
+{
+    let first = rows_at(m, place, word);
+    let second = rows_at(m, place + 1, word / 2);
+    let third = rows_at(m, place + 2, word / 4);
+    let fourth = rows_at(m, place + 3, word / 8);
+    first + second + third + fourth
+}
+
 // The rows in use, counted from the plugins' lists.
 pub fn rows_in_use(m: &[u64; WORDS]) -> usize
     ensures { λ r. ⌜ r ≡ rowsInUse (view (now (m .entry))) ⌝ }
 {
     whole(m);
+    let mut word = memory::occupied(m);
     let mut total: usize = 0;
-    let mut i: usize = 0;
-    while i < 32 {
-        if memory::is_taken(m, i) {
-            total += rows::dependencies(m, i) + rows::provisions(m, i) + 1;
-        }
-        i += 1;
+    let mut k: usize = 0;
+    while k < 8 {
+        total += rows_of_four(m, k * 4, word);
+        word /= 16;
+        k += 1;
     }
     total
 }
 
-// The lowest registered id above a number.
+// The lowest registered id above a number. An id above a number is not 0, which stands for none.
 pub fn next_above(m: &[u64; WORDS], number: u64) -> Above
     ensures { λ r. ⌜ aboveAnswer r ≡ answerOf (nextAbove (view (now (m .entry))) number) ⌝ }
 {
-    let mut found = Above::Nothing;
+    let mut found: u64 = 0;
     let mut i: usize = 32;
     while 0 < i {
         i -= 1;
@@ -90,17 +116,18 @@ pub fn next_above(m: &[u64; WORDS], number: u64) -> Above
             }
         }
     }
-    found
+    if found == 0 {
+        return Above::Nothing;
+    }
+    Above::Id(found)
 }
 
-// The lower of two ids, of which one may be missing.
-fn lower(id: u64, other: Above) -> Above
-    ensures { λ r. ⌜ idOf r ≡ lowerId id (idOf other) ⌝ }
+// The lower of two ids, of which the second may be missing.
+fn lower(id: u64, other: u64) -> u64
+    requires { ⌜ 0 < id ⌝ }
+    ensures { λ r. ⌜ idIn r ≡ lowerId id (idIn other) ⌝ }
 {
-    match other {
-        Above::Nothing => Above::Id(id),
-        Above::Id(n) => { if id < n { Above::Id(id) } else { Above::Id(n) } }
-    }
+    if other == 0 || id < other { id } else { other }
 }
 
 // Tells the proof how long the memory is; compiles to nothing.

@@ -1,9 +1,13 @@
 -- A port's provider, looked for place by place.
-use Prim.Native.Nat.{ℕ, _<_}
+use Prim.Native.Nat.{ℕ, _+_, _*_, _/_, _%_, _^_, _<_}
 use mathlib.Core.Path.{_≡_}
-use mathlib.Core.List.{List}
-use Rattle.rules.specs.Holds.{Plugin, provides, provider}
+use mathlib.Core.Bool.{Bool, _&&_}
+use mathlib.Core.List.{List, [], _∷_}
+use lib.Dec.{eqb}
+use lib.Bits.{bitOr}
+use Rattle.rules.specs.Holds.{Plugin, isIn, provides, provider}
 use Rattle.rules.specs.declared.Port.{Port}
+use Rattle.memory.specs.Layout.{part, anchorWord, provsAt}
 use Rattle.memory.specs.View.{view}
 use Rattle.memory.specs.Lookups.{placed, searchFrom, search-first, search-found}
 use Rattle.memory.specs.declared.Place.{Place}
@@ -20,3 +24,15 @@ provider-view m q = search-first (λ (p : Plugin). provides p q) 32 m 0
 pub provider-below : (m : List ℕ) (q : Port) (i : ℕ) → providerAt m q ≡ At i → i < 32
 unfolding providerAt
 provider-below m q i e = search-found (λ (p : Plugin). provides p q) 32 m 0 i e .below
+
+-- the words of a place's anchor and, right behind it, of its provisions
+abbrev pub offeredPart : List ℕ → ℕ → List ℕ
+offeredPart m i = part m (anchorWord m i) ((provsAt m i + 1) * 2)
+
+-- a word with a bit for each key, by its remainder; and whether a port's bit is there and the port too
+unfoldable pub keyBits : ℕ → List Port → ℕ
+keyBits w [] = w
+keyBits w (q ∷ qs) = keyBits (bitOr w ((1 * 2 ^ (q .key % 64)) % 2 ^ 64)) qs
+
+abbrev pub wanted : ℕ → List Port → Port → Bool
+wanted w qs q = eqb (w / 2 ^ (q .key % 64) % 2) 1 && isIn q qs

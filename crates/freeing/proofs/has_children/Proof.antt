@@ -6,7 +6,7 @@ use Rattle.rules.specs.Basics.{any}
 use Rattle.rules.specs.Holds.{plugins}
 use Rattle.rules.specs.Retirement.{isChildOf}
 use Rattle.memory.specs.View.{view}
-use Rattle.places.specs.Any.{anyFrom, any-plugins, any-end, any-free, any-here, any-not}
+use Rattle.places.specs.Any.{anyFrom, any-plugins, any-end, any-free, any-here, any-never}
 use Rattle.freeing.specs.Laws.{named}
 use native.Mathlib.Omega.{arith}
 use borrow.Author.Needs.{needs}
@@ -22,11 +22,11 @@ abbrev μ-loop : tie.MeasureT-loop
 loop-holds : tie.Need-loop-holds Inv-loop μ-loop
 loop-holds c = (omega arith, any-plugins _ _)
 
-is-taken-requires : tie.Need-is-taken-requires Inv-loop μ-loop
-is-taken-requires c κs = search needs
-
 is-child-of-requires : tie.Need-is-child-of-requires Inv-loop μ-loop
 is-child-of-requires c κs = search needs
+
+is-taken-requires : tie.Need-is-taken-requires Inv-loop μ-loop
+is-taken-requires c κs = search needs
 
 returns : tie.Need-returns Inv-loop μ-loop
 returns c =
@@ -34,7 +34,7 @@ returns c =
     let l = t .before .before .before in
     let a = l .before .args in
     let h = t .before .before .loop-test .taken in
-    sym (l .loop .inv .1 ∙ any-here (isChildOf (a .id)) (a .m .now) (l .loop .i) h _ (sym (t .before .is-taken .ensures) ∙ t .if1 .taken) (named (a .m .now) (a .id) (l .loop .i) h _ (c .before .is-child-of .ensures)) (c .if2 .taken))
+    sym (l .loop .inv .1 ∙ any-here (isChildOf (a .id)) (a .m .now) (l .loop .i) h _ (sym (c .before .is-taken .ensures) ∙ c .if2 .taken) (named (a .m .now) (a .id) (l .loop .i) h _ (t .before .is-child-of .ensures)) (t .if1 .taken))
 
 add-i : tie.Need-add-i Inv-loop μ-loop
 add-i c = search needs
@@ -48,10 +48,10 @@ loop-again c =
     let id = c .before .before .before .before .args .id in
     let i = c .before .before .before .loop .i in
     let h = c .before .before .loop-test .taken in
-    let t = sym (c .before .is-taken .ensures) in (
+    let n = named m id i h _ (c .before .is-child-of .ensures) in (
       omega arith,
       c .before .before .before .loop .inv .1
-          ∙ ⊎-elim {C = anyFrom (isChildOf id) (32 - i) m i ≡ anyFrom (isChildOf id) (32 - (i + 1)) m (i + 1)} (λ w. any-not (isChildOf id) m i h _ (t ∙ w .0 .taken) (named m id i h _ (w .1 .ensures)) (w .2 .left)) (λ w. any-free (isChildOf id) m i h (t ∙ w .left)) (c .if1 .came),
+          ∙ ⊎-elim {C = anyFrom (isChildOf id) (32 - i) m i ≡ anyFrom (isChildOf id) (32 - (i + 1)) m (i + 1)} (λ w. any-free (isChildOf id) m i h (sym (w .1 .ensures) ∙ w .2 .left)) (λ w. any-never (isChildOf id) m i h _ n (w .left)) (c .if1 .came),
     )
 
 returns-2 : tie.Need-returns-2 Inv-loop μ-loop
@@ -64,8 +64,8 @@ has-children-spec =
     Inv-loop
     μ-loop
     loop-holds
-    is-taken-requires
     is-child-of-requires
+    is-taken-requires
     returns
     add-i
     loop-less

@@ -1,13 +1,13 @@
 use native.Mathlib.Omega.{arith}
 use mathlib.Core.Path.{sym, _∙_}
-use Rattle.places.specs.Above.{idOf, above-none, above-view}
+use Rattle.places.specs.Above.{idIn, above-none, nothing-view, id-view}
 use Rattle.places.proofs.Loops.{Passed, id-lower, id-not, id-free, id-end}
 use borrow.Author.Needs.{needs}
 use Rattle.places.proofs.next_above.Statement.{statement}
 use Rattle.places.proofs.next_above.Tie as tie
 
 abbrev Inv-loop : tie.InvT-loop
-Inv-loop m number found₀ i₀ found i = Passed number m i (idOf found)
+Inv-loop m number found₀ i₀ found i = Passed number m i (idIn found)
 
 abbrev μ-loop : tie.MeasureT-loop
 μ-loop m number found₀ i₀ found i = i
@@ -51,7 +51,10 @@ loop-again-3 c =
     id-free _ _ _ _ (c .before .before .loop-test .taken) (c .before .before .before .loop .inv) (sym (c .before .is-taken .ensures) ∙ c .if1 .left)
 
 returns : tie.Need-returns Inv-loop μ-loop
-returns c = above-view _ _ (c .before .loop .found) (id-end _ _ _ _ (c .loop-test .left) (c .before .loop .inv))
+returns c = nothing-view _ _ _ (id-end _ _ _ _ (c .before .loop-test .left) (c .before .before .loop .inv)) (c .if3 .taken)
+
+returns-2 : tie.Need-returns-2 Inv-loop μ-loop
+returns-2 c = id-view _ _ _ (id-end _ _ _ _ (c .before .loop-test .left) (c .before .before .loop .inv)) (c .if3 .left)
 
 pub next-above-spec : {M : Type 1} → statement M
 next-above-spec =
@@ -70,4 +73,5 @@ next-above-spec =
     loop-again-2
     loop-less-3
     loop-again-3
-    returns)
+    returns
+    returns-2)
