@@ -1,0 +1,71 @@
+// Child slot: it is made and decided in words of the host's.
+ghost use mathlib.Core.Path.{_≡_};
+ghost use Rattle.rules.specs.Slot as rules;
+ghost use Rattle.slot.specs.Slots.{slotOf};
+ghost use Rattle.slots.specs.Words.{slotAt, putSlot, slotAfter};
+ghost use Rattle.telling.specs.Told.{statusOf};
+use slot::Identity;
+use slot::Slot;
+use slots::SLOT;
+
+// A child slot is eight words of the host's: domain, parent, 1 with a generation or 0, generation, decision (0 Pending,
+// 1 Assigned, 2 Failed, 3 Cancelled), and the assigned domain, parent and id.
+#[no_mangle]
+pub extern "C" fn vaskelbi_slot_pending(
+    slot: &mut [u64; SLOT],
+    domain: u64,
+    parent: u64,
+    generation: u64,
+)
+    ensures { λ _. ⌜ now (slot .exit) ≡ putSlot (now (slot .entry)) (rules.pending domain parent generation) ⌝ }
+{
+    slots::store(slot, Slot::pending(domain, parent, generation))
+}
+
+// A slot made Assigned has no generation.
+#[no_mangle]
+pub extern "C" fn vaskelbi_slot_assigned(slot: &mut [u64; SLOT], domain: u64, parent: u64, id: u64)
+    ensures { λ _. ⌜ now (slot .exit) ≡ putSlot (now (slot .entry)) (rules.assigned (record { domain = domain; parent = parent; id = id })) ⌝ }
+{
+    slots::store(
+        slot,
+        Slot::assigned(Identity {
+            domain: domain,
+            parent: parent,
+            id: id,
+        }),
+    )
+}
+
+#[no_mangle]
+pub extern "C" fn vaskelbi_slot_assign(
+    slot: &mut [u64; SLOT],
+    domain: u64,
+    parent: u64,
+    id: u64,
+) -> u64
+    ensures { λ r. ⌜ r ≡ statusOf (rules.assign (slotOf (slotAt (now (slot .entry)))) (record { domain = domain; parent = parent; id = id }) .answer) ⌝ ∗ ⌜ now (slot .exit) ≡ slotAfter (now (slot .entry)) (rules.assign (slotOf (slotAt (now (slot .entry)))) (record { domain = domain; parent = parent; id = id })) ⌝ }
+{
+    telling::verdict(slots::assign(
+        slot,
+        Identity {
+            domain: domain,
+            parent: parent,
+            id: id,
+        },
+    ))
+}
+
+#[no_mangle]
+pub extern "C" fn vaskelbi_slot_reject(slot: &mut [u64; SLOT]) -> u64
+    ensures { λ r. ⌜ r ≡ statusOf (rules.reject (slotOf (slotAt (now (slot .entry)))) .answer) ⌝ ∗ ⌜ now (slot .exit) ≡ slotAfter (now (slot .entry)) (rules.reject (slotOf (slotAt (now (slot .entry))))) ⌝ }
+{
+    telling::verdict(slots::reject(slot))
+}
+
+#[no_mangle]
+pub extern "C" fn vaskelbi_slot_cancel(slot: &mut [u64; SLOT]) -> u64
+    ensures { λ r. ⌜ r ≡ statusOf (rules.cancel (slotOf (slotAt (now (slot .entry)))) .answer) ⌝ ∗ ⌜ now (slot .exit) ≡ slotAfter (now (slot .entry)) (rules.cancel (slotOf (slotAt (now (slot .entry))))) ⌝ }
+{
+    telling::verdict(slots::cancel(slot))
+}

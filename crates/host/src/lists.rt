@@ -1,0 +1,49 @@
+// Lists: a plugin's ports and realm rows into the host's buffer.
+ghost use mathlib.Core.Path.{_≡_};
+ghost use Rattle.rules.specs.Lists.{Dependencies, Provisions, RealmRows};
+ghost use Rattle.rules.specs.Steps.{lentAfterStep, Listed};
+ghost use Rattle.memory.specs.View.{view};
+ghost use Rattle.telling.specs.Told.{Tells};
+ghost use Rattle.host.specs.Tells.{answer};
+use memory::WORDS;
+use telling::ANSWER;
+
+// It answers how many pairs were listed into the buffer from the place.
+#[no_mangle]
+pub extern "C" fn vaskelbi_list_dependencies(
+    m: &[u64; WORDS],
+    id: u64,
+    place: usize,
+    buffer: &mut [u64],
+    out: &mut [u64; ANSWER],
+) -> u64
+    ensures { λ r. ⌜ Tells (answer (now (m .entry)) (Listed Dependencies id place (now (buffer .entry)))) (now (out .entry)) r (now (out .exit)) ⌝ ∗ ⌜ now (buffer .exit) ≡ lentAfterStep (view (now (m .entry))) (Listed Dependencies id place (now (buffer .entry))) ⌝ }
+{
+    telling::listed(asking::list_dependencies(m, id, place, buffer), out)
+}
+
+#[no_mangle]
+pub extern "C" fn vaskelbi_list_provisions(
+    m: &[u64; WORDS],
+    id: u64,
+    place: usize,
+    buffer: &mut [u64],
+    out: &mut [u64; ANSWER],
+) -> u64
+    ensures { λ r. ⌜ Tells (answer (now (m .entry)) (Listed Provisions id place (now (buffer .entry)))) (now (out .entry)) r (now (out .exit)) ⌝ ∗ ⌜ now (buffer .exit) ≡ lentAfterStep (view (now (m .entry))) (Listed Provisions id place (now (buffer .entry))) ⌝ }
+{
+    telling::listed(asking::list_provisions(m, id, place, buffer), out)
+}
+
+#[no_mangle]
+pub extern "C" fn vaskelbi_list_realms(
+    m: &[u64; WORDS],
+    id: u64,
+    place: usize,
+    buffer: &mut [u64],
+    out: &mut [u64; ANSWER],
+) -> u64
+    ensures { λ r. ⌜ Tells (answer (now (m .entry)) (Listed RealmRows id place (now (buffer .entry)))) (now (out .entry)) r (now (out .exit)) ⌝ ∗ ⌜ now (buffer .exit) ≡ lentAfterStep (view (now (m .entry))) (Listed RealmRows id place (now (buffer .entry))) ⌝ }
+{
+    telling::listed(asking::list_realms(m, id, place, buffer), out)
+}

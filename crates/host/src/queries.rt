@@ -1,0 +1,113 @@
+// Queries of a plugin and of the registry.
+ghost use mathlib.Core.Path.{_≡_};
+ghost use mathlib.Core.List.{[], _∷_};
+ghost use Rattle.rules.specs.Outcomes.{Accepted};
+ghost use Rattle.rules.specs.Queries.{Parent, Anchor, PhaseOf, RetiredMark, Generation, Revision, Payload, RootOf, Domain, FirstId, NextId, Registered, RowsInUse};
+ghost use Rattle.rules.specs.Steps.{AskPlugin, AskRegistry, NextAbove};
+ghost use Rattle.telling.specs.Told.{Tells};
+ghost use Rattle.host.specs.Tells.{answer};
+use memory::WORDS;
+use telling::ANSWER;
+
+// The parent's id, or no number.
+#[no_mangle]
+pub extern "C" fn vaskelbi_parent(m: &[u64; WORDS], id: u64, out: &mut [u64; ANSWER]) -> u64
+    ensures { λ r. ⌜ Tells (answer (now (m .entry)) (AskPlugin Parent id)) (now (out .entry)) r (now (out .exit)) ⌝ }
+{
+    telling::perhaps(asking::parent(m, id), out)
+}
+
+#[no_mangle]
+pub extern "C" fn vaskelbi_anchor(m: &[u64; WORDS], id: u64, out: &mut [u64; ANSWER]) -> u64
+    ensures { λ r. ⌜ Tells (answer (now (m .entry)) (AskPlugin Anchor id)) (now (out .entry)) r (now (out .exit)) ⌝ }
+{
+    telling::port(asking::anchor(m, id), out)
+}
+
+// 0 Idle, 1 Loading, 2 Active, 3 Unloading.
+#[no_mangle]
+pub extern "C" fn vaskelbi_phase(m: &[u64; WORDS], id: u64, out: &mut [u64; ANSWER]) -> u64
+    ensures { λ r. ⌜ Tells (answer (now (m .entry)) (AskPlugin PhaseOf id)) (now (out .entry)) r (now (out .exit)) ⌝ }
+{
+    telling::number(asking::phase(m, id), out)
+}
+
+// 1 where the plugin is retired, else 0.
+#[no_mangle]
+pub extern "C" fn vaskelbi_retired(m: &[u64; WORDS], id: u64, out: &mut [u64; ANSWER]) -> u64
+    ensures { λ r. ⌜ Tells (answer (now (m .entry)) (AskPlugin RetiredMark id)) (now (out .entry)) r (now (out .exit)) ⌝ }
+{
+    telling::number(asking::retired(m, id), out)
+}
+
+#[no_mangle]
+pub extern "C" fn vaskelbi_generation(m: &[u64; WORDS], id: u64, out: &mut [u64; ANSWER]) -> u64
+    ensures { λ r. ⌜ Tells (answer (now (m .entry)) (AskPlugin Generation id)) (now (out .entry)) r (now (out .exit)) ⌝ }
+{
+    telling::number(asking::generation(m, id), out)
+}
+
+#[no_mangle]
+pub extern "C" fn vaskelbi_revision(m: &[u64; WORDS], id: u64, out: &mut [u64; ANSWER]) -> u64
+    ensures { λ r. ⌜ Tells (answer (now (m .entry)) (AskPlugin Revision id)) (now (out .entry)) r (now (out .exit)) ⌝ }
+{
+    telling::number(asking::revision(m, id), out)
+}
+
+#[no_mangle]
+pub extern "C" fn vaskelbi_payload(m: &[u64; WORDS], id: u64, out: &mut [u64; ANSWER]) -> u64
+    ensures { λ r. ⌜ Tells (answer (now (m .entry)) (AskPlugin Payload id)) (now (out .entry)) r (now (out .exit)) ⌝ }
+{
+    telling::number(asking::payload(m, id), out)
+}
+
+// 0 Unissued; 1 Queued, with revision and argument; 2 Spent.
+#[no_mangle]
+pub extern "C" fn vaskelbi_root(m: &[u64; WORDS], id: u64, out: &mut [u64; ANSWER]) -> u64
+    ensures { λ r. ⌜ Tells (answer (now (m .entry)) (AskPlugin RootOf id)) (now (out .entry)) r (now (out .exit)) ⌝ }
+{
+    telling::root(asking::root(m, id), out)
+}
+
+// The lowest registered id above a number, or no number.
+#[no_mangle]
+pub extern "C" fn vaskelbi_next_above(m: &[u64; WORDS], number: u64, out: &mut [u64; ANSWER]) -> u64
+    ensures { λ r. ⌜ Tells (answer (now (m .entry)) (NextAbove number)) (now (out .entry)) r (now (out .exit)) ⌝ }
+{
+    telling::above(places::next_above(m, number), out)
+}
+
+#[no_mangle]
+pub extern "C" fn vaskelbi_domain(m: &[u64; WORDS]) -> u64
+    ensures { λ r. ⌜ answer (now (m .entry)) (AskRegistry Domain) ≡ Accepted (r ∷ []) ⌝ }
+{
+    memory::domain(m)
+}
+
+#[no_mangle]
+pub extern "C" fn vaskelbi_first(m: &[u64; WORDS]) -> u64
+    ensures { λ r. ⌜ answer (now (m .entry)) (AskRegistry FirstId) ≡ Accepted (r ∷ []) ⌝ }
+{
+    memory::first_id(m)
+}
+
+#[no_mangle]
+pub extern "C" fn vaskelbi_next(m: &[u64; WORDS]) -> u64
+    ensures { λ r. ⌜ answer (now (m .entry)) (AskRegistry NextId) ≡ Accepted (r ∷ []) ⌝ }
+{
+    memory::next_id(m)
+}
+
+#[no_mangle]
+pub extern "C" fn vaskelbi_count(m: &[u64; WORDS]) -> u64
+    ensures { λ r. ⌜ answer (now (m .entry)) (AskRegistry Registered) ≡ Accepted (r ∷ []) ⌝ }
+{
+    places::registered(m)
+}
+
+#[no_mangle]
+pub extern "C" fn vaskelbi_rows(m: &[u64; WORDS]) -> u64
+    ensures { λ r. ⌜ answer (now (m .entry)) (AskRegistry RowsInUse) ≡ Accepted (r ∷ []) ⌝ }
+{
+    places::rows_in_use(m) as u64
+}

@@ -1,0 +1,75 @@
+// Registration, without a parent and under one.
+ghost use mathlib.Core.Path.{_≡_};
+ghost use Rattle.rules.specs.Holds.{port};
+ghost use Rattle.rules.specs.Steps.{Register};
+ghost use Rattle.memory.specs.declared.Parent.the-variants.{Of, Nobody};
+ghost use Rattle.registering.specs.Written.{definition};
+ghost use Rattle.telling.specs.Told.{Tells};
+ghost use Rattle.demands.specs.Leaves.{leaves};
+ghost use Rattle.host.specs.Tells.{answer};
+use memory::WORDS;
+use rules::Port;
+use telling::ANSWER;
+
+// Registration without a parent: anchor, payload, realm list (key, realm, key, realm), dependency keys, provision keys. It answers the new id.
+#[no_mangle]
+pub extern "C" fn vaskelbi_register(
+    m: &mut [u64; WORDS],
+    key: u64,
+    realm: u64,
+    payload: u64,
+    realms: &[u64],
+    dependencies: &[u64],
+    provisions: &[u64],
+    out: &mut [u64; ANSWER],
+) -> u64
+    ensures { λ r. ⌜ Tells (answer (now (m .entry)) (Register (definition Nobody (port key realm) (now (realms .entry)) (now (dependencies .entry)) (now (provisions .entry)) payload))) (now (out .entry)) r (now (out .exit)) ⌝ ∗ ⌜ now (m .exit) ≡ leaves (now (m .entry)) (Register (definition Nobody (port key realm) (now (realms .entry)) (now (dependencies .entry)) (now (provisions .entry)) payload)) ⌝ }
+{
+    telling::registered(
+        registering::register(
+            m,
+            memory::Parent::Nobody,
+            Port {
+                key: key,
+                realm: realm,
+            },
+            realms,
+            dependencies,
+            provisions,
+            payload,
+        ),
+        out,
+    )
+}
+
+// Registration under a parent.
+#[no_mangle]
+pub extern "C" fn vaskelbi_register_child(
+    m: &mut [u64; WORDS],
+    parent: u64,
+    key: u64,
+    realm: u64,
+    payload: u64,
+    realms: &[u64],
+    dependencies: &[u64],
+    provisions: &[u64],
+    out: &mut [u64; ANSWER],
+) -> u64
+    ensures { λ r. ⌜ Tells (answer (now (m .entry)) (Register (definition (Of parent) (port key realm) (now (realms .entry)) (now (dependencies .entry)) (now (provisions .entry)) payload))) (now (out .entry)) r (now (out .exit)) ⌝ ∗ ⌜ now (m .exit) ≡ leaves (now (m .entry)) (Register (definition (Of parent) (port key realm) (now (realms .entry)) (now (dependencies .entry)) (now (provisions .entry)) payload)) ⌝ }
+{
+    telling::registered(
+        registering::register(
+            m,
+            memory::Parent::Of(parent),
+            Port {
+                key: key,
+                realm: realm,
+            },
+            realms,
+            dependencies,
+            provisions,
+            payload,
+        ),
+        out,
+    )
+}

@@ -1,0 +1,34 @@
+// Replacement of a payload, and whether a count of replacements fits.
+ghost use mathlib.Core.Path.{_≡_};
+ghost use Rattle.rules.specs.Steps.{Replace, Fits};
+ghost use Rattle.telling.specs.Told.{Tells};
+ghost use Rattle.demands.specs.Leaves.{leaves};
+ghost use Rattle.host.specs.Tells.{answer};
+use memory::WORDS;
+use telling::ANSWER;
+
+// It answers the former payload; a refusal answers the offered one.
+#[no_mangle]
+pub extern "C" fn vaskelbi_replace(
+    m: &mut [u64; WORDS],
+    id: u64,
+    payload: u64,
+    out: &mut [u64; ANSWER],
+) -> u64
+    ensures { λ r. ⌜ Tells (answer (now (m .entry)) (Replace id payload)) (now (out .entry)) r (now (out .exit)) ⌝ ∗ ⌜ now (m .exit) ≡ leaves (now (m .entry)) (Replace id payload) ⌝ }
+{
+    telling::replaced(replacing::replace(m, id, payload), out)
+}
+
+// Whether a count of replacements fits: 1 for yes, 0 for no.
+#[no_mangle]
+pub extern "C" fn vaskelbi_fits(
+    m: &[u64; WORDS],
+    id: u64,
+    count: u64,
+    out: &mut [u64; ANSWER],
+) -> u64
+    ensures { λ r. ⌜ Tells (answer (now (m .entry)) (Fits id count)) (now (out .entry)) r (now (out .exit)) ⌝ }
+{
+    telling::whether(replacing::fits(m, id, count), out)
+}

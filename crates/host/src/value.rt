@@ -1,0 +1,97 @@
+// Values: they are offered and read, and what a plugin declares or still lacks is asked.
+ghost use mathlib.Core.Path.{_≡_};
+ghost use Rattle.rules.specs.Holds.{port};
+ghost use Rattle.rules.specs.Steps.{Offer, Read, Visible, Own, FirstMissing, Matching, Declares};
+ghost use Rattle.telling.specs.Told.{statusOf, Tells};
+ghost use Rattle.demands.specs.Leaves.{leaves};
+ghost use Rattle.host.specs.Tells.{answer};
+use memory::WORDS;
+use telling::ANSWER;
+
+#[no_mangle]
+pub extern "C" fn vaskelbi_offer(
+    m: &mut [u64; WORDS],
+    id: u64,
+    key: u64,
+    realm: u64,
+    value: u64,
+) -> u64
+    ensures { λ r. ⌜ r ≡ statusOf (answer (now (m .entry)) (Offer id (port key realm) value)) ⌝ ∗ ⌜ now (m .exit) ≡ leaves (now (m .entry)) (Offer id (port key realm) value) ⌝ }
+{
+    telling::done(offering::offer(m, id, key, realm, value))
+}
+
+// It answers the value and its provider's id.
+#[no_mangle]
+pub extern "C" fn vaskelbi_read(
+    m: &[u64; WORDS],
+    id: u64,
+    key: u64,
+    realm: u64,
+    out: &mut [u64; ANSWER],
+) -> u64
+    ensures { λ r. ⌜ Tells (answer (now (m .entry)) (Read id (port key realm))) (now (out .entry)) r (now (out .exit)) ⌝ }
+{
+    telling::reading(values::read(m, id, key, realm), out)
+}
+
+// The Active provider's value, or no number.
+#[no_mangle]
+pub extern "C" fn vaskelbi_visible(
+    m: &[u64; WORDS],
+    key: u64,
+    realm: u64,
+    out: &mut [u64; ANSWER],
+) -> u64
+    ensures { λ r. ⌜ Tells (answer (now (m .entry)) (Visible (port key realm))) (now (out .entry)) r (now (out .exit)) ⌝ }
+{
+    telling::value(values::visible(m, key, realm), out)
+}
+
+// A plugin's own value of a provision, or no number.
+#[no_mangle]
+pub extern "C" fn vaskelbi_own(
+    m: &[u64; WORDS],
+    id: u64,
+    key: u64,
+    realm: u64,
+    out: &mut [u64; ANSWER],
+) -> u64
+    ensures { λ r. ⌜ Tells (answer (now (m .entry)) (Own id (port key realm))) (now (out .entry)) r (now (out .exit)) ⌝ }
+{
+    telling::perhaps(values::own(m, id, key, realm), out)
+}
+
+// The first provision without a value, or no number.
+#[no_mangle]
+pub extern "C" fn vaskelbi_missing(m: &[u64; WORDS], id: u64, out: &mut [u64; ANSWER]) -> u64
+    ensures { λ r. ⌜ Tells (answer (now (m .entry)) (FirstMissing id)) (now (out .entry)) r (now (out .exit)) ⌝ }
+{
+    telling::port(values::missing(m, id), out)
+}
+
+// Whether a list of key, realm pairs is the plugin's provision list.
+#[no_mangle]
+pub extern "C" fn vaskelbi_matches(
+    m: &[u64; WORDS],
+    id: u64,
+    list: &[u64],
+    out: &mut [u64; ANSWER],
+) -> u64
+    ensures { λ r. ⌜ Tells (answer (now (m .entry)) (Matching id (now (list .entry)))) (now (out .entry)) r (now (out .exit)) ⌝ }
+{
+    telling::whether(values::matches(m, id, list), out)
+}
+
+#[no_mangle]
+pub extern "C" fn vaskelbi_declares(
+    m: &[u64; WORDS],
+    id: u64,
+    key: u64,
+    realm: u64,
+    out: &mut [u64; ANSWER],
+) -> u64
+    ensures { λ r. ⌜ Tells (answer (now (m .entry)) (Declares id (port key realm))) (now (out .entry)) r (now (out .exit)) ⌝ }
+{
+    telling::whether(values::declares(m, id, key, realm), out)
+}
