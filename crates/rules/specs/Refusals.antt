@@ -1,5 +1,6 @@
 -- Document 01, "Refusal numbers".
-use Prim.Native.Nat.{ℕ}
+use Prim.Native.Nat.{ℕ, _≤_}
+use native.Mathlib.Omega.{arith}
 
 pub data Refusal : Type 0 where
   Unknown Retired InvalidState BadRealms TooManyKeys DuplicateDependency DuplicateProvision Taken : Refusal
@@ -53,3 +54,29 @@ number Duplicate = 21
 number Missing = 22
 -- lent room too small
 number ShortBuffer = 23
+
+-- The numbers are from 1 to 23.
+pub number-within : (x : Refusal) → (1 ≤ number x) × (number x ≤ 23)
+number-within Unknown = (omega arith, omega arith)
+number-within Retired = (omega arith, omega arith)
+number-within InvalidState = (omega arith, omega arith)
+number-within BadRealms = (omega arith, omega arith)
+number-within TooManyKeys = (omega arith, omega arith)
+number-within DuplicateDependency = (omega arith, omega arith)
+number-within DuplicateProvision = (omega arith, omega arith)
+number-within Taken = (omega arith, omega arith)
+number-within NoId = (omega arith, omega arith)
+number-within Full = (omega arith, omega arith)
+number-within TooLong = (omega arith, omega arith)
+number-within NoRows = (omega arith, omega arith)
+number-within Stale = (omega arith, omega arith)
+number-within Unavailable = (omega arith, omega arith)
+number-within InUse = (omega arith, omega arith)
+number-within Exhausted = (omega arith, omega arith)
+number-within NotRun = (omega arith, omega arith)
+number-within HasChildren = (omega arith, omega arith)
+number-within Closed = (omega arith, omega arith)
+number-within Undeclared = (omega arith, omega arith)
+number-within Duplicate = (omega arith, omega arith)
+number-within Missing = (omega arith, omega arith)
+number-within ShortBuffer = (omega arith, omega arith)

@@ -1,17 +1,27 @@
 -- Document 01, "Retirement".
 use Prim.Native.Nat.{ℕ}
-use mathlib.Core.Bool.{Bool, true, not, _&&_, _||_}
+use mathlib.Core.Path.{_≡_}
+use mathlib.Core.Bool.{Bool, true, false, not, _&&_, _||_}
 use mathlib.Core.List.{List, [], _∷_}
 use mathlib.Core.Option.{Option, none, some}
 use lib.Dec.{eqb, ltb, leb}
 use Rattle.rules.specs.Basics.{any, holds}
 use Rattle.rules.specs.Holds.{Plugin, Registry, lookup, plugins, isIdle, withRetired}
 use Rattle.rules.specs.Refusals.{Unknown, Retired, InvalidState, HasChildren}
-use Rattle.rules.specs.Outcomes.{Outcome, answers, stores, removes, _⇒_, checked, known}
+use Rattle.rules.specs.Outcomes.{Outcome, answers, stores, removes, _⇒_, checked, found, known}
 
 -- By id: 1, 2; else the retired mark is set.
 unfoldable pub retire : Registry → ℕ → Outcome
 retire r id = known r id λ p. checked ((p .retired ⇒ Retired) ∷ []) (stores (withRetired true p) [])
+
+passed : (mark : Bool) (u : Outcome) → mark ≡ false → checked ((mark ⇒ Retired) ∷ []) u ≡ u
+unfolding checked
+passed mark u h = rw h
+
+-- A registered plugin that is not retired retires.
+pub retires : (r : Registry) (id : ℕ) (p : Plugin) → lookup r id ≡ some p → p .retired ≡ false → retire r id ≡ stores (withRetired true p) []
+unfolding retire found
+retires r id p e h = rw e (passed (p .retired) _ h)
 
 -- A child identity.
 pub record Identity : Type 0 where
