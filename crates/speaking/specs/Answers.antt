@@ -6,19 +6,24 @@ use lib.Dec.{eqb}
 use lib.ListN.{getD, take, drop}
 use Rattle.rules.specs.Basics.{pick}
 use Rattle.rules.specs.Outcomes.{Answer, Refused, Accepted}
+use Rattle.decimal.specs.Text.{bytes}
 use Rattle.speaking.specs.Pages.{Page, putOn, numberOn, numbersOn}
 
 abbrev pub okWord : List ℕ
-okWord = 111 ∷ 107 ∷ []
+okWord = bytes "ok"
 
 abbrev pub noWord : List ℕ
-noWord = 110 ∷ 111 ∷ []
+noWord = bytes "no"
 
 abbrev pub yesWord : List ℕ
-yesWord = 121 ∷ 101 ∷ 115 ∷ []
+yesWord = bytes "yes"
 
 abbrev pub noneWord : List ℕ
-noneWord = 110 ∷ 111 ∷ 110 ∷ 101 ∷ []
+noneWord = bytes "none"
+
+-- What is said to a line that is no operation.
+abbrev pub badWord : List ℕ
+badWord = bytes "bad"
 
 -- A word behind a space.
 abbrev pub wordOn : Page → List ℕ → Page

@@ -5,20 +5,21 @@ use mathlib.Core.Option.{Option, none, some}
 use Rattle.rules.specs.Outcomes.{Answer, Refused, Accepted}
 use Rattle.rules.specs.Retirement.{Identity}
 use Rattle.rules.specs.Slot.{Slot, Decided, Decision, Pending, Assigned, Failed, Cancelled}
+use Rattle.decimal.specs.Text.{bytes}
 use Rattle.speaking.specs.Pages.{Page, putOn, numberOn}
 use Rattle.speaking.specs.Answers.{okWord, noneWord, wordOn, answerOn}
 
 abbrev pub pendingWord : List ℕ
-pendingWord = 112 ∷ 101 ∷ 110 ∷ 100 ∷ 105 ∷ 110 ∷ 103 ∷ []
+pendingWord = bytes "pending"
 
 abbrev pub assignedWord : List ℕ
-assignedWord = 97 ∷ 115 ∷ 115 ∷ 105 ∷ 103 ∷ 110 ∷ 101 ∷ 100 ∷ []
+assignedWord = bytes "assigned"
 
 abbrev pub failedWord : List ℕ
-failedWord = 102 ∷ 97 ∷ 105 ∷ 108 ∷ 101 ∷ 100 ∷ []
+failedWord = bytes "failed"
 
 abbrev pub cancelledWord : List ℕ
-cancelledWord = 99 ∷ 97 ∷ 110 ∷ 99 ∷ 101 ∷ 108 ∷ 108 ∷ 101 ∷ 100 ∷ []
+cancelledWord = bytes "cancelled"
 
 -- GENERATION is a number or `none`.
 abbrev pub generationOn : Page → Option ℕ → Page

@@ -1,0 +1,3 @@
+pub mod Draft
+pub mod Found
+pub mod Whole

@@ -1,0 +1,4 @@
+pub mod Spoken
+pub mod Buffered
+pub mod Shown
+pub mod Told
