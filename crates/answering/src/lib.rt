@@ -14,6 +14,7 @@ use memory::WORDS;
 use naming::BUFFER_ROOM;
 use slot::Slot;
 use speaking::ROOM;
+use telling::ANSWER;
 use turning::Said;
 
 // The most bytes of a line, its byte 10 not counted.
@@ -55,7 +56,7 @@ fn list_line(
     if l.len() != 2 {
         return bad(text);
     }
-    let mut out = [0u64; 7];
+    let mut out = [0u64; ANSWER];
     let status = carrying::listed(m, buffer, place, l[0], l[1], &mut out);
     showing::spoken(text, place, status, &out)
 }
@@ -63,7 +64,7 @@ fn list_line(
 fn asked_line(m: &mut [u64; WORDS], place: usize, l: &[u64], text: &mut [u8; ROOM]) -> usize
     ensures { λ r. ⌜ upTo (now (text .exit)) r ≡ askedLine (upTo (now (text .entry)) 0) (now (m .entry)) place (askedFor place (now (l .entry))) ⌝ ∗ ⌜ now (m .exit) ≡ leftBy (now (m .entry)) (askedFor place (now (l .entry))) ⌝ }
 {
-    let mut out = [0u64; 7];
+    let mut out = [0u64; ANSWER];
     let status = carrying::carried_out(m, place, l, &mut out);
     showing::spoken(text, place, status, &out)
 }
@@ -109,7 +110,7 @@ fn behind_line(
 fn register_line(m: &mut [u64; WORDS], bytes: &[u8], from: usize, text: &mut [u8; ROOM]) -> usize
     ensures { λ r. ⌜ upTo (now (text .exit)) r ≡ askedLine (upTo (now (text .entry)) 0) (now (m .entry)) registerAt (enrolment (draftIn (now (bytes .entry)) from)) ⌝ ∗ ⌜ now (m .exit) ≡ leftBy (now (m .entry)) (enrolment (draftIn (now (bytes .entry)) from)) ⌝ }
 {
-    let mut out = [0u64; 7];
+    let mut out = [0u64; ANSWER];
     let status = enrolling::enrolled(m, bytes, from, &mut out);
     showing::spoken(text, naming::REGISTER, status, &out)
 }

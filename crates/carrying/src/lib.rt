@@ -8,9 +8,10 @@ ghost use Rattle.carrying.specs.Carried.{Answers, Carried, Lists};
 use memory::WORDS;
 use naming::BAD;
 use naming::BUFFER_ROOM;
+use telling::ANSWER;
 
 // One number, as an answer.
-fn one(n: u64, out: &mut [u64; 7]) -> u64
+fn one(n: u64, out: &mut [u64; ANSWER]) -> u64
     ensures { λ r. ⌜ r ≡ 0 ⌝ ∗ ⌜ now (out .exit) ≡ told (n ∷ []) (now (out .entry)) ⌝ }
 {
     out[0] = 1;
@@ -18,7 +19,7 @@ fn one(n: u64, out: &mut [u64; 7]) -> u64
     0
 }
 
-fn with_none(m: &[u64; WORDS], place: usize, out: &mut [u64; 7]) -> u64
+fn with_none(m: &[u64; WORDS], place: usize, out: &mut [u64; ANSWER]) -> u64
     ensures { λ r. ⌜ Answers (now (m .entry)) (withNone place) (now (out .entry)) r (now (out .exit)) ⌝ }
 {
     match place {
@@ -30,7 +31,7 @@ fn with_none(m: &[u64; WORDS], place: usize, out: &mut [u64; 7]) -> u64
 }
 
 // Retirement, removal, and questions about one plugin.
-fn of_one(m: &mut [u64; WORDS], place: usize, id: u64, out: &mut [u64; 7]) -> u64
+fn of_one(m: &mut [u64; WORDS], place: usize, id: u64, out: &mut [u64; ANSWER]) -> u64
     ensures { λ r. ⌜ Carried (now (m .entry)) (ofOne place id) (now (out .entry)) r (now (out .exit)) (now (m .exit)) ⌝ }
 {
     match place {
@@ -42,7 +43,7 @@ fn of_one(m: &mut [u64; WORDS], place: usize, id: u64, out: &mut [u64; 7]) -> u6
     }
 }
 
-fn with_one(m: &mut [u64; WORDS], place: usize, id: u64, out: &mut [u64; 7]) -> u64
+fn with_one(m: &mut [u64; WORDS], place: usize, id: u64, out: &mut [u64; ANSWER]) -> u64
     ensures { λ r. ⌜ Carried (now (m .entry)) (withOne place id) (now (out .entry)) r (now (out .exit)) (now (m .exit)) ⌝ }
 {
     match place {
@@ -62,7 +63,7 @@ fn opened(m: &mut [u64; WORDS], domain: u64, first: u64) -> u64
     0
 }
 
-fn with_two(m: &mut [u64; WORDS], place: usize, a: u64, b: u64, out: &mut [u64; 7]) -> u64
+fn with_two(m: &mut [u64; WORDS], place: usize, a: u64, b: u64, out: &mut [u64; ANSWER]) -> u64
     ensures { λ r. ⌜ Carried (now (m .entry)) (withTwo place a b) (now (out .entry)) r (now (out .exit)) (now (m .exit)) ⌝ }
 {
     match place {
@@ -75,7 +76,14 @@ fn with_two(m: &mut [u64; WORDS], place: usize, a: u64, b: u64, out: &mut [u64; 
     }
 }
 
-fn with_three(m: &mut [u64; WORDS], place: usize, a: u64, b: u64, c: u64, out: &mut [u64; 7]) -> u64
+fn with_three(
+    m: &mut [u64; WORDS],
+    place: usize,
+    a: u64,
+    b: u64,
+    c: u64,
+    out: &mut [u64; ANSWER],
+) -> u64
     ensures { λ r. ⌜ Carried (now (m .entry)) (withThree place a b c) (now (out .entry)) r (now (out .exit)) (now (m .exit)) ⌝ }
 {
     match place {
@@ -93,7 +101,7 @@ fn with_four(
     b: u64,
     c: u64,
     d: u64,
-    out: &mut [u64; 7],
+    out: &mut [u64; ANSWER],
 ) -> u64
     ensures { λ r. ⌜ Carried (now (m .entry)) (withFour place a b c d) (now (out .entry)) r (now (out .exit)) (now (m .exit)) ⌝ }
 {
@@ -112,7 +120,7 @@ fn with_five(
     c: u64,
     d: u64,
     e: u64,
-    out: &mut [u64; 7],
+    out: &mut [u64; ANSWER],
 ) -> u64
     ensures { λ r. ⌜ Carried (now (m .entry)) (withFive place a b c d e) (now (out .entry)) r (now (out .exit)) (now (m .exit)) ⌝ }
 {
@@ -124,7 +132,7 @@ fn with_five(
 }
 
 // The operations that take so many numbers.
-fn counted(m: &mut [u64; WORDS], place: usize, l: &[u64], out: &mut [u64; 7]) -> u64
+fn counted(m: &mut [u64; WORDS], place: usize, l: &[u64], out: &mut [u64; ANSWER]) -> u64
     ensures { λ r. ⌜ Carried (now (m .entry)) (counted place (now (l .entry))) (now (out .entry)) r (now (out .exit)) (now (m .exit)) ⌝ }
 {
     match l.len() {
@@ -139,7 +147,7 @@ fn counted(m: &mut [u64; WORDS], place: usize, l: &[u64], out: &mut [u64; 7]) ->
 }
 
 // A number, and then as many as wished.
-fn listing(m: &[u64; WORDS], place: usize, l: &[u64], out: &mut [u64; 7]) -> u64
+fn listing(m: &[u64; WORDS], place: usize, l: &[u64], out: &mut [u64; ANSWER]) -> u64
     ensures { λ r. ⌜ Answers (now (m .entry)) (listing place (now (l .entry))) (now (out .entry)) r (now (out .exit)) ⌝ }
 {
     let n = l.len();
@@ -153,7 +161,7 @@ fn listing(m: &[u64; WORDS], place: usize, l: &[u64], out: &mut [u64; 7]) -> u64
 }
 
 // What the numbers l behind the name at this place ask for.
-pub fn carried_out(m: &mut [u64; WORDS], place: usize, l: &[u64], out: &mut [u64; 7]) -> u64
+pub fn carried_out(m: &mut [u64; WORDS], place: usize, l: &[u64], out: &mut [u64; ANSWER]) -> u64
     ensures { λ r. ⌜ Carried (now (m .entry)) (askedFor place (now (l .entry))) (now (out .entry)) r (now (out .exit)) (now (m .exit)) ⌝ }
 {
     match place {
@@ -170,7 +178,7 @@ pub fn listed(
     place: usize,
     id: u64,
     from: u64,
-    out: &mut [u64; 7],
+    out: &mut [u64; ANSWER],
 ) -> u64
     ensures { λ r. ⌜ Lists (now (m .entry)) (listAt place) id from (now (buffer .entry)) (now (out .entry)) r (now (out .exit)) (now (buffer .exit)) ⌝ }
 {

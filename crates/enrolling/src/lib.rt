@@ -7,6 +7,7 @@ use drafting::Head;
 use drafting::Parent;
 use memory::WORDS;
 use naming::BAD;
+use telling::ANSWER;
 
 fn register(
     m: &mut [u64; WORDS],
@@ -17,7 +18,7 @@ fn register(
     realms: &[u64],
     deps: &[u64],
     provs: &[u64],
-    out: &mut [u64; 7],
+    out: &mut [u64; ANSWER],
 ) -> u64
     ensures { λ r. ⌜ Carried (now (m .entry)) (underParent under (port key realm) (now (realms .entry)) (now (deps .entry)) (now (provs .entry)) payload) (now (out .entry)) r (now (out .exit)) (now (m .exit)) ⌝ }
 {
@@ -44,7 +45,7 @@ fn with_lists(
     under: Parent,
     head: Head,
     bytes: &[u8],
-    out: &mut [u64; 7],
+    out: &mut [u64; ANSWER],
 ) -> u64
     ensures { λ r. ⌜ Carried (now (m .entry)) (enrolment (drafted under head (listsIn (now (bytes .entry)) (head .stop)))) (now (out .entry)) r (now (out .exit)) (now (m .exit)) ⌝ }
 {
@@ -72,7 +73,7 @@ fn with_lists(
 }
 
 // What stands behind the word `register`.
-pub fn enrolled(m: &mut [u64; WORDS], bytes: &[u8], from: usize, out: &mut [u64; 7]) -> u64
+pub fn enrolled(m: &mut [u64; WORDS], bytes: &[u8], from: usize, out: &mut [u64; ANSWER]) -> u64
     ensures { λ r. ⌜ Carried (now (m .entry)) (enrolment (draftIn (now (bytes .entry)) from)) (now (out .entry)) r (now (out .exit)) (now (m .exit)) ⌝ }
 {
     let under = drafting::read_parent(bytes, from);

@@ -6,7 +6,7 @@ use mathlib.Core.List.{List, [], _∷_}
 use lib.ListN.{length}
 use borrow.Author.Tests.{ne-eqb}
 use Rattle.rules.specs.Basics.{last}
-use Rattle.rules.specs.Refusals.{number}
+use Rattle.rules.specs.Refusals.{number, number-within}
 use Rattle.rules.specs.Outcomes.{Answer, Refused, Accepted, Outcome, refuses, answers, writes, stores, adds, removes, answerOf}
 use Rattle.rules.specs.Steps.{Op, step}
 use Rattle.memory.specs.View.{view}
@@ -19,7 +19,6 @@ use Rattle.showing.specs.Shown.{valuesOf}
 use Rattle.showing.specs.Told.{told-back}
 use Rattle.carrying.specs.Asked.{Stated, Told}
 use Rattle.answering.specs.Lines.{untold, askedLine}
-use Rattle.sense.specs.Refusals.{number-within}
 use Rattle.sense.specs.Values.{saying, few-values, Silent}
 
 -- Six numbers at most are read back from the words; a refusal without numbers leaves these, and they tell nothing.

@@ -9,9 +9,10 @@ use memory::WORDS;
 use naming::BAD;
 use naming::BUFFER_ROOM;
 use speaking::ROOM;
+use telling::ANSWER;
 
 // The operation's place among the names says what the numbers of an acceptance are.
-pub fn spoken(text: &mut [u8; ROOM], place: usize, status: u64, out: &[u64; 7]) -> usize
+pub fn spoken(text: &mut [u8; ROOM], place: usize, status: u64, out: &[u64; ANSWER]) -> usize
     ensures { λ r. ⌜ upTo (now (text .exit)) r ≡ spokenOn (upTo (now (text .entry)) 0) place status (toldIn (now (out .entry))) ⌝ }
 {
     if status == BAD {
@@ -43,7 +44,7 @@ fn life(m: &[u64; WORDS], id: u64, text: &mut [u8; ROOM], from: usize) -> usize
     requires { ⌜ Registered (now m) id ⌝ }
     ensures { λ r. ⌜ upTo (now (text .exit)) r ≡ lifeOn (upTo (now (text .entry)) from) (now (m .entry)) id ⌝ }
 {
-    let mut out = [0u64; 7];
+    let mut out = [0u64; ANSWER];
     host::vaskelbi_phase(m, id, &mut out);
     let phase = speaking::answer(text, from, &out);
     host::vaskelbi_retired(m, id, &mut out);
@@ -61,7 +62,7 @@ fn root(m: &[u64; WORDS], id: u64, text: &mut [u8; ROOM], from: usize) -> usize
     requires { ⌜ Registered (now m) id ⌝ }
     ensures { λ r. ⌜ upTo (now (text .exit)) r ≡ rootOn (upTo (now (text .entry)) from) (now (m .entry)) id ⌝ }
 {
-    let mut out = [0u64; 7];
+    let mut out = [0u64; ANSWER];
     host::vaskelbi_root(m, id, &mut out);
     let at = speaking::answer(text, from, &out);
     if out[0] == 1 {
@@ -74,7 +75,7 @@ fn root(m: &[u64; WORDS], id: u64, text: &mut [u8; ROOM], from: usize) -> usize
 pub fn shown(m: &[u64; WORDS], id: u64, text: &mut [u8; ROOM]) -> usize
     ensures { λ r. ⌜ upTo (now (text .exit)) r ≡ shownOn (upTo (now (text .entry)) 0) (now (m .entry)) id ⌝ }
 {
-    let mut out = [0u64; 7];
+    let mut out = [0u64; ANSWER];
     let status = host::vaskelbi_parent(m, id, &mut out);
     if status != 0 {
         return speaking::told(text, status, &out);

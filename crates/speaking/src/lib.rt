@@ -11,6 +11,7 @@ use slot::Episode;
 use slot::Identity;
 use slot::Slot;
 use slot::Verdict;
+use telling::ANSWER;
 
 // Room for the longest answer: `ok`, a hundred numbers of 20 digits, each behind a space, and byte 10.
 pub const ROOM: usize = 2103;
@@ -87,7 +88,7 @@ fn numbers_in(out: &[u64]) -> &[u64]
 }
 
 // The numbers of an answer, which stand behind their count.
-pub fn answer(text: &mut [u8; ROOM], from: usize, out: &[u64; 7]) -> usize
+pub fn answer(text: &mut [u8; ROOM], from: usize, out: &[u64; ANSWER]) -> usize
     ensures { λ r. ⌜ upTo (now (text .exit)) r ≡ numbersOn (upTo (now (text .entry)) from) (toldIn (now (out .entry))) ⌝ }
 {
     let list = numbers_in(out);
@@ -95,7 +96,7 @@ pub fn answer(text: &mut [u8; ROOM], from: usize, out: &[u64; 7]) -> usize
 }
 
 // The numbers of an answer, or that there are none.
-pub fn answer_or_none(text: &mut [u8; ROOM], from: usize, out: &[u64; 7]) -> usize
+pub fn answer_or_none(text: &mut [u8; ROOM], from: usize, out: &[u64; ANSWER]) -> usize
     ensures { λ r. ⌜ upTo (now (text .exit)) r ≡ orNoneOn (upTo (now (text .entry)) from) (toldIn (now (out .entry))) ⌝ }
 {
     let list = numbers_in(out);
@@ -114,7 +115,7 @@ fn no(text: &mut [u8; ROOM], why: u64) -> usize
 }
 
 // The line of a status, 0 or the refusal's number, and of the numbers told with it.
-pub fn told(text: &mut [u8; ROOM], status: u64, out: &[u64; 7]) -> usize
+pub fn told(text: &mut [u8; ROOM], status: u64, out: &[u64; ANSWER]) -> usize
     ensures { λ r. ⌜ upTo (now (text .exit)) r ≡ answerOn (upTo (now (text .entry)) 0) (answerIn status (toldIn (now (out .entry)))) ⌝ }
 {
     if status == 0 {
@@ -126,7 +127,7 @@ pub fn told(text: &mut [u8; ROOM], status: u64, out: &[u64; 7]) -> usize
 }
 
 // The same where an answer may have no numbers.
-pub fn or_none(text: &mut [u8; ROOM], status: u64, out: &[u64; 7]) -> usize
+pub fn or_none(text: &mut [u8; ROOM], status: u64, out: &[u64; ANSWER]) -> usize
     ensures { λ r. ⌜ upTo (now (text .exit)) r ≡ answerOrNoneOn (upTo (now (text .entry)) 0) (answerIn status (toldIn (now (out .entry)))) ⌝ }
 {
     if status != 0 {
@@ -146,7 +147,7 @@ fn says_yes(list: &[u64]) -> bool
 }
 
 // The same where an answer is a yes or no.
-pub fn yes_no(text: &mut [u8; ROOM], status: u64, out: &[u64; 7]) -> usize
+pub fn yes_no(text: &mut [u8; ROOM], status: u64, out: &[u64; ANSWER]) -> usize
     ensures { λ r. ⌜ upTo (now (text .exit)) r ≡ answerYesNoOn (upTo (now (text .entry)) 0) (answerIn status (toldIn (now (out .entry)))) ⌝ }
 {
     if status != 0 {
