@@ -5,7 +5,7 @@ use mathlib.Core.Bool.{Bool, true, false, _&&_}
 use mathlib.Core.List.{List, [], _∷_}
 use mathlib.Core.Option.{Option, none, some}
 use lib.Dec.{lit<}
-use lib.ListN.{length, getD, set}
+use lib.ListN.{length, getD}
 use native.Mathlib.Omega.{arith}
 use Rattle.rules.specs.Basics.{pick}
 use Rattle.rules.specs.Refusals.{number, InvalidState}
@@ -72,11 +72,6 @@ slotWords s =
 
 unfoldable pub putSlot : List ℕ → rules.Slot → List ℕ
 putSlot m s = puts m 0 0 (slotWords s)
-
--- the generation's two words as a stored slot has them
-unfoldable pub keptGeneration : List ℕ → List ℕ
-keptGeneration m =
-    set (set m 2 (hasWord (episodeOf (episodeIn (word m 2) (word m 3))))) 3 (generationWord (episodeOf (episodeIn (word m 2) (word m 3))))
 
 -- the words after a decision: a refused one leaves them
 abbrev pub putIf : List ℕ → rules.Slot → Answer → List ℕ

@@ -1,10 +1,9 @@
 // A child slot as eight words that a host keeps. Any words are read as a slot; what a slot lacks is stored as 0.
 ghost use mathlib.Core.Path.{_≡_};
-ghost use mathlib.Core.Bool.{true};
 ghost use Rattle.rules.specs.Slot as rules;
-ghost use Rattle.slot.specs.Slots.{identityOf, episodeOf, decisionOf, slotOf, verdictOf};
-ghost use Rattle.slots.specs.Words.{slotAt, hasWord, generationWord, decisionWord, childIn, putSlot, keptGeneration, Decides};
-use rules::refusal;
+ghost use Rattle.slot.specs.Slots.{identityOf, episodeOf, decisionOf, slotOf, verdictOf, decidedOf};
+ghost use Rattle.slots.specs.Words.{episodeIn, decisionIn, slotAt, hasWord, generationWord, decisionWord, childIn, putSlot, Decides};
+use slot::Decided;
 use slot::Decision;
 use slot::Episode;
 use slot::Identity;
@@ -13,6 +12,27 @@ use slot::Verdict;
 
 // Domain, parent, whether there is a generation, generation, decision, and the assigned identity's three.
 pub const SLOT: usize = 8;
+
+fn episode_of(has: u64, generation: u64) -> Episode
+    ensures { λ r. ⌜ r ≡ episodeIn has generation ⌝ }
+{
+    match has {
+        0 => Episode::Nowhere,
+        _ => Episode::Of(generation),
+    }
+}
+
+// A decision by its number; any number above 3 is read as 3.
+fn decision_of(w: u64, child: Identity) -> Decision
+    ensures { λ r. ⌜ r ≡ decisionIn w child ⌝ }
+{
+    match w {
+        0 => Decision::Pending,
+        1 => Decision::Assigned(child),
+        2 => Decision::Failed,
+        _ => Decision::Cancelled,
+    }
+}
 
 fn has_word(e: Episode) -> u64
     ensures { λ r. ⌜ r ≡ hasWord (episodeOf e) ⌝ }
@@ -60,6 +80,24 @@ fn child_of(d: Decision) -> Identity
     }
 }
 
+pub fn load(s: &[u64; SLOT]) -> Slot
+    ensures { λ r. ⌜ r ≡ slotAt (now (s .entry)) ⌝ }
+{
+    let child = Identity {
+        domain: s[5],
+        parent: s[6],
+        id: s[7],
+    };
+    let generation = episode_of(s[2], s[3]);
+    let decision = decision_of(s[4], child);
+    Slot {
+        domain: s[0],
+        parent: s[1],
+        generation: generation,
+        decision: decision,
+    }
+}
+
 pub fn store(s: &mut [u64; SLOT], slot: Slot)
     ensures { λ _. ⌜ now (s .exit) ≡ putSlot (now (s .entry)) (slotOf slot) ⌝ }
 {
@@ -79,61 +117,37 @@ pub fn store(s: &mut [u64; SLOT], slot: Slot)
     s[7] = child.id;
 }
 
-// The origin's generation in the words that a stored slot has.
-fn keep_generation(s: &mut [u64; SLOT])
-    ensures { λ _. ⌜ now (s .exit) ≡ keptGeneration (now (s .entry)) ⌝ }
+// A decision that was taken is stored; a refused one stores nothing.
+fn decided(s: &mut [u64; SLOT], d: Decided) -> Verdict
+    ensures { λ r. ⌜ Decides (decidedOf d) (now (s .entry)) (verdictOf r) (now (s .exit)) ⌝ }
 {
-    if s[2] == 0 {
-        s[3] = 0;
-        return;
+    let verdict = d.verdict;
+    match verdict {
+        Verdict::Taken => {
+            store(s, d.slot);
+            verdict
+        }
+        Verdict::Refused(_) => verdict,
     }
-    s[2] = 1;
-}
-
-// The slot with this decision: domain and parent stand already.
-fn decide(s: &mut [u64; SLOT], decision: Decision)
-    ensures { λ _. ⌜ now (s .exit) ≡ putSlot (now (s .entry)) (rules.withDecision (slotOf (slotAt (now (s .entry)))) (decisionOf decision)) ⌝ }
-{
-    keep_generation(s);
-    let state = decision_word(decision);
-    let child = child_of(decision);
-    s[4] = state;
-    s[5] = child.domain;
-    s[6] = child.parent;
-    s[7] = child.id;
-}
-
-// Only a Pending slot takes a decision; a refused one stores nothing.
-fn decided(s: &mut [u64; SLOT], decision: Decision) -> Verdict
-    ensures { λ r. ⌜ Decides (rules.decided (slotOf (slotAt (now (s .entry)))) true (decisionOf decision)) (now (s .entry)) (verdictOf r) (now (s .exit)) ⌝ }
-{
-    if s[4] == 0 {
-        decide(s, decision);
-        return Verdict::Taken;
-    }
-    Verdict::Refused(refusal::INVALID_STATE)
 }
 
 pub fn assign(s: &mut [u64; SLOT], child: Identity) -> Verdict
     ensures { λ r. ⌜ Decides (rules.assign (slotOf (slotAt (now (s .entry)))) (identityOf child)) (now (s .entry)) (verdictOf r) (now (s .exit)) ⌝ }
 {
-    if child.domain != s[0] {
-        return Verdict::Refused(refusal::INVALID_STATE);
-    }
-    if child.parent != s[1] {
-        return Verdict::Refused(refusal::INVALID_STATE);
-    }
-    decided(s, Decision::Assigned(child))
+    let slot = load(s);
+    decided(s, slot.assign(child))
 }
 
 pub fn reject(s: &mut [u64; SLOT]) -> Verdict
     ensures { λ r. ⌜ Decides (rules.reject (slotOf (slotAt (now (s .entry))))) (now (s .entry)) (verdictOf r) (now (s .exit)) ⌝ }
 {
-    decided(s, Decision::Failed)
+    let slot = load(s);
+    decided(s, slot.reject())
 }
 
 pub fn cancel(s: &mut [u64; SLOT]) -> Verdict
     ensures { λ r. ⌜ Decides (rules.cancel (slotOf (slotAt (now (s .entry))))) (now (s .entry)) (verdictOf r) (now (s .exit)) ⌝ }
 {
-    decided(s, Decision::Cancelled)
+    let slot = load(s);
+    decided(s, slot.cancel())
 }

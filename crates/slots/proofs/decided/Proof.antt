@@ -1,20 +1,23 @@
-use Rattle.slots.proofs.Laws.{pending-takes, decided-stays}
-use native.Mathlib.Omega.{arith}
+-- `decided` meets its contract. Assumes nothing.
+use Rattle.slots.proofs.Laws.{taken, refused}
 use borrow.Author.Needs.{needs}
 use Rattle.slots.proofs.decided.Statement.{statement}
 use Rattle.slots.proofs.decided.Tie as tie
 
-element-copy-out-if1 : tie.Need-element-copy-out-if1
-element-copy-out-if1 c = search needs
+enum-told : tie.Need-enum-told
+enum-told c = search needs
 
-decide-requires : tie.Need-decide-requires
-decide-requires c κs = search needs
+store-requires : tie.Need-store-requires
+store-requires c κs = search needs
+
+enum-told-2 : tie.Need-enum-told-2
+enum-told-2 c = search needs
 
 returns : tie.Need-returns
-returns c = pending-takes _ _ _ (c .before .before .if1 .taken) (c .decide .ensures)
+returns c = taken (c .before .before .before .before .args .d) _ _ (c .before .before .enum-told .given .1) (c .store .ensures)
 
 returns-2 : tie.Need-returns-2
-returns-2 c = decided-stays _ _ (c .if1 .left)
+returns-2 c = refused (c .before .before .args .d) _ _ (c .enum-told2 .given .1)
 
 pub decided-spec : {M : Type 1} → statement M
-decided-spec = tie.close (tie.spec element-copy-out-if1 decide-requires returns returns-2)
+decided-spec = tie.close (tie.spec enum-told store-requires enum-told-2 returns returns-2)
