@@ -1,6 +1,8 @@
 // Document 01, "Child slot": a slot goes in and comes back as a plain value. A decision never changes.
 ghost use mathlib.Core.Path.{_≡_};
 ghost use mathlib.Core.Bool.{true};
+ghost use mathlib.Core.List.{[]};
+ghost use Rattle.rules.specs.Outcomes.{Accepted};
 ghost use Rattle.rules.specs.Slot as rules;
 ghost use Rattle.slot.specs.Slots.{slotOf, identityOf, decisionOf, decidedOf, refusedOf};
 use rules::refusal;
@@ -103,8 +105,21 @@ impl Slot {
     fn decided(self, next: Decision) -> Decided
         ensures { λ r. ⌜ decidedOf r ≡ rules.decided (slotOf self) true (decisionOf next) ⌝ }
     {
+        let standing = self.decision;
+        match standing {
+            Decision::Pending => self.taking(next),
+            Decision::Assigned(_) => self.refused(),
+            Decision::Failed => self.refused(),
+            Decision::Cancelled => self.refused(),
+        }
+    }
+
+    // The slot with the decision.
+    fn taking(self, next: Decision) -> Decided
+        ensures { λ r. ⌜ decidedOf r ≡ record { slot = rules.withDecision (slotOf self) (decisionOf next); answer = Accepted [] } ⌝ }
+    {
         let generation = self.generation;
-        let taken = Decided {
+        Decided {
             slot: Slot {
                 domain: self.domain,
                 parent: self.parent,
@@ -112,14 +127,6 @@ impl Slot {
                 decision: next,
             },
             verdict: Verdict::Taken,
-        };
-        let kept = self.refused();
-        let standing = self.decision;
-        match standing {
-            Decision::Pending => taken,
-            Decision::Assigned(_) => kept,
-            Decision::Failed => kept,
-            Decision::Cancelled => kept,
         }
     }
 }

@@ -30,10 +30,10 @@ unfolding putSlot
 words-stored m s a g d k e f h i = rw (e, f, h, i)
 
 module _ (d : Decided) (m : List ℕ) where
-  pub taken : (m′ : List ℕ) → d .verdict ≡ Taken → m′ ≡ putSlot m (slotOf (d .slot)) → Decides (decidedOf d) m (verdictOf (d .verdict)) m′
+  pub taken : (m′ : List ℕ) → d .verdict ≡ Taken → m′ ≡ putSlot m (slotOf (d .slot)) → Decides (decidedOf d) m (verdictOf Taken) m′
   unfolding slotAfter
-  taken m′ e p = (refl, rw e p)
+  taken m′ e p = (rw e, rw e p)
 
-  pub refused : (n : ℕ) → d .verdict ≡ Refused n → Decides (decidedOf d) m (verdictOf (d .verdict)) m
+  pub refused : (n : ℕ) → d .verdict ≡ Refused n → Decides (decidedOf d) m (verdictOf (Refused n)) m
   unfolding slotAfter
-  refused n e = (refl, rw e)
+  refused n e = (rw e, rw e)

@@ -125,9 +125,9 @@ fn decided(s: &mut [u64; SLOT], d: Decided) -> Verdict
     match verdict {
         Verdict::Taken => {
             store(s, d.slot);
-            verdict
+            Verdict::Taken
         }
-        Verdict::Refused(_) => verdict,
+        Verdict::Refused(why) => Verdict::Refused(why),
     }
 }
 
