@@ -3,18 +3,19 @@ use Prim.Native.Nat.{ℕ, _≤_}
 use native.Mathlib.Omega.{arith}
 use mathlib.Core.Path.{_≡_, refl, sym, ap, _∙_, subst}
 use mathlib.Core.Bool.{Bool, true, false, not, _&&_, _||_, true≢false, and-true, and-assoc, Bool·not-not}
-use mathlib.Core.List.{List, [], _∷_}
+use mathlib.Core.List.{List, [], _∷_, map}
 use mathlib.Core.Option.{Option, none, some}
+use mathlib.Core.Logic.{inl, inr}
 use lib.Dec.{eqb, ltb}
 use borrow.Author.Tests.{eqb-true, eqb-false, lt-ltb, le-ltb}
-use Rattle.rules.specs.Basics.{holds, last}
+use Rattle.rules.specs.Basics.{holds}
 use Rattle.rules.specs.Holds.{Plugin, Registry, lookup}
 use Rattle.rules.specs.Refusals.{number}
-use Rattle.rules.specs.Outcomes.{Accepted, Outcome, refuses, stores, answerOf, after, Check, checked, found, known}
+use Rattle.rules.specs.Outcomes.{Refused, Accepted, Outcome, stores, answerOf, after, Check, checked, found, known}
 use Rattle.rules.specs.Admission.{isAccepted}
-use Rattle.rules.specs.Retirement.{identity}
 use Rattle.rules.specs.Laws.Tests.{by-test, Passed, checked-elim, found-elim}
 use Rattle.rules.specs.Laws.Lookups.{lookup-id}
+use Rattle.rules.specs.Laws.Members.{In}
 use Rattle.rules.specs.Kept.Places.{Only, only-stored}
 use Rattle.rules.specs.Kept.Plugins.{Alike}
 
@@ -46,6 +47,17 @@ checked-done cs u e = checked-accepted cs u ∙ ap (λ b. passed cs && b) e ∙ 
 -- all of it, for simp
 pub ruleset exact = (checked-done, checked-accepted, found-accepted, Bool·not-not, neither-of, and-true, and-assoc)
 
+-- A refusal has the number of one of the checks.
+abbrev pub numbers : List Check → List ℕ
+numbers cs = map (λ (c : Check). number (c .refusal)) cs
+
+pub refused-among : (cs : List Check) (u : Outcome) (n : ℕ) (vs : List ℕ) → accepted u ≡ true → answerOf (checked cs u) ≡ Refused n vs → In n (numbers cs)
+unfolding checked
+refused-among [] u n vs a e = absurd (true≢false (sym a ∙ ap isAccepted e))
+refused-among (c ∷ cs) u n vs a e = by-test (c .test)
+    (λ y. let i : Refused (number (c .refusal)) [] ≡ Refused n vs = rw y at e in let j : number (c .refusal) ≡ n = cc in inl j)
+    (λ z. inr (refused-among cs u n vs a (rw z at e)))
+
 -- a test that holds of what there may be holds of what there is
 pub held-by : {A : Type 0} (f : A → Bool) (u : Option A) → holds f u ≡ true → (a : A) × (u ≡ some a) × (f a ≡ true)
 held-by f none e = absurd (true≢false (sym e))
@@ -57,15 +69,19 @@ below n m l = by-test (eqb n m)
     (λ y. let i = eqb-true n m y in rw y (sym (le-ltb n m (omega arith))))
     (λ y. let i = eqb-false n m y in rw y (sym (lt-ltb n m (omega arith))))
 
--- What an accepted operation does to the plugin under id: it answers vs of it, and f of it stands there afterwards.
--- R same_identity: what registration fixed stays. Nothing else changes.
-pub record Effect (r : Registry) (id : ℕ) (vs : Plugin → List ℕ) (f : Plugin → Plugin) (u : Outcome) : Type 0 where
-  pub was : Plugin
-  pub answer : answerOf u ≡ Accepted (vs was)
-  pub only : Only r (after r u) id (some was) (some (f was))
+-- Where one plugin was, another one stands under its id; vs is answered. R same_identity: what registration fixed stays.
+-- Nothing else changes.
+pub record Turns (r : Registry) (id : ℕ) (was stands : Plugin) (vs : List ℕ) (u : Outcome) : Type 0 where
+  pub answer : answerOf u ≡ Accepted vs
+  pub only : Only r (after r u) id (some was) (some stands)
   pub domain : after r u .domain ≡ r .domain
   pub next : after r u .next ≡ r .next
-  pub identity : Alike was (f was)
+  pub identity : Alike was stands
+
+-- What an accepted operation does to the plugin under id: it answers vs of it, and f of it stands there afterwards.
+pub record Effect (r : Registry) (id : ℕ) (vs : Plugin → List ℕ) (f : Plugin → Plugin) (u : Outcome) : Type 0 where
+  pub was : Plugin
+  pub turns : Turns r id was (f was) (vs was) u
 
 -- if it is accepted
 abbrev pub When : (Outcome → Type 0) → Outcome → Type 0
@@ -85,7 +101,10 @@ module _ (r : Registry) where
       let i = h ∙ lookup-id r id p e in
       subst (λ x. Only r (after r (stores q vs)) x (some p) (some q)) i (only-stored r vs p q (rw i e))
 
+  pub turned : (id : ℕ) (p q : Plugin) (vs : List ℕ) → lookup r id ≡ some p → Alike p q → Turns r id p q vs (stores q vs)
+  unfolding after
+  turned id p q vs e a = record { answer = refl; only = stored-under id p q vs e (a .id); domain = refl; next = refl; identity = a }
+
   pub has-effect : (id : ℕ) (vs : Plugin → List ℕ) (f : Plugin → Plugin) (p : Plugin) → lookup r id ≡ some p → Alike p (f p)
       → Effect r id vs f (stores (f p) (vs p))
-  unfolding after
-  has-effect id vs f p e a = record { was = p; answer = refl; only = stored-under id p (f p) (vs p) e (a .id); domain = refl; next = refl; identity = a }
+  has-effect id vs f p e a = record { was = p; turns = turned id p (f p) (vs p) e a }

@@ -2,21 +2,19 @@
 use Prim.Native.Nat.{ℕ}
 use mathlib.Core.Path.{_≡_, refl, sym, ap, _∙_}
 use mathlib.Core.Bool.{Bool, true, false, not, _&&_, _||_, true≢false, and-false, or-false, or-true, or-assoc, and-or-distrib-left}
-use mathlib.Core.List.{List, [], _∷_, _++_, map}
-use mathlib.Core.Option.{none, some}
-use mathlib.Core.Logic.{inl, inr}
+use mathlib.Core.List.{List, [], _∷_, _++_, map, append-nil, append-assoc}
+use mathlib.Core.Logic.{inl, inr, _↔_}
 use lib.Dec.{eqb}
 use borrow.Author.Tests.{eqb-true, eqb-false, eq-eqb, ne-eqb}
-use Rattle.rules.specs.Basics.{pick, any, holds, one}
+use Rattle.rules.specs.Basics.{pick, any}
 use Rattle.rules.specs.declared.Port.{Port}
-use Rattle.rules.specs.Holds.{Realms, provided, samePort, isIn}
+use Rattle.rules.specs.Holds.{Realms, samePort, isIn}
 use Rattle.rules.specs.Ports.{flat, resolve}
 use Rattle.rules.specs.Dependencies.{candidates, skipped, inherit, dependencyList, firstPort}
 use Rattle.rules.specs.Registration.{repeats}
 use Rattle.rules.specs.Values.{isEmpty}
 use Rattle.rules.specs.Laws.Tests.{by-test, neither}
-use Rattle.rules.specs.Laws.Members.{In, same-port}
-use Rattle.rules.specs.Kept.Plugins.{alike}
+use Rattle.rules.specs.Laws.Members.{In, same-port, is-in}
 
 pub any-append : {A : Type 0} (f : A → Bool) (l m : List A) → any f (l ++ m) ≡ (any f l || any f m)
 any-append f [] m = refl
@@ -32,6 +30,14 @@ same-swap p q = rw (eqb-swap (p .key) (q .key), eqb-swap (p .realm) (q .realm))
 
 pub same-self : (p : Port) → samePort p p ≡ true
 same-self p = rw (eq-eqb (p .key) (p .key) refl, eq-eqb (p .realm) (p .realm) refl)
+
+-- R has_port, S declares: the test is membership.
+pub is-in-exactly : (k : Port) (l : List Port) → isIn k l ≡ true ↔ In k l
+is-in-exactly k l = (is-in k l, into l)
+  where
+    into : (l : List Port) → In k l → isIn k l ≡ true
+    into (x ∷ l) (inl i) = rw (ap (samePort k) i ∙ same-self k)
+    into (x ∷ l) (inr m) = rw (into l m, or-true)
 
 -- a port is appended unless a test holds
 appended : (c : Bool) (l : List Port) (p q : Port) → isIn p (pick c l (l ++ q ∷ [])) ≡ (isIn p l || (not c && samePort p q))
@@ -70,6 +76,32 @@ pub dependencies-in : (z : Realms) (provisions : List Port) (keys : List ℕ) (p
 unfolding dependencyList
 dependencies-in z provisions keys parents p = inherit-in provisions (candidates z parents) _ p ∙ rw candidates-in
 
+-- R distinct_ports, as far as can be seen: no two places of the list hold the same port. So behind a port it does not stand again,
+pub distinct-apart : (before behind : List Port) (q : Port) → repeats (before ++ q ∷ behind) ≡ false → isIn q behind ≡ false
+distinct-apart [] behind q e = neither (isIn q behind) (repeats behind) e .0
+distinct-apart (x ∷ before) behind q e =
+    distinct-apart before behind q (neither (isIn x (before ++ q ∷ behind)) (repeats (before ++ q ∷ behind)) e .1)
+
+-- .. and where ports repeat, one does.
+pub record Twice (l : List Port) : Type 0 where
+  pub before : List Port
+  pub behind : List Port
+  pub port : Port
+  pub split : l ≡ before ++ port ∷ behind
+  pub again : isIn port behind ≡ true
+
+pub repeats-twice : (l : List Port) → repeats l ≡ true → Twice l
+repeats-twice [] e = absurd (true≢false (sym e))
+repeats-twice (x ∷ l) e = by-test (isIn x l)
+    (λ y. record { before = []; behind = l; port = x; split = refl; again = y })
+    (λ n. let w = repeats-twice l (rw n at e) in record {
+      before = x ∷ w .before;
+      behind = w .behind;
+      port = w .port;
+      split = ap (λ m. x ∷ m) (w .split);
+      again = w .again;
+    })
+
 regroup : (a b c d : Bool) → ((a || (b || false)) || (c || d)) ≡ ((a || c) || (b || d))
 regroup true b c d = refl
 regroup false true c d = sym (or-true c)
@@ -94,6 +126,18 @@ pub dependencies-distinct : (z : Realms) (provisions : List Port) (keys : List �
     → repeats (dependencyList z provisions keys parents) ≡ repeats (map (resolve z) keys)
 unfolding dependencyList
 dependencies-distinct z provisions keys parents = inherit-distinct provisions (candidates z parents) _
+
+-- R resolve_keys, and the comment on dependency_port: the declared keys resolved, in order, and only then what is inherited.
+inherit-keeps : (provisions cs l : List Port) → (m : List Port) × (inherit provisions cs l ≡ l ++ m)
+inherit-keeps provisions [] l = ([], sym (append-nil l))
+inherit-keeps provisions (q ∷ qs) l = by-test (skipped provisions l q)
+    (λ y. rw y (inherit-keeps provisions qs l))
+    (λ n. let (m, e) = inherit-keeps provisions qs (l ++ q ∷ []) in (q ∷ m, rw n (e ∙ append-assoc l (q ∷ []) m)))
+
+pub declared-first : (z : Realms) (provisions : List Port) (keys : List ℕ) (parents : List Port)
+    → (m : List Port) × (dependencyList z provisions keys parents ≡ map (resolve z) keys ++ m)
+unfolding dependencyList
+declared-first z provisions keys parents = inherit-keeps provisions (candidates z parents) (map (resolve z) keys)
 
 -- The first of a list that passes a test: where it stands.
 pub record First {A : Type 0} (f : A → Bool) (l : List A) (a : A) : Type 0 where

@@ -1,6 +1,12 @@
 pub mod Accepted
-pub mod Operations
-pub mod Registration
-pub mod Children
+pub mod Opening
+pub mod Ports
 pub mod Dependencies
+pub mod Registration
+pub mod Replacement
+pub mod Admission
 pub mod Values
+pub mod Phases
+pub mod Retirement
+pub mod Lists
+pub mod Slot

@@ -2,23 +2,27 @@
 use Prim.Native.Nat.{ℕ, _+_, _≤_}
 use native.Mathlib.Omega.{arith}
 use native.Mathlib.Nat.{le-refl}
-use mathlib.Core.Path.{_≡_, refl, _∙_}
-use mathlib.Core.Bool.{Bool, true, not, _&&_, _||_, and-true, and-assoc}
+use mathlib.Core.Path.{_≡_, refl, sym, _∙_, subst}
+use mathlib.Core.Bool.{Bool, true, not, _&&_, _||_, and-true, and-assoc, or-true}
 use mathlib.Core.List.{[], _∷_, map-map, map-id}
 use mathlib.Core.Option.{Option, none, some}
+use mathlib.Core.Logic.{_⊎_, inl, inr, ⊎-elim, _↔_}
 use lib.Dec.{ltb, leb}
 use lib.ListN.{length}
 use Rattle.rules.specs.Basics.{any, isSome, isNone, holds, last}
-use Rattle.rules.specs.Holds.{Provision, Plugin, Registry, lookup, provider, provided, count, rowsInUse, rowsOf, isUnloading}
-use Rattle.rules.specs.Refusals.{number}
+use Rattle.rules.specs.declared.Port.{Port}
+use Rattle.rules.specs.Holds.{Provision, Plugin, Registry, lookup, provider, provided, provides, isIn, count, rowsInUse, rowsOf, isUnloading}
 use Rattle.rules.specs.Outcomes.{Accepted, Outcome, answerOf, after}
 use Rattle.rules.specs.Ports.{badRealms, pairs}
 use Rattle.rules.specs.Registration.{Definition, parentOf, resolved, claimed, repeats, unoffered, dependenciesOf, newPlugin, registrationChecks, register}
+use Rattle.rules.specs.Laws.Tests.{by-test}
+use Rattle.rules.specs.Laws.Members.{In, same-port, is-in}
 use Rattle.rules.specs.Built.{Built}
 use Rattle.rules.specs.Kept.Places.{Only, only-added}
 use Rattle.rules.specs.Kept.Moves.{fresh}
 use Rattle.rules.specs.Kept.New.{new-joins}
 use Rattle.upstream.specs.Accepted.{accepted, checked-accepted, below, When, when-passed}
+use Rattle.upstream.specs.Dependencies.{same-self, is-in-exactly}
 
 -- What R promises of a new plugin.
 pub record Registered (r : Registry) (d : Definition) (u : Outcome) : Type 0 where
@@ -93,3 +97,12 @@ module _ (r : Registry) (d : Definition) where
         revision = refl;
         payload = refl;
       }
+
+-- R register_plugin, of the new fiber: it provides its provisions and its anchor.
+pub provides-exactly : (p : Plugin) (q : Port) → provides p q ≡ true ↔ (In q (provided p) ⊎ (q ≡ p .anchor))
+provides-exactly p q = (
+  λ t. by-test (isIn q (provided p))
+      (λ y. inl (is-in q (provided p) y))
+      (λ n. inr (sym (same-port q (p .anchor) (rw n at t)))),
+  ⊎-elim (λ m. rw (is-in-exactly q (provided p) .1 m)) (λ i. subst (λ k. provides p k ≡ true) (sym i) (rw (same-self (p .anchor), or-true))),
+)

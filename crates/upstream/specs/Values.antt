@@ -8,7 +8,7 @@ use mathlib.Core.Option.{Option, none, some}
 use mathlib.Core.Logic.{_⊎_, inl, inr, ⊎-elim, _↔_}
 use lib.Dec.{eqb}
 use borrow.Author.Tests.{not-false}
-use Rattle.rules.specs.Basics.{pick, any, isSome, isNone, holds, sameNumbers, yesNo, one}
+use Rattle.rules.specs.Basics.{pick, any, all, isSome, isNone, holds, sameNumbers, yesNo, one}
 use Rattle.rules.specs.declared.Port.{Port}
 use Rattle.rules.specs.declared.Phase.the-variants.{Active}
 use Rattle.rules.specs.Holds.{Provision, Registry, Plugin, plugins, lookup, provider, provided, provides, samePort, isIn}
@@ -16,15 +16,15 @@ use Rattle.rules.specs.Holds.{isLoading, isActive, running, withProvisions}
 use Rattle.rules.specs.Outcomes.{Refused, Accepted, Outcome, answerOf, checked, found}
 use Rattle.rules.specs.Ports.{pairs, oddLength, flat, samePorts}
 use Rattle.rules.specs.Registration.{repeats}
-use Rattle.rules.specs.Values.{valueIn, offered, offer, isEmpty, firstMissing, matching, declares, given, served, read, seen, visible}
-use Rattle.rules.specs.Laws.Tests.{by-test, both, neither}
+use Rattle.rules.specs.Values.{valueIn, offered, offer, own, isEmpty, firstMissing, matching, declares, given, served, read, seen, visible}
+use Rattle.rules.specs.Laws.Tests.{by-test, both, neither, found-elim}
 use Rattle.rules.specs.Laws.Members.{In, same-port, is-in, any-false, first-in, first-none, lookup-in}
 use Rattle.rules.specs.Laws.Table.{is-active}
 use Rattle.rules.specs.Demand3.Lives.{same-true, same-of}
 use Rattle.rules.specs.Built.{Built}
 use Rattle.rules.specs.Kept.Plugins.{alike}
-use Rattle.upstream.specs.Accepted.{accepted, exact, held-by, Effect, has-effect, When, when-passed, when-known}
-use Rattle.upstream.specs.Dependencies.{same-swap, same-self, First, firstOf, firstOf-none, firstOf-some}
+use Rattle.upstream.specs.Accepted.{accepted, exact, refused-among, held-by, Effect, has-effect, When, when-passed, when-known}
+use Rattle.upstream.specs.Dependencies.{same-swap, same-self, is-in-exactly, First, firstOf, firstOf-none, firstOf-some}
 
 -- The ports of provisions.
 abbrev pub ports : List Provision → List Port
@@ -69,6 +69,22 @@ module _ (r : Registry) (id : ℕ) (q : Port) (n : ℕ) where
   unfolding offer
   offer-effect = when-known r (Effect r _ _ _) _ _ λ p e. when-passed (Effect r _ _ _) _ _ λ _ _.
       has-effect r _ _ _ p e (alike p (map-map _ (offered q n) (p .provisions)))
+
+-- S own: the plugin's own value for the port, or none.
+pub own-value : (r : Registry) (id : ℕ) (q : Port) (p : Plugin) → lookup r id ≡ some p → answerOf (own r id q) ≡ Accepted (one (valueIn q (p .provisions)))
+unfolding own found
+own-value r id q p e = rw e
+
+-- Where no provision has a value, no port has one.
+pub valueless : (vs : List Provision) → all (λ (v : Provision). isNone (v .value)) vs ≡ true → (q : Port) → valueIn q vs ≡ none
+valueless [] e q = refl
+valueless (v ∷ vs) e q =
+    let c = both (isNone (v .value)) _ e in
+    by-test (samePort q (v .port)) (λ y. rw y (absent (v .value) (c .0))) (λ n. rw n (valueless vs (c .1) q))
+  where
+    absent : (u : Option ℕ) → isNone u ≡ true → u ≡ none
+    absent none t = refl
+    absent (some x) t = absurd (true≢false (sym t))
 
 -- S missing: none exactly if no provision lacks a value (complete); otherwise the first that lacks one.
 abbrev pub lacks : Provision → Bool
@@ -121,14 +137,6 @@ unfolding matching found
 matches-provisions r id l p e = rw (e, matching-numbers l (provided p))
     (λ a. same-true l (flat (provided p)) (says-yes _ a), λ i. rw (same-of l (flat (provided p)) i))
 
--- R has_port, S declares: the test is membership.
-pub is-in-exactly : (k : Port) (l : List Port) → isIn k l ≡ true ↔ In k l
-is-in-exactly k l = (is-in k l, into l)
-  where
-    into : (l : List Port) → In k l → isIn k l ≡ true
-    into (x ∷ l) (inl i) = rw (ap (samePort k) i ∙ same-self k)
-    into (x ∷ l) (inr m) = rw (into l m, or-true)
-
 -- S declares_service: yes exactly if the port is a provision, or the plugin runs and it is a dependency.
 pub declares-service : (r : Registry) (id : ℕ) (q : Port) (p : Plugin) → lookup r id ≡ some p
     → answerOf (declares r id q) ≡ Accepted (1 ∷ []) ↔ (In q (provided p) ⊎ ((running p ≡ true) × In q (p .dependencies)))
@@ -141,7 +149,7 @@ declares-service r id q p e = rw e (
 )
 
 -- On a built registry a registered plugin that provides a port is its provider.
-provider-is : (r : Registry) → Built r → (q : Port) (p : Plugin) → In p (plugins r) → provides p q ≡ true → provider r q ≡ some p
+pub provider-is : (r : Registry) → Built r → (q : Port) (p : Plugin) → In p (plugins r) → provides p q ≡ true → provider r q ≡ some p
 unfolding provider
 provider-is r b q p m g = go (provider r q) refl
   where
@@ -175,7 +183,8 @@ visible-exactly r b q n = (go (provider r q) refl, λ w. rw (provider-is r b q (
     go (some p) e a =
         let w = first-in (λ p. provides p q) (plugins r) p e in
         by-test (isActive (p .phase))
-        (λ y. record { plugin = p; registered = w .0; gives = w .1; active = is-active (p .phase) y; value = one-value (valueIn q (p .provisions)) (rw y at a) })
+        (λ y. let i = one-value (valueIn q (p .provisions)) (rw y at a) in
+        record { plugin = p; registered = w .0; gives = w .1; active = is-active (p .phase) y; value = i })
         (λ m. let h : Accepted [] ≡ Accepted (n ∷ []) = rw m at a in let z : _≡_ {A = ℕ} 0 1 = cc in absurd (omega arith))
 
 -- S read: what an accepted read tells.
@@ -212,6 +221,13 @@ module _ (r : Registry) (id : ℕ) (q : Port) where
       → holds (λ b. isSome (valueIn q (b .provisions))) (provider r q) ≡ false → answerOf (read r id q) ≡ Refused 22 []
   unfolding read found checked
   read-missing p e y m n = let i = not-false (isEmpty (served q (provider r q))) (valued (provider r q) ∙ n) in rw e (rw (y, m, i))
+
+  -- .. it is refused with no number but these;
+  pub read-refusals : (n : ℕ) (vs : List ℕ) → answerOf (read r id q) ≡ Refused n vs → In n (1 ∷ 19 ∷ 20 ∷ 22 ∷ [])
+  unfolding read
+  read-refusals n vs = found-elim (λ u. answerOf u ≡ Refused n vs → In n (1 ∷ 19 ∷ 20 ∷ 22 ∷ [])) (lookup r id) _
+      (λ e. let j : _≡_ {A = ℕ} 1 n = cc in inl j)
+      (λ p e f. inr (refused-among _ _ n vs refl f))
 
   -- .. and then it answers the value and the provider's id.
   pub read-tells : When (Reads r id q) (read r id q)
