@@ -15,6 +15,7 @@ pub mod Slot
 pub mod Queries
 pub mod Steps
 pub mod Examples
+pub mod Reached
 pub mod Demand1
 pub mod History
 pub mod Laws
