@@ -1,5 +1,5 @@
 -- Tests and lists, as the rules use them. Nothing here is of document 01.
-use Prim.Native.Nat.{ℕ}
+use Prim.Native.Nat.{ℕ, _+_}
 use mathlib.Core.Bool.{Bool, true, false, _&&_, _||_}
 use mathlib.Core.List.{List, [], _∷_}
 use mathlib.Core.Option.{Option, none, some}
@@ -44,6 +44,15 @@ sameNumbers [] [] = true
 sameNumbers [] (y ∷ ys) = false
 sameNumbers (x ∷ xs) [] = false
 sameNumbers (x ∷ xs) (y ∷ ys) = eqb x y && sameNumbers xs ys
+
+-- two of the numbers are alike
+abbrev pub twice : List ℕ → Bool
+twice [] = false
+twice (n ∷ ns) = any (eqb n) ns || twice ns
+
+abbrev pub sum : {A : Type 0} → (A → ℕ) → List A → ℕ
+sum f [] = 0
+sum f (x ∷ xs) = f x + sum f xs
 
 -- no and yes, as numbers
 abbrev pub yesNo : Bool → ℕ

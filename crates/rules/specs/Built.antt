@@ -2,21 +2,22 @@
 use Prim.Native.Nat.{ℕ, _≤_, _<_}
 use mathlib.Core.Path.{_≡_}
 use mathlib.Core.Bool.{Bool, true, false}
-use mathlib.Core.List.{List, [], _∷_}
+use mathlib.Core.List.{List, [], _∷_, map}
 use mathlib.Core.Option.{Option, none, some}
 use lib.ListN.{length}
-use Rattle.rules.specs.Basics.{all, any, isNone, isSome, last}
-use Rattle.rules.specs.Holds.{Port, Provision, Plugin, Registry, plugins, provided, provides, running, lookup, rowsInUse}
+use Rattle.rules.specs.Basics.{all, any, isNone, isSome, twice, last}
+use Rattle.rules.specs.Holds.{Port, Provision, Plugin, Registry, plugins, provided, provides, running, lookup, rowsInUse, defaultRealm}
 use Rattle.rules.specs.Holds.{Idle, Active, isIdle, Unissued, Queued, Spent}
 use Rattle.rules.specs.Ports.{rising, resolve}
 use Rattle.rules.specs.Registration.{repeats}
 use Rattle.rules.specs.Laws.Members.{In}
 
--- What registration fixes of a plugin: the limits on its lists, realm keys that rise strictly, and ports that are
--- different and have the realm that their key resolves to.
+-- What registration fixes of a plugin: the limits on its lists, realm keys that rise strictly, realm 0 for any other key, and ports
+-- that are different and have the realm that their key resolves to.
 pub record Shaped (p : Plugin) : Type 0 where
   pub realm-rows : length (p .realms .rows) ≤ 16
   pub rise : rising (p .realms .rows) ≡ true
+  pub default : p .realms .other ≡ defaultRealm
   pub provisions : length (p .provisions) ≤ 15
   pub dependencies : length (p .dependencies) ≤ 48
   pub resolved : (q : Port) → In q (provided p) → resolve (p .realms) (q .key) ≡ q
@@ -53,8 +54,6 @@ pub record Wanted (r : Registry) (k : Port) : Type 0 where
 
 -- Who provides what.
 pub record Wired (r : Registry) : Type 0 where
-  -- an id stands in one place only
-  pub distinct : (a : Plugin) → In a (plugins r) → lookup r (a .id) ≡ some a
   -- each dependency of a Loading or Active plugin has an Active provider
   pub served : (k : Port) → Wanted r k → Served r k
   -- two providers of a port are one
@@ -69,10 +68,15 @@ pub record Member (r : Registry) (a : Plugin) : Type 0 where
   pub shaped : Shaped a
   pub lively : Lively a
 
+abbrev pub idsOf : List Plugin → List ℕ
+idsOf ps = map (λ (p : Plugin). p .id) ps
+
 pub record Built (r : Registry) : Type 0 where
   pub room : length (r .places) ≡ 32
   pub first : r .first ≤ r .next
   pub next : r .next ≤ last
   pub rows : rowsInUse r ≤ 1024
+  -- no id stands in two places
+  pub once : twice (idsOf (plugins r)) ≡ false
   pub members : (a : Plugin) → In a (plugins r) → Member r a
   pub wired : Wired r

@@ -12,21 +12,21 @@ pub mod Operations
 use Prim.Native.Nat.{ℕ, _≤_}
 use native.Mathlib.Omega.{arith}
 use native.Mathlib.Nat.{le-refl}
-use mathlib.Core.Path.{_≡_, refl}
+use mathlib.Core.Path.{_≡_, refl, ap}
 use mathlib.Core.Bool.{true}
 use mathlib.Core.List.{List, [], _∷_, _++_}
 use mathlib.Core.Option.{some}
 use mathlib.Core.Logic.{_≢_}
 use Rattle.rules.specs.Basics.{last}
 use Rattle.rules.specs.Holds.{Port, Plugin, Registry, opened, lookup, provides, rowsInUse, Queued}
-use Rattle.rules.specs.Outcomes.{Outcome, refuses, answers, writes, stores, adds, removes, answerOf, after}
+use Rattle.rules.specs.Outcomes.{Accepted, Outcome, refuses, answers, writes, stores, adds, removes, answerOf, after}
 use Rattle.rules.specs.Steps.{Op, Run, step, afterStep, goOn, goOnWith, run, runFresh}
-use Rattle.rules.specs.History.{noted}
+use Rattle.rules.specs.Acts.{Act, begins, stays, act}
 use Rattle.rules.specs.Demand3.{Start}
 use Rattle.rules.specs.Built.{Served, Wanted, Built}
 use Rattle.rules.specs.Kept.Moves.{turn-built, join-built, leave-built, fresh}
 use Rattle.rules.specs.Kept.Ids.{issuedBy, issuedIds, Rise, none-issued, one-issued}
-use Rattle.rules.specs.Kept.Operations.{Lawful, lawful}
+use Rattle.rules.specs.Kept.Operations.{Dated, Lawful, lawful}
 
 -- An opening is Built, every operation keeps that, and so does every sequence.
 pub opened-built : (d f : ℕ) → f ≤ last → Built (opened d f)
@@ -36,9 +36,9 @@ opened-built d f l = record {
   first = le-refl _;
   next = l;
   rows = omega arith;
+  once = refl;
   members = λ a m. absurd m;
   wired = record {
-    distinct = λ a m. absurd m;
     served = λ k want. let i = want .registered in let z : _≡_ {A = ℕ} 0 1 = cc in absurd (omega arith);
     sole = λ x y p q k i j a b. cc;
   };
@@ -49,9 +49,9 @@ unfolding Lawful after
 outcome-built r b o (refuses x vs) w = b
 outcome-built r b o (answers vs) w = b
 outcome-built r b o (writes place l vs) w = b
-outcome-built r b o (stores q vs) w = turn-built r b (w .1) q (w .2) (w .3) vs
-outcome-built r b o (adds q vs) w = join-built r b q (w .1) vs
-outcome-built r b o (removes id vs) w = leave-built r b id (w .1) (w .2) (w .3) vs
+outcome-built r b o (stores q vs) w = turn-built r b (w .0) q (w .2) (w .3) vs
+outcome-built r b o (adds q vs) w = join-built r b q (w .4) vs
+outcome-built r b o (removes id vs) w = leave-built r b id (w .0) (w .2) (w .3) vs
 
 pub step-built : (r : Registry) → Built r → (o : Op) → Built (afterStep r o)
 step-built r b o = outcome-built r b o (step r o) (lawful r o)
@@ -79,14 +79,18 @@ built-start r b n = record { room = b .room; fresh = fresh r b; unqueued = n }
 
 -- Ids rise and are never given twice, in any run.
 outcome-rises : (m : ℕ) (r : Registry) (o : Op) (u : Outcome) → Lawful r o u → (ids : List ℕ) → Rise m (r .next) ids
-    → Rise m (after r u .next) (issuedBy (noted o (answerOf u)) ++ ids)
+    → Rise m (after r u .next) (issuedBy (answerOf u) (act o) ++ ids)
 unfolding Lawful after
 outcome-rises m r o (refuses x vs) w ids i = i
-outcome-rises m r o (answers vs) w ids i = none-issued m (r .next) ids _ i w
-outcome-rises m r o (writes place l vs) w ids i = none-issued m (r .next) ids _ i w
-outcome-rises m r o (stores q vs) w ids i = none-issued m (r .next) ids _ i (w .0)
-outcome-rises m r o (adds q vs) w ids i = one-issued m (r .next) ids _ i (w .0)
-outcome-rises m r o (removes id vs) w ids i = none-issued m (r .next) ids _ i (w .0)
+outcome-rises m r o (answers vs) w ids i = none-issued m (r .next) ids _ i (ap (issuedBy (Accepted vs)) w)
+outcome-rises m r o (writes place l vs) w ids i = none-issued m (r .next) ids _ i (ap (issuedBy (Accepted vs)) w)
+outcome-rises m r o (stores q vs) w ids i = none-issued m (r .next) ids _ i (turned (act o) (w .1))
+  where
+    turned : (a : Act) → Dated a (w .0) q → issuedBy (Accepted vs) a ≡ []
+    turned (begins id) d = refl
+    turned stays d = refl
+outcome-rises m r o (adds q vs) w ids i = one-issued m (r .next) ids (issuedBy (Accepted vs) (act o)) i (rw (w .1, w .2))
+outcome-rises m r o (removes id vs) w ids i = none-issued m (r .next) ids _ i (ap (issuedBy (Accepted vs)) (w .1))
 
 on-rises : (m : ℕ) (s : Run) (os : List Op) → Rise m (s .registry .next) (issuedIds (s .events))
     → Rise m (goOnWith s os .registry .next) (issuedIds (goOnWith s os .events))

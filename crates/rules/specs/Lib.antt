@@ -15,9 +15,13 @@ pub mod Slot
 pub mod Queries
 pub mod Steps
 pub mod Examples
+pub mod Reached
+pub mod Acts
 pub mod Demand1
 pub mod History
 pub mod Laws
 pub mod Demand3
 pub mod Built
 pub mod Kept
+pub mod Stays
+pub mod Ledger

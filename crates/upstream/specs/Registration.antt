@@ -86,7 +86,7 @@ module _ (r : Registry) (d : Definition) where
       record {
         answer = refl;
         plugin = newPlugin r d;
-        only = only-added r (r .next ∷ []) (b .wired) (newPlugin r d) (fresh r b (r .next) (le-refl _)) (omega (arith, b .room, j .room));
+        only = only-added r (r .next ∷ []) (b .once) (newPlugin r d) (fresh r b (r .next) (le-refl _)) (omega (arith, b .room, j .room));
         domain = refl;
         next = refl;
         parent = refl;

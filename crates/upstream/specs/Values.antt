@@ -22,6 +22,7 @@ use Rattle.rules.specs.Laws.Members.{In, same-port, is-in, any-false, first-in,
 use Rattle.rules.specs.Laws.Table.{is-active}
 use Rattle.rules.specs.Demand3.Lives.{same-true, same-of}
 use Rattle.rules.specs.Built.{Built}
+use Rattle.rules.specs.Kept.Places.{distinct}
 use Rattle.rules.specs.Kept.Plugins.{alike}
 use Rattle.upstream.specs.Accepted.{accepted, exact, refused-among, held-by, Effect, has-effect, When, when-passed, when-known}
 use Rattle.upstream.specs.Dependencies.{same-swap, same-self, is-in-exactly, First, firstOf, firstOf-none, firstOf-some}
@@ -157,8 +158,8 @@ provider-is r b q p m g = go (provider r q) refl
     go none e = absurd (true≢false (sym g ∙ first-none (λ p. provides p q) (plugins r) p e m))
     go (some a) e =
         let w = first-in (λ p. provides p q) (plugins r) a e in
-        let i = b .wired .distinct a (w .0) in
-        let j = b .wired .distinct p m in
+        let i = distinct r (b .once) a (w .0) in
+        let j = distinct r (b .once) p m in
         let k = b .wired .sole (a .id) (p .id) a p q i j (w .1) g in
         cc
 

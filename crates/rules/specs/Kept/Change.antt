@@ -2,17 +2,17 @@
 use Prim.Native.Nat.{ℕ, _≤_}
 use native.Mathlib.Omega.{arith}
 use mathlib.Core.Path.{_≡_, sym, ap, _∙_, subst, subst⁻¹}
-use mathlib.Core.Bool.{true}
+use mathlib.Core.Bool.{true, false}
 use mathlib.Core.Option.{Option, some}
 use mathlib.Core.Logic.{⊎-elim}
 use lib.Dec.{eqb}
 use lib.ListN.{length}
 use borrow.Author.Tests.{eqb-true}
-use Rattle.rules.specs.Basics.{isSome, last}
+use Rattle.rules.specs.Basics.{isSome, twice, last}
 use Rattle.rules.specs.Holds.{Plugin, Registry, plugins, lookup, rowsInUse}
 use Rattle.rules.specs.Laws.Tests.{by-test}
 use Rattle.rules.specs.Laws.Members.{In}
-use Rattle.rules.specs.Built.{Member, Built}
+use Rattle.rules.specs.Built.{idsOf, Member, Built}
 use Rattle.rules.specs.Kept.Places.{Only}
 use Rattle.rules.specs.Kept.Wiring.{IfSome, Rewired, rewired}
 
@@ -32,6 +32,7 @@ pub record Change (r r′ : Registry) (id : ℕ) (u u′ : Option Plugin) : Type
   pub next : r .next ≤ r′ .next
   pub ids : r′ .next ≤ last
   pub rows : rowsInUse r′ ≤ 1024
+  pub once : twice (idsOf (plugins r′)) ≡ false
   pub member : IfSome (Member r′) u′
   -- it is still there if it is a parent
   pub parents : (a : Plugin) → In a (plugins r) → a .parent ≡ some id → isSome u′ ≡ true
@@ -42,6 +43,7 @@ built-after r r′ id u u′ b c = record {
   first = let l = b .first in omega arith;
   next = c .ids;
   rows = c .rows;
+  once = c .once;
   members = λ a m. ⊎-elim (λ i. subst (IfSome (Member r′)) i (c .member)) (λ n. stays a (n .0)) (c .only .members a m);
   wired = rewired r r′ id u u′ (b .wired) (c .only) (c .wiring);
 }

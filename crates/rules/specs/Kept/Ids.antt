@@ -3,21 +3,23 @@ use Prim.Native.Nat.{ℕ, zero, suc, _+_}
 use native.Mathlib.Omega.{arith}
 use mathlib.Core.Path.{_≡_}
 use mathlib.Core.List.{List, [], _∷_, _++_}
-use mathlib.Core.Option.{Option, none, some}
-use lib.ListN.{length}
-use Rattle.rules.specs.Basics.{pick}
+use lib.ListN.{length, getD}
+use Rattle.rules.specs.Outcomes.{Answer, Refused, Accepted}
 use Rattle.rules.specs.Steps.{Event}
-use Rattle.rules.specs.History.{Note, noted, isRegistered}
+use Rattle.rules.specs.Acts.{Act, joins, leaves, begins, stays, act}
 
--- the id that an accepted registration answered, as the history notes it; nothing else issues one
-abbrev pub issuedBy : Option Note → List ℕ
-issuedBy none = []
-issuedBy (some n) = pick (isRegistered (n .told ∷ [])) (n .id ∷ []) []
+-- the id that an accepted registration answered; nothing else issues one
+abbrev pub issuedBy : Answer → Act → List ℕ
+issuedBy (Refused n vs) a = []
+issuedBy (Accepted vs) (joins d) = getD vs 0 0 ∷ []
+issuedBy (Accepted vs) (leaves id) = []
+issuedBy (Accepted vs) (begins id) = []
+issuedBy (Accepted vs) stays = []
 
 -- of all events, the latest first
 abbrev pub issuedIds : List Event → List ℕ
 issuedIds [] = []
-issuedIds (e ∷ es) = issuedBy (noted (e .op) (e .answer)) ++ issuedIds es
+issuedIds (e ∷ es) = issuedBy (e .answer) (act (e .op)) ++ issuedIds es
 
 -- the n numbers from m on, the highest first
 abbrev pub countdown : ℕ → ℕ → List ℕ

@@ -8,6 +8,7 @@ use mathlib.Core.List.{List}
 use mathlib.Core.Option.{Option, none, some}
 use mathlib.Core.Logic.{_≢_, inl, inr}
 use lib.Dec.{eqb}
+use lib.ListN.{length}
 use borrow.Author.Tests.{eqb-false, ne-eqb}
 use Rattle.rules.specs.Basics.{all, any, isSome, last}
 use Rattle.rules.specs.Holds.{Port, Plugin, Registry, plugins, lookup, provider, provides, running, isIdle, isActive, count, rowsOf, rowsInUse}
@@ -19,7 +20,7 @@ use Rattle.rules.specs.Laws.Lookups.{lookup-id, length-stored, length-fr
 use Rattle.rules.specs.Laws.Members.{In, any-false, all-true, lookup-in}
 use Rattle.rules.specs.Laws.Table.{is-active}
 use Rattle.rules.specs.Built.{Shaped, Lively, Served, Built}
-use Rattle.rules.specs.Kept.Places.{only-stored, only-freed, only-added}
+use Rattle.rules.specs.Kept.Places.{Only, distinct, stored-once, added-once, freed-once, only-stored, only-freed, only-added}
 use Rattle.rules.specs.Kept.Rows.{rows-stored, rows-freed, rows-added}
 use Rattle.rules.specs.Kept.Plugins.{Alike, alike-rows, alike-provides, alike-shaped}
 use Rattle.rules.specs.Kept.Providers.{available-served, not-in-use, unprovided}
@@ -34,6 +35,8 @@ pub record Turn (r : Registry) (p q : Plugin) : Type 0 where
   pub starts : running p ≡ false → running q ≡ true → all (available r) (p .dependencies) ≡ true
   -- it ceases to be Active only if it is not in use
   pub stops : isActive (p .phase) ≡ true → isActive (q .phase) ≡ false → inUse r p ≡ false
+  -- an Active plugin keeps its values
+  pub values : isActive (p .phase) ≡ true → q .provisions ≡ p .provisions
 
 module _ (r : Registry) (b : Built r) (p q : Plugin) (e : lookup r (q .id) ≡ some p) (t : Turn r p q) where
   -- an Active plugin is another one than p, where p does not run
@@ -50,7 +53,7 @@ module _ (r : Registry) (b : Built r) (p q : Plugin) (e : lookup r (q .id) ≡ s
         let m′ = subst (In k) (t .alike .dependencies) m in
         by-test (running p)
         (λ z. inl (record { id = q .id; plugin = p; registered = e; runs = z; depends = m′ }))
-        (λ n. let v = available-served r (b .wired) k (all-true (available r) (p .dependencies) k (t .starts n y) m′) in
+        (λ n. let v = available-served r (b .once) k (all-true (available r) (p .dependencies) k (t .starts n y) m′) in
         inr (v, elsewhere n k v));
     stay = λ a k h want. (
       by-test (isActive (q .phase)) (λ y. is-active (q .phase) y)
@@ -60,8 +63,16 @@ module _ (r : Registry) (b : Built r) (p q : Plugin) (e : lookup r (q .id) ≡ s
     claim = λ k h y a f g n. eqb-false (q .id) y n (b .wired .sole (q .id) y p a k e f (sym (alike-provides p q (t .alike) k) ∙ h) g);
   }
 
-  pub turn-built : (vs : List ℕ) → Built (after r (stores q vs))
+  -- its rows are as many as before
+  pub turn-rows : (vs : List ℕ) → rowsInUse (after r (stores q vs)) ≡ rowsInUse r
   unfolding after rowsInUse
+  turn-rows vs = rows-stored (r .places) q λ s n i.
+      let f : lookup r (q .id) ≡ some s = subst (λ x. lookup r x ≡ some s) i (distinct r (b .once) s n) in
+      let j : p ≡ s = cc in
+      alike-rows p q (t .alike) ∙ ap rowsOf j
+
+  pub turn-built : (vs : List ℕ) → Built (after r (stores q vs))
+  unfolding after
   turn-built vs =
       let only = only-stored r vs p q e in
       let m = b .members p (lookup-in r (q .id) p e) in
@@ -72,10 +83,8 @@ module _ (r : Registry) (b : Built r) (p q : Plugin) (e : lookup r (q .id) ≡ s
         first = refl;
         next = le-refl _;
         ids = b .next;
-        rows = rw (rows-stored (r .places) q λ s n i.
-            let f : lookup r (q .id) ≡ some s = subst (λ x. lookup r x ≡ some s) i (b .wired .distinct s n) in
-            let j : p ≡ s = cc in
-            alike-rows p q (t .alike) ∙ ap rowsOf j) (b .rows);
+        rows = rw (turn-rows vs) (b .rows);
+        once = stored-once r vs (b .once) q;
         member = record {
           issued = rw (t .alike .id) (m .issued);
           below = rw (t .alike .id) (m .below);
@@ -123,10 +132,25 @@ module _ (r : Registry) (b : Built r) (q : Plugin) (j : Join r q) where
     claim = λ k h y a f g n. unprovided r k (j .untaken k h) y a f g;
   }
 
+  -- it had not been there, and there is a place for it
+  free : lookup r (q .id) ≡ none
+  free = fresh r b (q .id) (omega (arith, j .id))
+
+  roomy : length (plugins r) < length (r .places)
+  unfolding count
+  roomy = omega (arith, j .room, b .room)
+
+  pub join-only : (vs : List ℕ) → Only r (after r (adds q vs)) (q .id) none (some q)
+  join-only vs = only-added r vs (b .once) q free roomy
+
+  pub join-rows : (vs : List ℕ) → rowsInUse (after r (adds q vs)) ≡ rowsInUse r + rowsOf q
+  unfolding after rowsInUse
+  join-rows vs = rows-added (r .places) q roomy
+
   pub join-built : (vs : List ℕ) → Built (after r (adds q vs))
-  unfolding after rowsInUse count
+  unfolding after
   join-built vs =
-      let only = only-added r vs (b .wired) q (fresh r b (q .id) (omega arith)) (omega (arith, b .room)) in
+      let only = join-only vs in
       built-after r (after r (adds q vs)) (q .id) none (some q) b record {
         only = only;
         wiring = join-wired;
@@ -134,7 +158,8 @@ module _ (r : Registry) (b : Built r) (q : Plugin) (j : Join r q) where
         first = refl;
         next = omega arith;
         ids = omega (arith, j .ids, b .next);
-        rows = let l = rows-added (r .places) q in omega arith;
+        rows = rw (join-rows vs) (j .rows);
+        once = added-once r vs (b .once) q free;
         member = record {
           issued = omega (arith, j .id, b .first);
           below = omega (arith, j .id);
@@ -159,8 +184,12 @@ module _ (r : Registry) (b : Built r) (id : ℕ) (p : Plugin) (e : lookup r id �
     claim = tt;
   }
 
+  pub leave-rows : (vs : List ℕ) → rowsInUse (after r (removes id vs)) + rowsOf p ≡ rowsInUse r
+  unfolding after rowsInUse lookup
+  leave-rows vs = rows-freed (r .places) id p (b .once) e
+
   pub leave-built : (vs : List ℕ) → Built (after r (removes id vs))
-  unfolding after rowsInUse
+  unfolding after
   leave-built vs = built-after r (after r (removes id vs)) id (some p) none b record {
     only = only-freed r vs id p e;
     wiring = leave-wired;
@@ -168,7 +197,8 @@ module _ (r : Registry) (b : Built r) (id : ℕ) (p : Plugin) (e : lookup r id �
     first = refl;
     next = le-refl _;
     ids = b .next;
-    rows = let n = rows-freed (r .places) id in omega (arith, b .rows);
+    rows = let n = leave-rows vs in omega (arith, b .rows);
+    once = freed-once r vs (b .once) id;
     member = tt;
     parents = λ a n i.
         let c = any-false (isChildOf id) (plugins r) a (l .childless) n in

@@ -60,6 +60,7 @@ module _ (r : Registry) (d : Definition) where
       record {
         realm-rows = ltb-false 16 (length rows) (neither (oddLength (d .realms)) (ltb 16 (length rows)) (odd .0) .1);
         rise = not-false (rising rows) (odd .1);
+        default = refl;
         provisions = rw (length-map, length-map) (ltb-false 15 _ many);
         dependencies = ltb-false 48 _ long;
         resolved = λ q m. resolved-in (realmsOf (d .realms)) (d .provisions) q (subst (In q) new-ports m);

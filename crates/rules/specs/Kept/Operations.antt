@@ -12,7 +12,7 @@ use Rattle.rules.specs.Holds.{Port, Plugin, Registry, lookup, Phase, Idl
 use Rattle.rules.specs.Outcomes.{Outcome, refuses, answers, writes, stores, adds, removes, Check, checked, known, handingBack}
 use Rattle.rules.specs.Ports.{resolveKey}
 use Rattle.rules.specs.Dependencies.{dependencyPort}
-use Rattle.rules.specs.Registration.{Definition, register}
+use Rattle.rules.specs.Registration.{Definition, newPlugin, register}
 use Rattle.rules.specs.Phases.{available, inUse, isSpent, dropped, begin, ready, fail, unload, finish}
 use Rattle.rules.specs.Replacement.{replace, fits}
 use Rattle.rules.specs.Admission.{Ticket, Invocation, isLive, admit, admits, call}
@@ -23,28 +23,32 @@ use Rattle.rules.specs.Queries.{askPlugin, askRegistry, nextAbove}
 use Rattle.rules.specs.Steps.{Op, step, ResolveKey, DependencyPort, Register, Begin, Ready, Fail, Unload, Finish, Replace, Fits, Admit, Admits, Call}
 use Rattle.rules.specs.Steps.{Retire, RetireChild, ChildIdentity, Remove, Offer, Read, Visible, Own, FirstMissing, Matching, Declares}
 use Rattle.rules.specs.Steps.{Listed, AskPlugin, AskRegistry, NextAbove}
-use Rattle.rules.specs.History.{told}
+use Rattle.rules.specs.Acts.{Act, joins, leaves, begins, stays, act}
 use Rattle.rules.specs.Laws.Tests.{both, neither, Passed, checked-elim, found-elim}
 use Rattle.rules.specs.Laws.Lookups.{lookup-id}
-use Rattle.rules.specs.Laws.Table.{begins, readies, fails, unloads, finishes, is-loading}
+use Rattle.rules.specs.Laws.Table as table
+use Rattle.rules.specs.Laws.Table.{readies, fails, unloads, finishes, is-loading}
 use Rattle.rules.specs.Built.{Lively}
-use Rattle.rules.specs.Kept.Ids.{issuedBy}
 use Rattle.rules.specs.Kept.Plugins.{Alike, alike, lively-begun, lively-ready, lively-failed, lively-unloaded, lively-finished, lively-noted, lively-rooted, lively-offered}
 use Rattle.rules.specs.Kept.Moves.{Turn, Join, Leave}
 use Rattle.rules.specs.Kept.New.{new-joins}
 
--- the ids that it issues, with the numbers that it answered
-abbrev pub issues : Op → List ℕ → List ℕ
-issues o vs = issuedBy (told o vs)
+-- Where p turns into q: its own begin makes the generation one more, and what else may turn a plugin leaves it.
+abbrev pub Dated : Act → Plugin → Plugin → Type 0
+Dated (begins id) p q = (id ≡ q .id) × (q .generation ≡ p .generation + 1)
+Dated stays p q = q .generation ≡ p .generation
+Dated (joins d) p q = ⊥
+Dated (leaves id) p q = ⊥
 
--- What the operation o may come to. A new id is issued only where a plugin joins, and it is the next one.
+-- What the operation o may come to. Only a registration adds a plugin, the one that it defines, under the next id, which it answers;
+-- only a removal takes one away.
 unfoldable pub Lawful : Registry → Op → Outcome → Type 0
 Lawful r o (refuses x vs) = Unit {0}
-Lawful r o (answers vs) = issues o vs ≡ []
-Lawful r o (writes place l vs) = issues o vs ≡ []
-Lawful r o (stores q vs) = (issues o vs ≡ []) × (p : Plugin) × (lookup r (q .id) ≡ some p) × Turn r p q
-Lawful r o (adds q vs) = (issues o vs ≡ r .next ∷ []) × Join r q
-Lawful r o (removes id vs) = (issues o vs ≡ []) × (p : Plugin) × (lookup r id ≡ some p) × Leave r id p
+Lawful r o (answers vs) = act o ≡ stays
+Lawful r o (writes place l vs) = act o ≡ stays
+Lawful r o (stores q vs) = (p : Plugin) × Dated (act o) p q × (lookup r (q .id) ≡ some p) × Turn r p q
+Lawful r o (adds q vs) = (d : Definition) × (act o ≡ joins d) × (vs ≡ r .next ∷ []) × (q ≡ newPlugin r d) × Join r q
+Lawful r o (removes id vs) = (p : Plugin) × (act o ≡ leaves id) × (lookup r id ≡ some p) × Leave r id p
 
 is-spent : (o : Root) → isSpent o ≡ true → o ≡ Spent
 is-spent Unissued e = cc
@@ -68,30 +72,32 @@ module _ (r : Registry) where
   unfolding Lawful
   passes o cs u g = checked-elim (Lawful r o) cs u (λ x. tt) g
 
-  answered : (o : Op) (vs : List ℕ) → issues o vs ≡ [] → Lawful r o (answers vs)
+  answered : (o : Op) (vs : List ℕ) → act o ≡ stays → Lawful r o (answers vs)
   unfolding Lawful
   answered o vs n = n
 
-  wrote : (o : Op) (place : ℕ) (l vs : List ℕ) → issues o vs ≡ [] → Lawful r o (writes place l vs)
+  wrote : (o : Op) (place : ℕ) (l vs : List ℕ) → act o ≡ stays → Lawful r o (writes place l vs)
   unfolding Lawful
   wrote o place l vs n = n
 
   -- the plugin p, found under id, becomes q
-  module _ (o : Op) (vs : List ℕ) (id : ℕ) (p q : Plugin) (e : lookup r id ≡ some p) (n : issues o vs ≡ []) (a : Alike p q) (l : Lively p → Lively q) where
+  module _ (o : Op) (vs : List ℕ) (id : ℕ) (p q : Plugin) (e : lookup r id ≡ some p) (n : Dated (act o) p q) (a : Alike p q) (l : Lively p → Lively q)
+      (k : isActive (p .phase) ≡ true → q .provisions ≡ p .provisions) where
     -- from one phase to another
     moves : (from to : Phase) → p .phase ≡ from → q .phase ≡ to
         → (runs from ≡ false → runs to ≡ true → all (available r) (p .dependencies) ≡ true)
         → (isActive from ≡ true → isActive to ≡ false → inUse r p ≡ false) → Lawful r o (stores q vs)
     unfolding Lawful
     moves from to i j f g = (
-      n,
       p,
+      n,
       subst⁻¹ (λ x. lookup r x ≡ some p) (a .id ∙ lookup-id r id p e) e,
       record {
         alike = a;
         lively = l;
         starts = λ m y. f (sym (ap runs i) ∙ m) (sym (ap runs j) ∙ y);
         stops = λ y m. g (sym (ap isActive i) ∙ y) (sym (ap isActive j) ∙ m);
+        values = k;
       },
     )
 
@@ -102,33 +108,35 @@ module _ (r : Registry) where
   begin-lawful : (id : ℕ) → Lawful r (Begin id) (begin r id)
   unfolding begin
   begin-lawful id = knows _ _ _ λ p e. passes _ _ _ λ c.
-      let h = begins (p .phase) (c .1 .0) in
-      moves _ _ _ p _ e refl (alike p refl) (λ l. lively-begun p l h (eqb-false _ _ (c .1 .1 .0))) Idle Loading h (rw h) (λ n y. not-false _ (c .1 .1 .1 .0)) (λ y n. cc)
+      let h = table.begins (p .phase) (c .1 .0) in
+      moves _ _ _ p _ e (sym (lookup-id r id p e), refl) (alike p refl) (λ l. lively-begun p l h (eqb-false _ _ (c .1 .1 .0))) (λ _. refl)
+      Idle Loading h (rw h) (λ n y. not-false _ (c .1 .1 .1 .0)) (λ y n. cc)
 
   ready-lawful : (id : ℕ) → Lawful r (Ready id) (ready r id)
   unfolding ready
   ready-lawful id = knows _ _ _ λ p e. passes _ _ _ λ c.
       let h = readies (p .phase) (c .1 .0) in
-      moves _ _ _ p _ e refl (alike p refl) (λ l. lively-ready p l h (is-spent (p .root) (not-false _ (c .1 .1 .0))) (c .1 .1 .1 .0))
+      moves _ _ _ p _ e refl (alike p refl) (λ l. lively-ready p l h (is-spent (p .root) (not-false _ (c .1 .1 .0))) (c .1 .1 .1 .0)) (λ _. refl)
       Loading Active h (rw h) (λ n y. cc) (λ y n. cc)
 
   fail-lawful : (id : ℕ) → Lawful r (Fail id) (fail r id)
   unfolding fail
   fail-lawful id = knows _ _ _ λ p e. passes _ _ _ λ c.
       let h = fails (p .phase) (c .0) in
-      moves _ _ _ p _ e refl (alike p refl) (λ l. lively-failed p l h) Loading Unloading h (rw h) (λ n y. cc) (λ y n. cc)
+      moves _ _ _ p _ e refl (alike p refl) (λ l. lively-failed p l h) (λ _. refl) Loading Unloading h (rw h) (λ n y. cc) (λ y n. cc)
 
   unload-lawful : (id : ℕ) → Lawful r (Unload id) (unload r id)
   unfolding unload
   unload-lawful id = knows _ _ _ λ p e. passes _ _ _ λ c.
       let h = unloads (p .phase) (c .0) in
-      moves _ _ _ p _ e refl (alike p refl) (λ l. lively-unloaded p l h) Active Unloading h (rw h) (λ n y. cc) (λ y n. c .1 .0)
+      moves _ _ _ p _ e refl (alike p refl) (λ l. lively-unloaded p l h) (λ _. refl) Active Unloading h (rw h) (λ n y. cc) (λ y n. c .1 .0)
 
   finish-lawful : (id : ℕ) → Lawful r (Finish id) (finish r id)
   unfolding finish
   finish-lawful id = knows _ _ _ λ p e. passes _ _ _ λ c.
       let h = finishes (p .phase) (c .0) in
-      moves _ _ _ p _ e refl (alike p (map-map _ dropped (p .provisions))) (λ l. lively-finished p l h) Unloading Idle h (rw h) (λ n y. cc) (λ y n. cc)
+      moves _ _ _ p _ e refl (alike p (map-map _ dropped (p .provisions))) (λ l. lively-finished p l h)
+      (λ y. absurd (true≢false (sym y ∙ ap isActive h))) Unloading Idle h (rw h) (λ n y. cc) (λ y n. cc)
 
   handing : (o : Op) (v : ℕ) (u : Outcome) → Lawful r o u → Lawful r o (handingBack v u)
   unfolding handingBack Lawful
@@ -143,22 +151,22 @@ module _ (r : Registry) where
   unfolding replace
   replace-lawful id v = handing _ v _ (knows _ _ _ λ p e. passes _ _ _ λ c.
       let n = eqb-false (p .revision) last (c .0) in
-      rests _ _ _ p _ e refl (alike p refl) (λ l. lively-noted p l (p .revision + 1) v (p .retired) (omega arith) (omega (arith, n, l .revision))) refl)
+      rests _ _ _ p _ e refl (alike p refl) (λ l. lively-noted p l (p .revision + 1) v (p .retired) (omega arith) (omega (arith, n, l .revision))) (λ _. refl) refl)
 
   admit-lawful : (t : Ticket) (a : ℕ) → Lawful r (Admit t a) (admit r t a)
   unfolding admit
   admit-lawful t a = passes _ _ _ λ c. knows _ _ _ λ p e. passes _ _ _ λ f.
       let h = is-loading (p .phase) (not-false _ (neither _ _ (f .1 .0) .0)) in
-      rests _ _ _ p _ e refl (alike p refl) (λ l. lively-rooted p l (Queued (p .revision) a) h (λ v b i. let j : p .revision ≡ v = cc in omega arith)) refl
+      rests _ _ _ p _ e refl (alike p refl) (λ l. lively-rooted p l (Queued (p .revision) a) h (λ v b i. let j : p .revision ≡ v = cc in omega arith)) (λ _. refl) refl
 
   call-lawful : (t : Invocation) → Lawful r (Call t) (call r t)
   unfolding call
   call-lawful t = passes _ _ _ λ c. knows _ _ _ λ p e. passes _ _ _ λ f.
       let h = live-loading p t (not-false _ (f .1 .0)) in
-      rests _ _ _ p _ e refl (alike p refl) (λ l. lively-rooted p l Spent h (λ v b i. let z : _≡_ {A = ℕ} 0 1 = cc in omega arith)) refl
+      rests _ _ _ p _ e refl (alike p refl) (λ l. lively-rooted p l Spent h (λ v b i. let z : _≡_ {A = ℕ} 0 1 = cc in omega arith)) (λ _. refl) refl
 
-  retires : (o : Op) (id : ℕ) (p : Plugin) → lookup r id ≡ some p → issues o [] ≡ [] → Lawful r o (stores (withRetired true p) [])
-  retires o id p e n = rests o [] id p _ e n (alike p refl) (λ l. lively-noted p l (p .revision) (p .payload) true (le-refl _) (l .revision)) refl
+  retires : (o : Op) (id : ℕ) (p : Plugin) → lookup r id ≡ some p → Dated (act o) p (withRetired true p) → Lawful r o (stores (withRetired true p) [])
+  retires o id p e n = rests o [] id p _ e n (alike p refl) (λ l. lively-noted p l (p .revision) (p .payload) true (le-refl _) (l .revision)) (λ _. refl) refl
 
   retire-lawful : (id : ℕ) → Lawful r (Retire id) (retire r id)
   unfolding retire
@@ -176,25 +184,26 @@ module _ (r : Registry) where
   unfolding offer
   offer-lawful id q v = knows _ _ _ λ p e. passes _ _ _ λ c.
       let h = is-loading (p .phase) (both _ _ (not-false _ (c .0)) .0) in
-      rests _ _ _ p _ e refl (alike p (map-map _ (offered q v) (p .provisions))) (λ l. lively-offered p l _ h) refl
+      rests _ _ _ p _ e refl (alike p (map-map _ (offered q v) (p .provisions))) (λ l. lively-offered p l _ h)
+      (λ y. absurd (true≢false (sym y ∙ ap isActive h))) refl
 
   remove-lawful : (id : ℕ) → Lawful r (Remove id) (remove r id)
   unfolding remove Lawful
   remove-lawful id = knows _ _ _ λ p e. passes _ _ _ λ c.
-      (refl, p, e, record { idle = both _ _ (not-false _ (c .0)) .0; childless = c .1 .0 })
+      (p, refl, e, record { idle = both _ _ (not-false _ (c .0)) .0; childless = c .1 .0 })
 
   register-lawful : (d : Definition) → Lawful r (Register d) (register r d)
   unfolding register Lawful
-  register-lawful d = passes _ _ _ λ c. (refl, new-joins r d c)
+  register-lawful d = passes _ _ _ λ c. (d, refl, refl, refl, new-joins r d c)
 
   -- the questions
-  asks : (o : Op) (id : ℕ) (f : Plugin → List ℕ) → ((vs : List ℕ) → issues o vs ≡ []) → Lawful r o (known r id (λ p. answers (f p)))
-  asks o id f n = knows o id _ λ p e. answered o (f p) (n (f p))
+  asks : (o : Op) (id : ℕ) (f : Plugin → List ℕ) → act o ≡ stays → Lawful r o (known r id (λ p. answers (f p)))
+  asks o id f n = knows o id _ λ p e. answered o (f p) n
 
   pub lawful : (o : Op) → Lawful r o (step r o)
   unfolding resolveKey dependencyPort fits admits childIdentity read visible own missing matching declares list listing askPlugin nextAbove
   lawful (ResolveKey realms key) = passes _ _ _ λ c. answered _ _ refl
-  lawful (DependencyPort id key) = asks _ id _ (λ vs. refl)
+  lawful (DependencyPort id key) = asks _ id _ refl
   lawful (Register d) = register-lawful d
   lawful (Begin id) = begin-lawful id
   lawful (Ready id) = ready-lawful id
@@ -202,22 +211,22 @@ module _ (r : Registry) where
   lawful (Unload id) = unload-lawful id
   lawful (Finish id) = finish-lawful id
   lawful (Replace id payload) = replace-lawful id payload
-  lawful (Fits id times) = asks _ id _ (λ vs. refl)
+  lawful (Fits id times) = asks _ id _ refl
   lawful (Admit t argument) = admit-lawful t argument
   lawful (Admits t) = answered _ _ refl
   lawful (Call t) = call-lawful t
   lawful (Retire id) = retire-lawful id
   lawful (RetireChild c) = retire-child-lawful c
-  lawful (ChildIdentity id) = asks _ id _ (λ vs. refl)
+  lawful (ChildIdentity id) = asks _ id _ refl
   lawful (Remove id) = remove-lawful id
   lawful (Offer id q value) = offer-lawful id q value
   lawful (Read id q) = knows _ _ _ λ p e. passes _ _ _ λ c. answered _ _ refl
   lawful (Visible q) = answered _ _ refl
-  lawful (Own id q) = asks _ id _ (λ vs. refl)
-  lawful (FirstMissing id) = asks _ id _ (λ vs. refl)
-  lawful (Matching id ports) = asks _ id _ (λ vs. refl)
-  lawful (Declares id q) = asks _ id _ (λ vs. refl)
+  lawful (Own id q) = asks _ id _ refl
+  lawful (FirstMissing id) = asks _ id _ refl
+  lawful (Matching id ports) = asks _ id _ refl
+  lawful (Declares id q) = asks _ id _ refl
   lawful (Listed w id place buffer) = knows _ _ _ λ p e. passes _ _ _ λ c. wrote _ place _ _ refl
-  lawful (AskPlugin f id) = asks _ id _ (λ vs. refl)
+  lawful (AskPlugin f id) = asks _ id _ refl
   lawful (AskRegistry t) = answered _ _ refl
   lawful (NextAbove n) = answered _ _ refl

@@ -28,7 +28,7 @@ pub alike : (p : Plugin) {ps : List Provision} {v w g : ℕ} {h : Phase} {m : Bo
 alike p e = record { id = refl; parent = refl; anchor = refl; realms = refl; dependencies = refl; provisions = e }
 
 module _ (p q : Plugin) (s : Alike p q) where
-  as-many : length (q .provisions) ≡ length (p .provisions)
+  pub as-many : length (q .provisions) ≡ length (p .provisions)
   as-many = sym (length-map (q .provisions) _) ∙ ap length (s .provisions) ∙ length-map (p .provisions) _
 
   pub alike-rows : rowsOf q ≡ rowsOf p
@@ -41,6 +41,7 @@ module _ (p q : Plugin) (s : Alike p q) where
   alike-shaped a = record {
     realm-rows = rw (s .realms) (a .realm-rows);
     rise = rw (s .realms) (a .rise);
+    default = rw (s .realms) (a .default);
     provisions = rw as-many (a .provisions);
     dependencies = rw (s .dependencies) (a .dependencies);
     resolved = λ k m. rw (s .realms) (a .resolved k (subst (In k) (s .provisions) m));

@@ -3,23 +3,24 @@ use Prim.Native.Nat.{ℕ}
 use mathlib.Core.Path.{_≡_, refl, sym, _∙_}
 use mathlib.Core.Bool.{true, false, _&&_, true≢false}
 use mathlib.Core.Option.{Option, none, some}
-use Rattle.rules.specs.Basics.{any, isSome, holds}
+use Rattle.rules.specs.Basics.{any, isSome, holds, twice}
 use Rattle.rules.specs.Holds.{Port, Plugin, Registry, plugins, lookup, provider, provides, running, isActive}
 use Rattle.rules.specs.Phases.{available, inUse}
 use Rattle.rules.specs.Laws.Members.{first-in, first-none, any-false, lookup-in}
 use Rattle.rules.specs.Laws.Table.{is-active}
-use Rattle.rules.specs.Built.{Served, Wanted, Wired}
+use Rattle.rules.specs.Built.{idsOf, Served, Wanted}
+use Rattle.rules.specs.Kept.Places.{distinct}
 
 module _ (r : Registry) where
-  pub available-served : Wired r → (k : Port) → available r k ≡ true → Served r k
+  pub available-served : twice (idsOf (plugins r)) ≡ false → (k : Port) → available r k ≡ true → Served r k
   unfolding provider
-  available-served w k e = go (provider r k) refl e
+  available-served once k e = go (provider r k) refl e
     where
       go : (u : Option Plugin) → provider r k ≡ u → holds (λ (p : Plugin). isActive (p .phase)) u ≡ true → Served r k
       go none i h = absurd (true≢false (sym h))
       go (some a) i h =
           let m = first-in (λ (p : Plugin). provides p k) (plugins r) a i in
-          record { id = a .id; plugin = a; registered = w .distinct a (m .0); active = is-active (a .phase) h; gives = m .1 }
+          record { id = a .id; plugin = a; registered = distinct r once a (m .0); active = is-active (a .phase) h; gives = m .1 }
 
   pub not-in-use : (p : Plugin) → inUse r p ≡ false → (k : Port) → Wanted r k → provides p k ≡ false
   not-in-use p e k want =

@@ -1,6 +1,6 @@
 -- How a change of one plugin keeps the wiring: every dependency of a running plugin served, two providers of a port one.
 use Prim.Native.Nat.{ℕ}
-use mathlib.Core.Path.{_≡_, sym, ap, _∙_, subst, subst⁻¹}
+use mathlib.Core.Path.{_≡_, sym, ap, _∙_, subst}
 use mathlib.Core.Bool.{true, false}
 use mathlib.Core.Option.{Option, none, some}
 use mathlib.Core.Logic.{_⊎_, ⊎-elim}
@@ -8,7 +8,6 @@ use lib.Dec.{eqb}
 use borrow.Author.Tests.{eqb-true}
 use Rattle.rules.specs.Holds.{Port, Plugin, Registry, lookup, provides, running, Active}
 use Rattle.rules.specs.Laws.Tests.{by-test}
-use Rattle.rules.specs.Laws.Lookups.{lookup-id}
 use Rattle.rules.specs.Laws.Members.{In}
 use Rattle.rules.specs.Built.{Served, Wanted, Wired}
 use Rattle.rules.specs.Kept.Places.{Only}
@@ -95,10 +94,6 @@ module _ (r r′ : Registry) (id : ℕ) (u u′ : Option Plugin) (w : Wired r) (
 
   pub rewired : Wired r′
   rewired = record {
-    distinct = λ a m. ⊎-elim
-        (λ i. let e = o .now ∙ i in subst⁻¹ (λ x. lookup r′ x ≡ some a) (lookup-id r′ id a e) e)
-        (λ n. o .other (a .id) (n .1) ∙ w .distinct a (n .0))
-        (o .members a m);
     served = served-after;
     sole = sole-after;
   }

@@ -7,6 +7,8 @@ use Rattle.rules.specs.Basics.{pick}
 use Rattle.rules.specs.Holds.{Plugin}
 use Rattle.rules.specs.Refusals.{Refusal, Unknown}
 use Rattle.rules.specs.Outcomes.{Outcome, refuses, Check, checked, found}
+-- No proof before the transcripts: an edit of a rule falls to a computed line first.
+use Rattle.rules.specs.Reached as reached
 
 -- by cases on a test, with its equation
 pub by-test : {A : Type 0} (b : Bool) → (b ≡ true → A) → (b ≡ false → A) → A

@@ -2,20 +2,19 @@
 use Prim.Native.Nat.{_^_, _-_}
 use mathlib.Core.List.{List, [], _∷_}
 use mathlib.Core.Option.{none, some}
-use Rattle.rules.specs.declared.Phase.the-variants.{Idle, Loading}
-use Rattle.rules.specs.Holds.{port, provider}
+use Rattle.rules.specs.Holds.{port}
 use Rattle.rules.specs.Refusals.{number, Unknown, Retired, InvalidState, BadRealms}
 use Rattle.rules.specs.Refusals.{Stale, Unavailable, InUse, Exhausted}
 use Rattle.rules.specs.Refusals.{NotRun, HasChildren, Closed, Undeclared, Duplicate, Missing, ShortBuffer}
 use Rattle.rules.specs.Outcomes.{Refused}
 use Rattle.rules.specs.Lists.{Dependencies, Provisions, RealmRows}
 use Rattle.rules.specs.Queries.{Parent, Anchor, PhaseOf, RetiredMark, Generation, Revision, Payload, RootOf}
 use Rattle.rules.specs.Queries.{Domain, FirstId}
 use Rattle.rules.specs.Steps.{ResolveKey, DependencyPort, Begin, Ready, Fail, Unload, Finish, Replace, Fits, Admit, Admits, Call}
 use Rattle.rules.specs.Steps.{Retire, RetireChild, ChildIdentity, Remove, Offer, Read, Visible, Own, FirstMissing, Matching, Declares}
 use Rattle.rules.specs.Steps.{Listed, AskPlugin, AskRegistry, NextAbove}
 use Rattle.rules.specs.Examples.{registers, plain, ticket, invocation}
-use Rattle.reached.specs.Transcripts.{Line, _↝_, ok, refused, child}
+use Rattle.rules.specs.Reached.Transcripts.{Line, _↝_, ok, refused, child}
 
 -- A life: a provider (1) of (5,0) and (6,0), and a reader (2) that depends on (5,0) and on its anchor (100,0).
 abbrev pub life : List Line
@@ -87,6 +86,7 @@ life =
     ∷ Offer 1 (port 5 0) 52 ↝ refused Closed
     ∷ Begin 2 ↝ ok (7 ∷ 2 ∷ 1 ∷ 1 ∷ [])
     ∷ Read 2 (port 6 3) ↝ refused Undeclared
+    ∷ Read 2 (port 7 0) ↝ refused Undeclared
     ∷ Read 2 (port 100 0) ↝ refused Missing
     ∷ Read 2 (port 5 0) ↝ ok (50 ∷ 1 ∷ [])
     ∷ Declares 2 (port 5 0) ↝ ok (1 ∷ [])
@@ -185,6 +185,13 @@ exhausted =
     ∷ Begin 1 ↝ refused Exhausted
     ∷ []
 
--- The same, Loading.
+-- The same, Loading; it also depends on its own anchor, so it is in use.
 abbrev pub exhaustedLoading : List Line
-exhaustedLoading = Begin 1 ↝ refused InvalidState ∷ []
+exhaustedLoading =
+    Begin 1 ↝ refused InvalidState
+    ∷ Unload 1 ↝ refused InvalidState
+    ∷ []
+
+-- A registered id that was never issued, and has no parent.
+abbrev pub unissued : List Line
+unissued = RetireChild (child 7 3 1) ↝ refused Unknown ∷ []

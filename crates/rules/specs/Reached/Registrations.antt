@@ -2,15 +2,15 @@
 use Prim.Native.Nat.{ℕ, zero, suc, _+_, _*_, _^_, _-_}
 use mathlib.Core.List.{List, [], _∷_, _++_}
 use mathlib.Core.Option.{none, some}
 use Rattle.rules.specs.Holds.{port}
 use Rattle.rules.specs.Refusals.{Unknown, Retired, InvalidState, BadRealms, TooManyKeys, DuplicateDependency, DuplicateProvision, Taken}
 use Rattle.rules.specs.Refusals.{NoId, Full, TooLong, NoRows}
 use Rattle.rules.specs.Queries.{NextId, Registered, RowsInUse}
 use Rattle.rules.specs.Steps.{Begin, Fail}
 use Rattle.rules.specs.Steps.{Retire, RetireChild}
 use Rattle.rules.specs.Steps.{AskRegistry}
 use Rattle.rules.specs.Examples.{registers, plain}
-use Rattle.reached.specs.Transcripts.{Line, _↝_, ok, refused, keys, realmRows, child}
+use Rattle.rules.specs.Reached.Transcripts.{Line, _↝_, ok, refused, keys, realmRows, child}
 
 -- Registration, as far as its checks go without a crowd.
 abbrev pub registrations : List Line

@@ -1,4 +1,0 @@
-pub mod Transcripts
-pub mod Registrations
-pub mod Lives
-pub mod Reached
