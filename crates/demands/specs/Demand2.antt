@@ -14,8 +14,8 @@ use Rattle.rules.specs.Admission.{Ticket, admits}
 use Rattle.rules.specs.Retirement.{childIdentity}
 use Rattle.rules.specs.Values.{read, visible, own, missing, matching, declares}
 use Rattle.rules.specs.Lists.{Which, listing, list}
-use Rattle.rules.specs.Queries.{Field, Total, askPlugin, askRegistry, nextAbove}
-use Rattle.rules.specs.Steps.{Op, step, ResolveKey, DependencyPort, Register, Begin, Ready, Fail, Unload, Finish, Replace, Fits, Admit, Admits, Call, Retire, RetireChild, ChildIdentity, Remove, Offer, Read, Visible, Own, FirstMissing, Matching, Declares, Listed, AskPlugin, AskRegistry, NextAbove}
+use Rattle.rules.specs.Queries.{Field, Total, askPlugin, askRegistry, idFrom}
+use Rattle.rules.specs.Steps.{Op, step, ResolveKey, DependencyPort, Register, Begin, Ready, Fail, Unload, Finish, Replace, Fits, Admit, Admits, Call, Retire, RetireChild, ChildIdentity, Remove, Offer, Read, Visible, Own, FirstMissing, Matching, Declares, Listed, AskPlugin, AskRegistry, IdFrom}
 use Rattle.rules.specs.Built.{Built}
 use Rattle.rules.specs.Kept.{step-built}
 use Rattle.rules.specs.Laws.Tests.{checked-elim, found-elim}
@@ -115,9 +115,9 @@ module _ (r : Registry) where
   pub total-same : (t : Total) → Same (askRegistry r t)
   total-same t = told _
 
-  pub above-same : (n : ℕ) → Same (nextAbove r n)
-  unfolding nextAbove
-  above-same n = told _
+  pub from-same : (n : ℕ) → Same (idFrom r n)
+  unfolding idFrom
+  from-same n = told _
 
 question : (m : List ℕ) → Sound m → (o : Outcome) → after (view m) o ≡ view m → Refines m m o
 question m s o e = record { registry = sym e; dense = s .dense }
@@ -151,7 +151,7 @@ sound-refines m s (Declares id q) = question m s _ (declares-same (view m) id q)
 sound-refines m s (Listed w id place l) = question m s _ (list-same (view m) w id place l)
 sound-refines m s (AskPlugin f id) = question m s _ (plugin-same (view m) f id)
 sound-refines m s (AskRegistry t) = question m s _ (total-same (view m) t)
-sound-refines m s (NextAbove n) = question m s _ (above-same (view m) n)
+sound-refines m s (IdFrom n) = question m s _ (from-same (view m) n)
 
 pub keeps : (m : List ℕ) → Sound m → (o : Op) → Sound (leaves m o)
 keeps m s o = let r = sound-refines m s o in record { dense = r .dense; built = subst Built (sym (r .registry)) (step-built (view m) (s .built) o) }
