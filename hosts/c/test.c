@@ -120,7 +120,7 @@ static void opening(void) {
     NUMBER(vaskelbi_next(m), 40);
     NUMBER(vaskelbi_count(m), 0);
     NUMBER(vaskelbi_rows(m), 0);
-    ASKED(vaskelbi_next_above(m, 0, out), NONE);
+    ASKED(vaskelbi_id_from(m, 0, out), NONE);
 }
 
 static void resolving(void) { // E1, E8
@@ -200,9 +200,10 @@ static void asking(void) {
     REFUSED(vaskelbi_payload(m, 42, out), 1);
     ASKED(vaskelbi_root(m, 41, out), IS(VASKELBI_UNISSUED));
     REFUSED(vaskelbi_root(m, 42, out), 1);
-    ASKED(vaskelbi_next_above(m, 0, out), IS(40));
-    ASKED(vaskelbi_next_above(m, 40, out), IS(41));
-    ASKED(vaskelbi_next_above(m, 41, out), NONE);
+    ASKED(vaskelbi_id_from(m, 0, out), IS(40));
+    ASKED(vaskelbi_id_from(m, 40, out), IS(40));
+    ASKED(vaskelbi_id_from(m, 41, out), IS(41));
+    ASKED(vaskelbi_id_from(m, 42, out), NONE);
     ASKED(vaskelbi_matches(m, 40, (uint64_t[]){2, 5, 3, 0}, 4, out), IS(1));
     ASKED(vaskelbi_matches(m, 40, (uint64_t[]){3, 0, 2, 5}, 4, out), IS(0));
     ASKED(vaskelbi_matches(m, 40, (uint64_t[]){2, 5, 3}, 3, out), IS(0));
@@ -351,7 +352,8 @@ static void full(void) {
     DONE(vaskelbi_retire(m, 5));
     DONE(vaskelbi_remove(m, 5));
     TOLD(vaskelbi_register(m, 1005, 77, 0, none, 0, none, 0, none, 0, out), IS(32));
-    ASKED(vaskelbi_next_above(m, 4, out), IS(6));
+    ASKED(vaskelbi_id_from(m, 0, out), IS(0));
+    ASKED(vaskelbi_id_from(m, 5, out), IS(6));
 }
 
 static void last_id(void) {

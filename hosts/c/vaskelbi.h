@@ -252,8 +252,9 @@ uint64_t vaskelbi_payload(const vaskelbi_registry *registry, uint64_t id, vaskel
 /* Answers `root`: three numbers if Queued, else the state alone. */
 uint64_t vaskelbi_root(const vaskelbi_registry *registry, uint64_t id, vaskelbi_answer *out);
 
-/* The lowest registered id above a number. Refuses nothing. Answers the id, or none. */
-uint64_t vaskelbi_next_above(const vaskelbi_registry *registry, uint64_t number, vaskelbi_answer *out);
+/* The lowest registered id at or above a number: asked from 0 and then from the id after, all plugins by rising id. Refuses
+   nothing. Answers the id, or none. */
+uint64_t vaskelbi_id_from(const vaskelbi_registry *registry, uint64_t number, vaskelbi_answer *out);
 
 /* Child slots. They belong to no registry, and a decision never changes. */
 

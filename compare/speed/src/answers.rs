@@ -60,7 +60,7 @@ const ACCEPTING: [&str; 11] = [
     "open",
     "admits",
     "visible",
-    "next_above",
+    "id_from",
     "domain",
     "first",
     "next",
@@ -275,9 +275,9 @@ impl Desk {
                 ask!(self, retire_child(child.domain, child.parent, child.id));
             }
             Operation::Remove(id) => {
-                ask!(self, next_above(id) -> out);
+                ask!(self, id_from(id.wrapping_add(1)) -> out);
                 ask!(self, remove(id));
-                ask!(self, next_above(id.wrapping_sub(1)) -> out);
+                ask!(self, id_from(id) -> out);
             }
             Operation::Child(id) => ask!(self, child(id) -> out),
             Operation::Offer { id, port, value } => {

@@ -270,8 +270,8 @@ cases! {
                 + (s.payload)(m, id, out)
                 + (s.root)(m, id, out)
         });
-    "next_above, from id to id of 32", strangers, 32 => 0;
-        |s, m, room| (0..32).map(|n| (s.next_above)(m, FIRST + n - 1, &mut room.out));
+    "id_from, from id to id of 32", strangers, 32 => 0;
+        |s, m, room| (0..32).map(|n| (s.id_from)(m, FIRST + n, &mut room.out));
     "resolve in 16 realm rows", |_| {}, 16 => 0;
         |s, _m, room| (0..16).map(|n| {
             (s.resolve)(DEEP_REALMS.as_ptr(), DEEP_REALMS.len(), 401 + n, &mut room.out)

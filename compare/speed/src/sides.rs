@@ -184,7 +184,7 @@ sides! {
     fn revision(m: *mut u64, id: u64, out: &mut Out) -> u64;
     fn payload(m: *mut u64, id: u64, out: &mut Out) -> u64;
     fn root(m: *mut u64, id: u64, out: &mut Out) -> u64;
-    fn next_above(m: *mut u64, number: u64, out: &mut Out) -> u64;
+    fn id_from(m: *mut u64, number: u64, out: &mut Out) -> u64;
     fn resolve(realms: *const u64, count: usize, key: u64, out: &mut Out) -> u64;
     fn domain(m: *mut u64) -> u64;
     fn first(m: *mut u64) -> u64;

@@ -8,7 +8,7 @@ use Rattle.rules.specs.Steps.{Listed, lentAfterStep}
 use Rattle.memory.specs.View.{view}
 use Rattle.telling.specs.Told.{statusOf, wordsOf, Tells}
 use Rattle.demands.specs.Leaves.{leaves}
-use Rattle.demands.specs.Demand2.{blank}
+use Rattle.demands.specs.Starts.{blank}
 use Rattle.host.specs.Tells.{answer}
 use Rattle.carrying.specs.Asked.{Asked, Bad, Open, Stated, Told}
 

@@ -3,7 +3,7 @@ ghost use mathlib.Core.Path.{_≡_};
 ghost use Rattle.carrying.specs.Asked.{withNone, ofOne, withOne, withTwo, withThree, withFour, withFive, counted, listing, askedFor, listAt};
 ghost use mathlib.Core.List.{[], _∷_};
 ghost use Rattle.telling.specs.Told.{counted as told};
-ghost use Rattle.demands.specs.Demand2.{blank};
+ghost use Rattle.demands.specs.Starts.{blank};
 ghost use Rattle.carrying.specs.Carried.{Answers, Carried, Lists};
 use memory::WORDS;
 use naming::BAD;

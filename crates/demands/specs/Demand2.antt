@@ -1,10 +1,8 @@
 -- Demand 2: on every memory that an opening and operations made, an operation leaves the rules' registry; and what it answers is
 -- the rules' answer, which its function promises on any words.
-use Prim.Native.Nat.{ℕ, _≤_}
+use Prim.Native.Nat.{ℕ}
 use mathlib.Core.Path.{_≡_, refl, sym, subst}
-use mathlib.Core.List.{List, [], _∷_}
-use lib.ListN.{length}
-use Rattle.rules.specs.Basics.{last}
+use mathlib.Core.List.{List, []}
 use Rattle.rules.specs.Holds.{Plugin, Registry, lookup}
 use Rattle.rules.specs.declared.Port.{Port}
 use Rattle.rules.specs.Refusals.{Refusal, Unknown}
@@ -16,15 +14,14 @@ use Rattle.rules.specs.Admission.{Ticket, admits}
 use Rattle.rules.specs.Retirement.{childIdentity}
 use Rattle.rules.specs.Values.{read, visible, own, missing, matching, declares}
 use Rattle.rules.specs.Lists.{Which, listing, list}
-use Rattle.rules.specs.Queries.{Field, Total, askPlugin, askRegistry, nextAbove}
-use Rattle.rules.specs.Steps.{Op, step, ResolveKey, DependencyPort, Register, Begin, Ready, Fail, Unload, Finish, Replace, Fits, Admit, Admits, Call, Retire, RetireChild, ChildIdentity, Remove, Offer, Read, Visible, Own, FirstMissing, Matching, Declares, Listed, AskPlugin, AskRegistry, NextAbove}
+use Rattle.rules.specs.Queries.{Field, Total, askPlugin, askRegistry, idFrom}
+use Rattle.rules.specs.Steps.{Op, step, ResolveKey, DependencyPort, Register, Begin, Ready, Fail, Unload, Finish, Replace, Fits, Admit, Admits, Call, Retire, RetireChild, ChildIdentity, Remove, Offer, Read, Visible, Own, FirstMissing, Matching, Declares, Listed, AskPlugin, AskRegistry, IdFrom}
 use Rattle.rules.specs.Built.{Built}
-use Rattle.rules.specs.Kept.{opened-built, step-built}
+use Rattle.rules.specs.Kept.{step-built}
 use Rattle.rules.specs.Laws.Tests.{checked-elim, found-elim}
 use Rattle.memory.specs.View.{view}
-use Rattle.memory.specs.Writes.{puts}
-use Rattle.blocks.specs.Dense.{Dense, Refines}
-use Rattle.freeing.specs.Refines.{open-refines, open-dense, remove-refines}
+use Rattle.blocks.specs.Dense.{Refines}
+use Rattle.freeing.specs.Refines.{remove-refines}
 use Rattle.registering.specs.Refines.{built-fresh, register-refines}
 use Rattle.retiring.specs.Refines.{retire-refines, retire-child-refines}
 use Rattle.stepping.specs.Refines.{begin-refines, fail-refines, unload-refines}
@@ -33,20 +30,12 @@ use Rattle.replacing.specs.Refines.{replace-refines}
 use Rattle.admitting.specs.Refines.{admit-refines, call-refines}
 use Rattle.offering.specs.Refines.{offer-refines}
 use Rattle.demands.specs.Leaves.{leaves}
+use Rattle.demands.specs.Starts.{Sound, Begun, begun-start}
 
--- The words of an opening.
-abbrev pub blank : List ℕ → ℕ → ℕ → List ℕ
-blank m domain first = puts m 0 0 (domain ∷ first ∷ first ∷ 0 ∷ [])
-
--- A made memory: an opening of any words, then operations with any arguments.
+-- A made memory: a beginning, then operations with any arguments.
 pub data Made : List ℕ → Type 0 where
-  opened : (m : List ℕ) → length m ≡ 4488 → (domain first : ℕ) → first ≤ last → Made (blank m domain first)
+  begins : (m : List ℕ) → Begun m → Made m
   goesOn : (m : List ℕ) → Made m → (o : Op) → Made (leaves m o)
-
--- Dense words that say a built registry.
-pub record Sound (m : List ℕ) : Type 0 where
-  pub dense : Dense m
-  pub built : Built (view m)
 
 -- A question changes nothing of the registry.
 module _ (r : Registry) where
@@ -126,13 +115,14 @@ module _ (r : Registry) where
   pub total-same : (t : Total) → Same (askRegistry r t)
   total-same t = told _
 
-  pub above-same : (n : ℕ) → Same (nextAbove r n)
-  unfolding nextAbove
-  above-same n = told _
+  pub from-same : (n : ℕ) → Same (idFrom r n)
+  unfolding idFrom
+  from-same n = told _
 
 question : (m : List ℕ) → Sound m → (o : Outcome) → after (view m) o ≡ view m → Refines m m o
 question m s o e = record { registry = sym e; dense = s .dense }
 
+-- On any sound words.
 pub sound-refines : (m : List ℕ) → Sound m → (o : Op) → Refines m (leaves m o) (step (view m) o)
 sound-refines m s (Register c) = register-refines m c (s .dense) (built-fresh m (s .built))
 sound-refines m s (Begin id) = begin-refines m (s .dense) id
@@ -161,19 +151,15 @@ sound-refines m s (Declares id q) = question m s _ (declares-same (view m) id q)
 sound-refines m s (Listed w id place l) = question m s _ (list-same (view m) w id place l)
 sound-refines m s (AskPlugin f id) = question m s _ (plugin-same (view m) f id)
 sound-refines m s (AskRegistry t) = question m s _ (total-same (view m) t)
-sound-refines m s (NextAbove n) = question m s _ (above-same (view m) n)
+sound-refines m s (IdFrom n) = question m s _ (from-same (view m) n)
 
--- What every made memory keeps.
-opened-sound : (m : List ℕ) → length m ≡ 4488 → (domain first : ℕ) → first ≤ last → Sound (blank m domain first)
-opened-sound m size domain first h =
-    record { dense = open-dense m domain first size; built = subst Built (sym (open-refines m domain first size)) (opened-built domain first h) }
+pub keeps : (m : List ℕ) → Sound m → (o : Op) → Sound (leaves m o)
+keeps m s o = let r = sound-refines m s o in record { dense = r .dense; built = subst Built (sym (r .registry)) (step-built (view m) (s .built) o) }
 
-keeps : (m m′ : List ℕ) (o : Op) → Sound m → Refines m m′ (step (view m) o) → Sound m′
-keeps m m′ o s r = record { dense = r .dense; built = subst Built (sym (r .registry)) (step-built (view m) (s .built) o) }
-
+-- Every made memory is sound.
 pub made-sound : (m : List ℕ) → Made m → Sound m
-made-sound _ (opened m size domain first h) = opened-sound m size domain first h
-made-sound _ (goesOn m w o) = let s = made-sound m w in keeps m (leaves m o) o s (sound-refines m s o)
+made-sound _ (begins m w) = begun-start m w .sound
+made-sound _ (goesOn m w o) = keeps m (made-sound m w) o
 
 -- The registry afterwards, seen as document 01's, is the rules' registry, for every operation.
 pub demand-2 : (m : List ℕ) → Made m → (o : Op) → Refines m (leaves m o) (step (view m) o)

@@ -5,7 +5,7 @@ use mathlib.Core.List.{List}
 use lib.ListN.{length}
 use Rattle.rules.specs.declared.Port.{Port}
 use Rattle.rules.specs.Outcomes.{Outcome}
-use Rattle.rules.specs.Steps.{Op, step, ResolveKey, DependencyPort, Register, Begin, Ready, Fail, Unload, Finish, Replace, Fits, Admit, Admits, Call, Retire, RetireChild, ChildIdentity, Remove, Offer, Read, Visible, Own, FirstMissing, Matching, Declares, Listed, AskPlugin, AskRegistry, NextAbove}
+use Rattle.rules.specs.Steps.{Op, step, ResolveKey, DependencyPort, Register, Begin, Ready, Fail, Unload, Finish, Replace, Fits, Admit, Admits, Call, Retire, RetireChild, ChildIdentity, Remove, Offer, Read, Visible, Own, FirstMissing, Matching, Declares, Listed, AskPlugin, AskRegistry, IdFrom}
 use Rattle.memory.specs.View.{view}
 use Rattle.memory.specs.Known.{storedLife, stored-size}
 use Rattle.freeing.specs.Words.{removedFrom, removed-size}
@@ -46,7 +46,7 @@ wayOf (Declares id q) = asks
 wayOf (Listed w id place buffer) = asks
 wayOf (AskPlugin f id) = asks
 wayOf (AskRegistry t) = asks
-wayOf (NextAbove n) = asks
+wayOf (IdFrom n) = asks
 
 -- The definitions that the functions' promises name.
 abbrev pub leftBy : Way → List ℕ → Outcome → List ℕ

@@ -1,4 +1,5 @@
 pub mod Leaves
+pub mod Starts
 pub mod Demand1
 pub mod Demand2
 pub mod Demand3

@@ -2,7 +2,7 @@
 // number; the numbers of an answer go to `out` behind their count. A refusal leaves the memory, the slot, the buffer and
 // `out` as they were, but that a refused replacement answers its payload.
 ghost use mathlib.Core.Path.{_≡_};
-ghost use Rattle.demands.specs.Demand2.{blank};
+ghost use Rattle.demands.specs.Starts.{blank};
 use memory::WORDS;
 
 mod admission;
@@ -39,8 +39,8 @@ pub use queries::vaskelbi_count;
 pub use queries::vaskelbi_domain;
 pub use queries::vaskelbi_first;
 pub use queries::vaskelbi_generation;
+pub use queries::vaskelbi_id_from;
 pub use queries::vaskelbi_next;
-pub use queries::vaskelbi_next_above;
 pub use queries::vaskelbi_parent;
 pub use queries::vaskelbi_payload;
 pub use queries::vaskelbi_phase;

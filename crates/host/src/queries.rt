@@ -3,7 +3,7 @@ ghost use mathlib.Core.Path.{_≡_};
 ghost use mathlib.Core.List.{[], _∷_};
 ghost use Rattle.rules.specs.Outcomes.{Accepted};
 ghost use Rattle.rules.specs.Queries.{Parent, Anchor, PhaseOf, RetiredMark, Generation, Revision, Payload, RootOf, Domain, FirstId, NextId, Registered, RowsInUse};
-ghost use Rattle.rules.specs.Steps.{AskPlugin, AskRegistry, NextAbove};
+ghost use Rattle.rules.specs.Steps.{AskPlugin, AskRegistry, IdFrom};
 ghost use Rattle.telling.specs.Told.{Tells};
 ghost use Rattle.host.specs.Tells.{answer};
 use memory::WORDS;
@@ -69,12 +69,12 @@ pub extern "C" fn vaskelbi_root(m: &[u64; WORDS], id: u64, out: &mut [u64; ANSWE
     telling::root(asking::root(m, id), out)
 }
 
-// The lowest registered id above a number, or no number.
+// The lowest registered id at or above a number, or no number.
 #[no_mangle]
-pub extern "C" fn vaskelbi_next_above(m: &[u64; WORDS], number: u64, out: &mut [u64; ANSWER]) -> u64
-    ensures { λ r. ⌜ Tells (answer (now (m .entry)) (NextAbove number)) (now (out .entry)) r (now (out .exit)) ⌝ }
+pub extern "C" fn vaskelbi_id_from(m: &[u64; WORDS], number: u64, out: &mut [u64; ANSWER]) -> u64
+    ensures { λ r. ⌜ Tells (answer (now (m .entry)) (IdFrom number)) (now (out .entry)) r (now (out .exit)) ⌝ }
 {
-    telling::above(places::next_above(m, number), out)
+    telling::above(places::id_from(m, number), out)
 }
 
 #[no_mangle]

@@ -1,19 +1,21 @@
 -- One turn of the loops over the places.
-use Prim.Native.Nat.{ℕ, zero, suc, _+_, _-_, _*_, _/_, _%_, _^_, _<_, _≤_}
-use native.Mathlib.Nat.{mod-eq-of-lt, not-suc-le-zero}
+use Prim.Native.Nat.{ℕ, suc, _+_, _-_, _*_, _/_, _%_, _^_, _<_, _≤_}
+use native.Mathlib.Nat.{mod-eq-of-lt}
 use native.Mathlib.Omega.{arith}
 use mathlib.Core.Path.{_≡_, refl, sym, ap, _∙_}
 use mathlib.Core.Bool.{true, false}
 use mathlib.Core.List.{List}
-use mathlib.Core.Option.{Option}
-use lib.Dec.{eqb, ltb, lit<}
+use mathlib.Core.Option.{Option, some}
+use lib.Dec.{ltb, lit<}
 use lib.Pow.{shr-shr}
-use borrow.Author.Tests.{lt-ltb, eq-eqb, ne-eqb}
+use borrow.Author.Tests.{lt-ltb, le-ltb, eq-eqb, ne-eqb}
 use Rattle.rules.specs.Basics.{pick}
 use Rattle.rules.specs.Queries.{lower as lowerId}
 use Rattle.memory.specs.Layout.{occupancy, taken, idAt, depsAt, provsAt}
 use Rattle.places.specs.Rows.{rowsAt, rowsBy, rowsFrom}
-use Rattle.places.specs.Above.{idIn, aboveFrom, above-lower, above-not, above-free}
+use Rattle.places.specs.Lowest.{idOf, lowestOf, lowest-here, lowest-not, lowest-free}
+use Rattle.places.specs.declared.Above.{Above}
+use Rattle.places.specs.declared.Above.the-variants.{Id, Nothing}
 
 -- Rows, four places at a time: what is counted, and what is left.
 abbrev pub Counted : List ℕ → ℕ → ℕ → ℕ → Type 0
@@ -75,45 +77,42 @@ rows-end m k w total h t = let s : 32 - k * 4 ≡ 0 = omega arith in let r : row
 
 -- Ids, from the last place down: the lowest of those passed.
 abbrev pub Passed : ℕ → List ℕ → ℕ → Option ℕ → Type 0
-Passed number m i o = (i ≤ 32) × (o ≡ aboveFrom number (32 - i) m i)
+Passed number m i o = (i ≤ 32) × (o ≡ lowestOf number (32 - i) m i)
 
 module _ (number : ℕ) (m : List ℕ) (i : ℕ) (o : Option ℕ) (h : 0 < i) (t : Passed number m i o) where
   -- one place down
-  down : (q : Option ℕ) → q ≡ aboveFrom number (suc (32 - i)) m (i - 1) → Passed number m (i - 1) q
+  down : (q : Option ℕ) → q ≡ lowestOf number (suc (32 - i)) m (i - 1) → Passed number m (i - 1) q
   down q e = let s : 32 - (i - 1) ≡ suc (32 - i) = omega arith in (omega arith, rw s e)
 
   same-place : (i - 1) % 32 ≡ i - 1
   same-place = mod-eq-of-lt (omega arith)
 
-  up : aboveFrom number (32 - i) m (i - 1 + 1) ≡ o
+  up : lowestOf number (32 - i) m (i - 1 + 1) ≡ o
   up = let s : i - 1 + 1 ≡ i = omega arith in rw (s, t .1)
 
-  pub id-lower : (id : ℕ) (q : Option ℕ) → taken m (i - 1) ≡ true → id ≡ idAt m ((i - 1) % 32) → number < id → q ≡ lowerId id o → Passed number m (i - 1) q
+  pub id-lower : (id : ℕ) (q : Option ℕ) → taken m (i - 1) ≡ true → id ≡ idAt m ((i - 1) % 32) → number ≤ id → q ≡ lowerId id o → Passed number m (i - 1) q
   id-lower id q y d u s =
       let f : id ≡ idAt m (i - 1) = rw same-place at d in
-      down q (s ∙ rw (f, above-lower number (32 - i) m (i - 1) y (rw f at u), up))
+      down q (s ∙ rw (f, lowest-here number (32 - i) m (i - 1) y (rw f at u), up))
 
-  pub id-not : (id : ℕ) → taken m (i - 1) ≡ true → id ≡ idAt m ((i - 1) % 32) → id ≤ number → Passed number m (i - 1) o
+  pub id-not : (id : ℕ) → taken m (i - 1) ≡ true → id ≡ idAt m ((i - 1) % 32) → id < number → Passed number m (i - 1) o
   id-not id y d u =
       let f : id ≡ idAt m (i - 1) = rw same-place at d in
-      down o (rw (above-not number (32 - i) m (i - 1) y (rw f at u), up))
+      down o (rw (lowest-not number (32 - i) m (i - 1) y (rw f at u), up))
 
   pub id-free : taken m (i - 1) ≡ false → Passed number m (i - 1) o
-  id-free f = down o (rw (above-free number (32 - i) m (i - 1) f, up))
+  id-free f = down o (rw (lowest-free number (32 - i) m (i - 1) f, up))
 
-pub id-end : (number : ℕ) (m : List ℕ) (i : ℕ) (o : Option ℕ) → i ≤ 0 → Passed number m i o → o ≡ aboveFrom number 32 m 0
+pub id-end : (number : ℕ) (m : List ℕ) (i : ℕ) (o : Option ℕ) → i ≤ 0 → Passed number m i o → o ≡ lowestOf number 32 m 0
 id-end number m i o h t = let s : i ≡ 0 = omega arith in rw s at (t .1)
 
--- The lower of two ids, where 0 stands for none.
-pub lower-alone : (id other : ℕ) → 0 < id → other ≡ 0 → idIn id ≡ lowerId id (idIn other)
-lower-alone zero other h e = absurd (not-suc-le-zero h)
-lower-alone (suc n) other h e = rw e
+-- The lower of two ids, of which the second may be missing.
+module _ (id : ℕ) (other : Above) where
+  pub lower-first : (n : ℕ) → other ≡ Id n → id < n → some id ≡ lowerId id (idOf other)
+  lower-first n e h = rw (e, lt-ltb id n h)
 
-pub lower-first : (id other : ℕ) → 0 < id → (other ≡ 0 → ⊥) → ltb id other ≡ true → idIn id ≡ lowerId id (idIn other)
-lower-first zero other h k e = absurd (not-suc-le-zero h)
-lower-first (suc n) zero h k e = absurd (k refl)
-lower-first (suc n) (suc o) h k e = rw e
+  pub lower-second : (n : ℕ) → other ≡ Id n → n ≤ id → some n ≡ lowerId id (idOf other)
+  lower-second n e h = rw (e, le-ltb id n h)
 
-pub lower-second : (id other : ℕ) → (other ≡ 0 → ⊥) → ltb id other ≡ false → idIn other ≡ lowerId id (idIn other)
-lower-second id zero k e = absurd (k refl)
-lower-second id (suc o) k e = rw e
+  pub lower-alone : other ≡ Nothing → some id ≡ lowerId id (idOf other)
+  lower-alone e = rw e

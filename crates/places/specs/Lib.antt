@@ -4,5 +4,5 @@ pub mod Taken
 pub mod Free
 pub mod Placed
 pub mod Rows
-pub mod Above
+pub mod Lowest
 pub mod Any

@@ -4,16 +4,16 @@ ghost use Prim.Native.Nat.{_<_, _≤_, _/_, _%_, _^_};
 ghost use lib.ListN.{length};
 ghost use Rattle.rules.specs.Holds.{count, rowsInUse};
 ghost use Rattle.rules.specs.Outcomes.{answerOf};
-ghost use Rattle.rules.specs.Queries.{nextAbove, lower as lowerId};
+ghost use Rattle.rules.specs.Queries.{idFrom, lower as lowerId};
 ghost use Rattle.memory.specs.Layout.{occupancy};
 ghost use Rattle.memory.specs.View.{view};
 ghost use Rattle.places.specs.Changes.{freeAt, occupiedAt, vacatedAt, aboveAnswer};
-ghost use Rattle.places.specs.Above.{idIn};
+ghost use Rattle.places.specs.Lowest.{idOf};
 ghost use Rattle.places.specs.Rows.{rowsBy, rowsFrom};
 use memory::Place;
 use memory::WORDS;
 
-// The next registered id above a number, or nothing.
+// The lowest registered id at or above a number, or nothing.
 pub enum Above {
     Id(u64),
     Nothing,
@@ -101,33 +101,32 @@ pub fn rows_in_use(m: &[u64; WORDS]) -> usize
     total
 }
 
-// The lowest registered id above a number. An id above a number is not 0, which stands for none.
-pub fn next_above(m: &[u64; WORDS], number: u64) -> Above
-    ensures { λ r. ⌜ aboveAnswer r ≡ answerOf (nextAbove (view (now (m .entry))) number) ⌝ }
+// The lowest registered id at or above a number.
+pub fn id_from(m: &[u64; WORDS], number: u64) -> Above
+    ensures { λ r. ⌜ aboveAnswer r ≡ answerOf (idFrom (view (now (m .entry))) number) ⌝ }
 {
-    let mut found: u64 = 0;
+    let mut found = Above::Nothing;
     let mut i: usize = 32;
     while 0 < i {
         i -= 1;
         if memory::is_taken(m, i) {
             let id = memory::id(m, i);
-            if number < id {
+            if number <= id {
                 found = lower(id, found);
             }
         }
     }
-    if found == 0 {
-        return Above::Nothing;
-    }
-    Above::Id(found)
+    found
 }
 
 // The lower of two ids, of which the second may be missing.
-fn lower(id: u64, other: u64) -> u64
-    requires { ⌜ 0 < id ⌝ }
-    ensures { λ r. ⌜ idIn r ≡ lowerId id (idIn other) ⌝ }
+fn lower(id: u64, other: Above) -> Above
+    ensures { λ r. ⌜ idOf r ≡ lowerId id (idOf other) ⌝ }
 {
-    if other == 0 || id < other { id } else { other }
+    match other {
+        Above::Id(n) => { if id < n { Above::Id(id) } else { Above::Id(n) } }
+        Above::Nothing => Above::Id(id),
+    }
 }
 
 // Tells the proof how long the memory is; compiles to nothing.

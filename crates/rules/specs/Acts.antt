@@ -3,7 +3,7 @@ use Prim.Native.Nat.{ℕ}
 use Rattle.rules.specs.Registration.{Definition}
 use Rattle.rules.specs.Steps.{Op, ResolveKey, DependencyPort, Register, Begin, Ready, Fail, Unload, Finish, Replace, Fits, Admit, Admits, Call}
 use Rattle.rules.specs.Steps.{Retire, RetireChild, ChildIdentity, Remove, Offer, Read, Visible, Own, FirstMissing, Matching, Declares}
-use Rattle.rules.specs.Steps.{Listed, AskPlugin, AskRegistry, NextAbove}
+use Rattle.rules.specs.Steps.{Listed, AskPlugin, AskRegistry, IdFrom}
 
 pub data Act : Type 0 where
   joins : Definition → Act
@@ -40,4 +40,4 @@ act (Declares id q) = stays
 act (Listed w id place l) = stays
 act (AskPlugin f id) = stays
 act (AskRegistry t) = stays
-act (NextAbove n) = stays
+act (IdFrom n) = stays

@@ -12,7 +12,7 @@ use Rattle.rules.specs.Outcomes.{Answer, Refused, Accepted}
 use Rattle.rules.specs.Admission.{Invocation, five, receipt}
 use Rattle.rules.specs.Steps.{Op, Event, ResolveKey, DependencyPort, Register, Begin, Ready, Fail, Unload, Finish, Replace, Fits, Admit, Admits, Call}
 use Rattle.rules.specs.Steps.{Retire, RetireChild, ChildIdentity, Remove, Offer, Read, Visible, Own, FirstMissing, Matching, Declares}
-use Rattle.rules.specs.Steps.{Listed, AskPlugin, AskRegistry, NextAbove}
+use Rattle.rules.specs.Steps.{Listed, AskPlugin, AskRegistry, IdFrom}
 
 -- What an accepted operation tells of a plugin, as far as demand 3 goes.
 pub data Told : Type 0 where
@@ -62,7 +62,7 @@ told (Declares id q) vs = none
 told (Listed w id place l) vs = none
 told (AskPlugin f id) vs = none
 told (AskRegistry t) vs = none
-told (NextAbove n) vs = none
+told (IdFrom n) vs = none
 
 -- A refused operation tells nothing.
 abbrev pub noted : Op → Answer → Option Note

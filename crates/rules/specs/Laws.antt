@@ -1,5 +1,6 @@
 pub mod Tests
 pub mod Lookups
+pub mod Lowest
 pub mod Members
 pub mod Once
 pub mod Table

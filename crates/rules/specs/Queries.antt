@@ -3,7 +3,7 @@ use Prim.Native.Nat.{ℕ}
 use mathlib.Core.Bool.{Bool}
 use mathlib.Core.List.{List, [], _∷_}
 use mathlib.Core.Option.{Option, none, some}
-use lib.Dec.{ltb}
+use lib.Dec.{ltb, leb}
 use Rattle.rules.specs.Basics.{pick, yesNo, one}
 use Rattle.rules.specs.Holds.{Plugin, Registry, plugins, count, rowsInUse}
 use Rattle.rules.specs.Holds.{Phase, Idle, Loading, Active, Unloading, Root, Unissued, Queued, Spent}
@@ -53,15 +53,15 @@ totalOf RowsInUse r = rowsInUse r
 abbrev pub askRegistry : Registry → Total → Outcome
 askRegistry r t = answers (totalOf t r ∷ [])
 
--- the lowest id above a number, or none
+-- the lowest id at or above a number, or none
 abbrev pub lower : ℕ → Option ℕ → Option ℕ
 lower x none = some x
 lower x (some y) = some (pick (ltb x y) x y)
 
-abbrev pub lowestAbove : ℕ → List Plugin → Option ℕ
-lowestAbove n [] = none
-lowestAbove n (p ∷ ps) = pick (ltb n (p .id)) (lower (p .id) (lowestAbove n ps)) (lowestAbove n ps)
+abbrev pub lowestFrom : ℕ → List Plugin → Option ℕ
+lowestFrom n [] = none
+lowestFrom n (p ∷ ps) = pick (leb n (p .id)) (lower (p .id) (lowestFrom n ps)) (lowestFrom n ps)
 
--- The next registered id above a number, so that a host can go through the plugins by rising id.
-unfoldable pub nextAbove : Registry → ℕ → Outcome
-nextAbove r n = answers (one (lowestAbove n (plugins r)))
+-- The lowest registered id from a number on: asked from 0 and then from the id after, it goes through the plugins by rising id.
+unfoldable pub idFrom : Registry → ℕ → Outcome
+idFrom r n = answers (one (lowestFrom n (plugins r)))

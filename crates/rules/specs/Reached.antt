@@ -23,10 +23,10 @@ use Rattle.rules.specs.Admission.{admit, admits, isAccepted, isLive, cal
 use Rattle.rules.specs.Retirement.{retire, retireChild, childIdentity, remove}
 use Rattle.rules.specs.Values.{offer, read, visible, own, missing, matching, declares}
 use Rattle.rules.specs.Lists.{listing, list}
-use Rattle.rules.specs.Queries.{askPlugin, askRegistry, nextAbove}
+use Rattle.rules.specs.Queries.{askPlugin, askRegistry, idFrom}
 use Rattle.rules.specs.Steps.{Op, ResolveKey, DependencyPort, Register, Begin, Ready, Fail, Unload, Finish, Replace, Fits, Admit, Admits, Call}
 use Rattle.rules.specs.Steps.{Retire, RetireChild, ChildIdentity, Remove, Offer, Read, Visible, Own, FirstMissing, Matching, Declares}
-use Rattle.rules.specs.Steps.{Listed, AskPlugin, AskRegistry, NextAbove, step}
+use Rattle.rules.specs.Steps.{Listed, AskPlugin, AskRegistry, IdFrom, step}
 use Rattle.rules.specs.Examples.{fresh, worn, holding}
 use Rattle.rules.specs.Reached.Transcripts.{Line, Holds, keys}
 use Rattle.rules.specs.Reached.Registrations.{registrations, lastId, fullAndLast, crowd, fullAndLong}
@@ -61,7 +61,7 @@ kind (Declares id q) = 23
 kind (Listed w id place buffer) = 24
 kind (AskPlugin f id) = 25
 kind (AskRegistry t) = 26
-kind (NextAbove n) = 27
+kind (IdFrom n) = 27
 
 abbrev pub isRefusal : ℕ → Answer → Bool
 isRefusal n (Refused m vs) = eqb m n
@@ -100,7 +100,7 @@ pub record Reached : Type 0 where
   pub every-refusal : all givenSomewhere (keys 23 1) ≡ true
 
 pub reached : Reached
-unfolding after lentAfter checked found handingBack lookup count provider rowsInUse badRealms resolve resolveKey dependencyList dependencyPort dependenciesOf newPlugin register begin ready fail unload finish replace fits admit admits isLive call retire retireChild childIdentity remove offer read visible own missing matching declares listing list askPlugin nextAbove
+unfolding after lentAfter checked found handingBack lookup count provider rowsInUse badRealms resolve resolveKey dependencyList dependencyPort dependenciesOf newPlugin register begin ready fail unload finish replace fits admit admits isLive call retire retireChild childIdentity remove offer read visible own missing matching declares listing list askPlugin idFrom
 reached = record {
   registrations = refl;
   lastId = refl;

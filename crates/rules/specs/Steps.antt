@@ -12,7 +12,7 @@ use Rattle.rules.specs.Admission.{Ticket, Invocation, admit, admits, cal
 use Rattle.rules.specs.Retirement.{Identity, retire, retireChild, childIdentity, remove}
 use Rattle.rules.specs.Values.{offer, read, visible, own, missing, matching, declares}
 use Rattle.rules.specs.Lists.{Which, list}
-use Rattle.rules.specs.Queries.{Field, Total, askPlugin, askRegistry, nextAbove}
+use Rattle.rules.specs.Queries.{Field, Total, askPlugin, askRegistry, idFrom}
 
 pub data Op : Type 0 where
   ResolveKey : (realms : List ℕ) (key : ℕ) → Op
@@ -38,7 +38,7 @@ pub data Op : Type 0 where
   Listed : Which → (id place : ℕ) (buffer : List ℕ) → Op
   AskPlugin : Field → (id : ℕ) → Op
   AskRegistry : Total → Op
-  NextAbove : (number : ℕ) → Op
+  IdFrom : (number : ℕ) → Op
 
 abbrev pub step : Registry → Op → Outcome
 step r (ResolveKey realms key) = resolveKey realms key
@@ -68,7 +68,7 @@ step r (Declares id q) = declares r id q
 step r (Listed w id place buffer) = list r w id place buffer
 step r (AskPlugin f id) = askPlugin r f id
 step r (AskRegistry t) = askRegistry r t
-step r (NextAbove n) = nextAbove r n
+step r (IdFrom n) = idFrom r n
 
 -- What an operation answers, and the registry afterwards.
 abbrev pub answerTo : Registry → Op → Answer
@@ -106,7 +106,7 @@ lent (Declares id q) = []
 lent (Listed w id place buffer) = buffer
 lent (AskPlugin f id) = []
 lent (AskRegistry t) = []
-lent (NextAbove n) = []
+lent (IdFrom n) = []
 
 abbrev pub lentAfterStep : Registry → Op → List ℕ
 lentAfterStep r o = lentAfter (lent o) (step r o)

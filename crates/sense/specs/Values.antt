@@ -20,8 +20,8 @@ use Rattle.rules.specs.Admission.{admit, admits, call}
 use Rattle.rules.specs.Retirement.{Identity, retireFound, retire, retireChild, identity, childIdentity, remove}
 use Rattle.rules.specs.Values.{valueIn, given, served, seen, firstMissing, offer, read, visible, own, missing, matching, declares}
 use Rattle.rules.specs.Lists.{listing, list}
-use Rattle.rules.specs.Queries.{Field, fieldOf, askPlugin, lowestAbove, nextAbove}
-use Rattle.rules.specs.Steps.{Op, answerTo, ResolveKey, DependencyPort, Register, Begin, Ready, Fail, Unload, Finish, Replace, Fits, Admit, Admits, Call, Retire, RetireChild, ChildIdentity, Remove, Offer, Read, Visible, Own, FirstMissing, Matching, Declares, Listed, AskPlugin, AskRegistry, NextAbove}
+use Rattle.rules.specs.Queries.{Field, fieldOf, askPlugin, lowestFrom, idFrom}
+use Rattle.rules.specs.Steps.{Op, answerTo, ResolveKey, DependencyPort, Register, Begin, Ready, Fail, Unload, Finish, Replace, Fits, Admit, Admits, Call, Retire, RetireChild, ChildIdentity, Remove, Offer, Read, Visible, Own, FirstMissing, Matching, Declares, Listed, AskPlugin, AskRegistry, IdFrom}
 use Rattle.rules.specs.Laws.Tests.{checked-elim, found-elim}
 use Rattle.showing.specs.Shown.{valuesOf}
 use Rattle.showing.specs.Told.{one-fits, field-fits}
@@ -102,7 +102,7 @@ few-seen q (some p) = few-picked (isActive (p .phase)) (one (valueIn q (p .provi
 
 -- No operation answers more than six numbers.
 pub few-values : (r : Registry) (o : Op) → length (valuesOf (answerTo r o)) ≤ 6
-unfolding resolveKey dependencyPort register begin ready fail unload finish replace fits admit admits call retire retireChild childIdentity remove offer read visible own missing matching declares listing list askPlugin nextAbove
+unfolding resolveKey dependencyPort register begin ready fail unload finish replace fits admit admits call retire retireChild childIdentity remove offer read visible own missing matching declares listing list askPlugin idFrom
 few-values r (ResolveKey realms key) = few-checked _ _ (omega arith)
 few-values r (DependencyPort id key) = few-known r id _ λ p. few-first key (p .dependencies)
 few-values r (Register d) = few-checked _ _ (omega arith)
@@ -130,7 +130,7 @@ few-values r (Declares id q) = few-known r id _ λ p. omega arith
 few-values r (Listed w id place buffer) = few-known r id _ λ p. few-checked _ _ (omega arith)
 few-values r (AskPlugin f id) = few-known r id _ λ p. few-field f p
 few-values r (AskRegistry t) = omega arith
-few-values r (NextAbove n) = few-one (lowestAbove n (plugins r))
+few-values r (IdFrom n) = few-one (lowestFrom n (plugins r))
 
 -- none at all
 abbrev Empty : List ℕ → Type 0

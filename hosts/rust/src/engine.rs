@@ -191,7 +191,7 @@ unsafe extern "C" {
     pub safe fn vaskelbi_revision(m: &[u64; WORDS], id: u64, out: &mut [u64; ANSWER]) -> u64;
     pub safe fn vaskelbi_payload(m: &[u64; WORDS], id: u64, out: &mut [u64; ANSWER]) -> u64;
     pub safe fn vaskelbi_root(m: &[u64; WORDS], id: u64, out: &mut [u64; ANSWER]) -> u64;
-    pub safe fn vaskelbi_next_above(m: &[u64; WORDS], number: u64, out: &mut [u64; ANSWER]) -> u64;
+    pub safe fn vaskelbi_id_from(m: &[u64; WORDS], number: u64, out: &mut [u64; ANSWER]) -> u64;
 
     pub safe fn vaskelbi_slot_pending(
         slot: &mut [u64; SLOT],

@@ -127,18 +127,15 @@ impl Registry {
         engine::vaskelbi_rows(&self.words)
     }
 
-    /// The lowest registered id above a number.
-    pub fn next_above(&self, number: u64) -> Option<u64> {
-        let found = plain_answer(|out| engine::vaskelbi_next_above(&self.words, number, out));
+    /// The lowest registered id at or above a number.
+    pub fn id_from(&self, number: u64) -> Option<u64> {
+        let found = plain_answer(|out| engine::vaskelbi_id_from(&self.words, number, out));
         perhaps(found, self::number)
     }
 
     /// The registered ids, rising.
     pub fn ids(&self) -> Ids<'_> {
-        let first = self.first_id();
-        // No number is below 0, so id 0 is asked for by itself.
-        let zero = first == 0 && self.phase(0).is_ok();
-        Ids { registry: self, zero, above: first.saturating_sub(1) }
+        Ids { registry: self, from: Some(0) }
     }
 
     /// The words, to compare or to look at. What they mean is the engine's own.
@@ -469,20 +466,17 @@ impl fmt::Debug for Registry {
 #[derive(Clone, Debug)]
 pub struct Ids<'a> {
     registry: &'a Registry,
-    /// Id 0 is registered and still to come.
-    zero: bool,
-    above: u64,
+    /// Where to go on; no number is above the last one.
+    from: Option<u64>,
 }
 
 impl Iterator for Ids<'_> {
     type Item = u64;
 
     fn next(&mut self) -> Option<u64> {
-        if core::mem::take(&mut self.zero) {
-            return Some(0);
-        }
-        self.above = self.registry.next_above(self.above)?;
-        Some(self.above)
+        let id = self.registry.id_from(self.from?)?;
+        self.from = id.checked_add(1);
+        Some(id)
     }
 }
 

@@ -136,12 +136,16 @@ fn ids_rise() {
     // The next plugin takes the lowest free place, and is still the last by its id.
     assert_eq!(registry.register(&bare(32)), Ok(32));
     assert_eq!(registry.ids().last(), Some(32));
-    assert_eq!(registry.next_above(30), Some(32));
-    assert_eq!(registry.next_above(32), None);
+    assert_eq!(registry.id_from(0), Some(1));
+    assert_eq!(registry.id_from(30), Some(30));
+    assert_eq!(registry.id_from(31), Some(32));
+    assert_eq!(registry.id_from(33), None);
 
     registry.reopen(0, u64::MAX - 2);
     assert_eq!(registry.register(&bare(0)), Ok(u64::MAX - 2));
     assert_eq!(registry.register(&bare(1)), Ok(u64::MAX - 1));
     assert_eq!(refused(&mut registry, |r| r.register(&bare(2))), Refusal::NoId);
     assert!(registry.ids().eq([u64::MAX - 2, u64::MAX - 1]));
+    assert_eq!(registry.id_from(u64::MAX - 1), Some(u64::MAX - 1));
+    assert_eq!(registry.id_from(u64::MAX), None);
 }

@@ -301,9 +301,9 @@ border! {
         }
     }
 
-    fn next_above(m: &Registry, low: u64, out: &mut Out) -> u64 {
-        let above = m.registered().map(|(id, _)| id).filter(|&id| id > low).min();
-        perhaps(Ok(above.map(|id| [id])), out)
+    fn id_from(m: &Registry, number: u64, out: &mut Out) -> u64 {
+        let lowest = m.registered().map(|(id, _)| id).filter(|&id| id >= number).min();
+        perhaps(Ok(lowest.map(|id| [id])), out)
     }
 
     fn resolve(realms: *const u64, count: usize, key: u64, out: &mut Out) -> u64 {

@@ -1,24 +1,22 @@
-use mathlib.Core.Path.{sym, _∙_}
-use mathlib.Core.Bool.{true≢false}
-use mathlib.Core.Logic.{⊎-elim}
-use borrow.Author.Tests.{eq-eqb}
-use Rattle.places.proofs.Loops.{lower-alone, lower-first, lower-second}
+use borrow.Author.Needs.{needs}
+use Rattle.places.proofs.Loops.{lower-first, lower-second, lower-alone}
 use Rattle.places.proofs.lower.Statement.{statement}
 use Rattle.places.proofs.lower.Tie as tie
 
+enum-known-other : tie.Need-enum-known-other
+enum-known-other c = search needs
+
+enum-told : tie.Need-enum-told
+enum-told c = search needs
+
 returns : tie.Need-returns
-returns c =
-    ⊎-elim
-    (λ w. lower-alone _ _ (c .before .before .pre) (w .0 .taken))
-    (λ w. lower-first _ _ (c .before .before .pre) (w .0 .left) (sym (w .1) ∙ c .if2 .taken))
-    (c .before .if1 .came)
+returns c = lower-first _ _ _ (c .before .before .other .given .1) (c .if1 .taken)
 
 returns-2 : tie.Need-returns-2
-returns-2 c =
-    ⊎-elim
-    (λ w. absurd (true≢false (sym (eq-eqb _ _ (w .0 .taken)) ∙ sym (w .1) ∙ c .if2 .left)))
-    (λ w. lower-second _ _ (w .0 .left) (sym (w .1) ∙ c .if2 .left))
-    (c .before .if1 .came)
+returns-2 c = lower-second _ _ _ (c .before .before .other .given .1) (c .if1 .left)
+
+returns-3 : tie.Need-returns-3
+returns-3 c = lower-alone _ _ (c .enum-told .given .1)
 
 pub lower-spec : {M : Type 1} → statement M
-lower-spec = tie.close (tie.spec returns returns-2)
+lower-spec = tie.close (tie.spec enum-known-other enum-told returns returns-2 returns-3)

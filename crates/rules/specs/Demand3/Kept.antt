@@ -18,10 +18,10 @@ use Rattle.rules.specs.Admission.{Ticket, Invocation, five, isLive, admi
 use Rattle.rules.specs.Retirement.{Identity, retire, retireFound, retireChild, childIdentity, remove}
 use Rattle.rules.specs.Values.{offer, read, visible, own, missing, matching, declares}
 use Rattle.rules.specs.Lists.{Which, listing, list}
-use Rattle.rules.specs.Queries.{askPlugin, askRegistry, nextAbove}
+use Rattle.rules.specs.Queries.{askPlugin, askRegistry, idFrom}
 use Rattle.rules.specs.Steps.{Op, Event, step, ResolveKey, DependencyPort, Register, Begin, Ready, Fail, Unload, Finish, Replace, Fits, Admit, Admits, Call}
 use Rattle.rules.specs.Steps.{Retire, RetireChild, ChildIdentity, Remove, Offer, Read, Visible, Own, FirstMissing, Matching, Declares}
-use Rattle.rules.specs.Steps.{Listed, AskPlugin, AskRegistry, NextAbove}
+use Rattle.rules.specs.Steps.{Listed, AskPlugin, AskRegistry, IdFrom}
 use Rattle.rules.specs.History.{registered, removed, replaced, settled, retired, admitted, called, told}
 use Rattle.rules.specs.Laws.Tests.{both, neither, Passed, checked-elim, found-elim}
 use Rattle.rules.specs.Laws.Lookups.{lookup-id}
@@ -154,7 +154,7 @@ module _ (s : Registry) (es : List Event) (r : Registry) (w : Linked s es r) whe
   resolve-kept l k = passes _ _ _ λ c. answered s es r w _ _ refl
 
   pub kept : (o : Op) → Good s es r o (step r o)
-  unfolding dependencyPort fits admits childIdentity visible own missing matching declares askPlugin nextAbove
+  unfolding dependencyPort fits admits childIdentity visible own missing matching declares askPlugin idFrom
   kept (ResolveKey realms key) = resolve-kept realms key
   kept (DependencyPort id key) = asks _ id _ (λ vs. refl)
   kept (Register f) = register-kept f
@@ -182,4 +182,4 @@ module _ (s : Registry) (es : List Event) (r : Registry) (w : Linked s es r) whe
   kept (Listed k id place buffer) = list-kept k id place buffer
   kept (AskPlugin f id) = asks _ id _ (λ vs. refl)
   kept (AskRegistry t) = answered s es r w _ _ refl
-  kept (NextAbove n) = answered s es r w _ _ refl
+  kept (IdFrom n) = answered s es r w _ _ refl

@@ -19,10 +19,10 @@ use Rattle.rules.specs.Admission.{Ticket, Invocation, isLive, admit, adm
 use Rattle.rules.specs.Retirement.{Identity, retire, retireFound, retireChild, childIdentity, remove}
 use Rattle.rules.specs.Values.{offered, offer, read, visible, own, missing, matching, declares}
 use Rattle.rules.specs.Lists.{listing, list}
-use Rattle.rules.specs.Queries.{askPlugin, askRegistry, nextAbove}
+use Rattle.rules.specs.Queries.{askPlugin, askRegistry, idFrom}
 use Rattle.rules.specs.Steps.{Op, step, ResolveKey, DependencyPort, Register, Begin, Ready, Fail, Unload, Finish, Replace, Fits, Admit, Admits, Call}
 use Rattle.rules.specs.Steps.{Retire, RetireChild, ChildIdentity, Remove, Offer, Read, Visible, Own, FirstMissing, Matching, Declares}
-use Rattle.rules.specs.Steps.{Listed, AskPlugin, AskRegistry, NextAbove}
+use Rattle.rules.specs.Steps.{Listed, AskPlugin, AskRegistry, IdFrom}
 use Rattle.rules.specs.Acts.{Act, joins, leaves, begins, stays, act}
 use Rattle.rules.specs.Laws.Tests.{both, neither, Passed, checked-elim, found-elim}
 use Rattle.rules.specs.Laws.Lookups.{lookup-id}
@@ -201,7 +201,7 @@ module _ (r : Registry) where
   asks o id f n = knows o id _ λ p e. answered o (f p) n
 
   pub lawful : (o : Op) → Lawful r o (step r o)
-  unfolding resolveKey dependencyPort fits admits childIdentity read visible own missing matching declares list listing askPlugin nextAbove
+  unfolding resolveKey dependencyPort fits admits childIdentity read visible own missing matching declares list listing askPlugin idFrom
   lawful (ResolveKey realms key) = passes _ _ _ λ c. answered _ _ refl
   lawful (DependencyPort id key) = asks _ id _ refl
   lawful (Register d) = register-lawful d
@@ -229,4 +229,4 @@ module _ (r : Registry) where
   lawful (Listed w id place buffer) = knows _ _ _ λ p e. passes _ _ _ λ c. wrote _ place _ _ refl
   lawful (AskPlugin f id) = asks _ id _ refl
   lawful (AskRegistry t) = answered _ _ refl
-  lawful (NextAbove n) = answered _ _ refl
+  lawful (IdFrom n) = answered _ _ refl

@@ -12,7 +12,7 @@ use Rattle.rules.specs.Queries.{Parent, Anchor, PhaseOf, RetiredMark, Ge
 use Rattle.rules.specs.Queries.{Domain, FirstId}
 use Rattle.rules.specs.Steps.{ResolveKey, DependencyPort, Begin, Ready, Fail, Unload, Finish, Replace, Fits, Admit, Admits, Call}
 use Rattle.rules.specs.Steps.{Retire, RetireChild, ChildIdentity, Remove, Offer, Read, Visible, Own, FirstMissing, Matching, Declares}
-use Rattle.rules.specs.Steps.{Listed, AskPlugin, AskRegistry, NextAbove}
+use Rattle.rules.specs.Steps.{Listed, AskPlugin, AskRegistry, IdFrom}
 use Rattle.rules.specs.Examples.{registers, plain, ticket, invocation}
 use Rattle.rules.specs.Reached.Transcripts.{Line, _↝_, ok, refused, child}
 
@@ -148,8 +148,9 @@ family =
     ∷ Remove 1 ↝ ok []
     ∷ registers (some 2) (port 101 0) [] [] [] ↝ refused Unknown
     ∷ registers none (port 101 0) [] [] [] ↝ ok (3 ∷ [])
-    ∷ NextAbove 0 ↝ ok (3 ∷ [])
-    ∷ NextAbove 3 ↝ ok []
+    ∷ IdFrom 0 ↝ ok (3 ∷ [])
+    ∷ IdFrom 3 ↝ ok (3 ∷ [])
+    ∷ IdFrom 4 ↝ ok []
     ∷ []
 
 -- Queries and lists of one plugin.
@@ -169,7 +170,7 @@ questions =
     ∷ AskPlugin Payload 9 ↝ refused Unknown
     ∷ AskRegistry Domain ↝ ok (7 ∷ [])
     ∷ AskRegistry FirstId ↝ ok (1 ∷ [])
-    ∷ NextAbove 1 ↝ ok (2 ∷ [])
+    ∷ IdFrom 2 ↝ ok (2 ∷ [])
     ∷ Listed Dependencies 9 4 (1 ∷ 1 ∷ 1 ∷ []) ↝ refused Unknown
     ∷ Listed Dependencies 1 4 (1 ∷ 1 ∷ 1 ∷ []) ↝ refused ShortBuffer
     ∷ Listed Provisions 1 2 (1 ∷ 1 ∷ 1 ∷ []) ↝ refused ShortBuffer

@@ -1,19 +1,19 @@
 use native.Mathlib.Omega.{arith}
 use mathlib.Core.Path.{sym, _∙_}
-use Rattle.places.specs.Above.{idIn, above-none, nothing-view, id-view}
+use Rattle.places.specs.Lowest.{idOf, lowest-none, lowest-view}
 use Rattle.places.proofs.Loops.{Passed, id-lower, id-not, id-free, id-end}
 use borrow.Author.Needs.{needs}
-use Rattle.places.proofs.next_above.Statement.{statement}
-use Rattle.places.proofs.next_above.Tie as tie
+use Rattle.places.proofs.id_from.Statement.{statement}
+use Rattle.places.proofs.id_from.Tie as tie
 
 abbrev Inv-loop : tie.InvT-loop
-Inv-loop m number found₀ i₀ found i = Passed number m i (idIn found)
+Inv-loop m number found₀ i₀ found i = Passed number m i (idOf found)
 
 abbrev μ-loop : tie.MeasureT-loop
 μ-loop m number found₀ i₀ found i = i
 
 loop-holds : tie.Need-loop-holds Inv-loop μ-loop
-loop-holds c = (omega arith, sym (above-none _ _ _))
+loop-holds c = (omega arith, sym (lowest-none _ _ _))
 
 sub-i : tie.Need-sub-i Inv-loop μ-loop
 sub-i c = search needs
@@ -51,13 +51,10 @@ loop-again-3 c =
     id-free _ _ _ _ (c .before .before .loop-test .taken) (c .before .before .before .loop .inv) (sym (c .before .is-taken .ensures) ∙ c .if1 .left)
 
 returns : tie.Need-returns Inv-loop μ-loop
-returns c = nothing-view _ _ _ (id-end _ _ _ _ (c .before .loop-test .left) (c .before .before .loop .inv)) (c .if3 .taken)
+returns c = lowest-view _ _ (c .before .loop .found) (id-end _ _ _ _ (c .loop-test .left) (c .before .loop .inv))
 
-returns-2 : tie.Need-returns-2 Inv-loop μ-loop
-returns-2 c = id-view _ _ _ (id-end _ _ _ _ (c .before .loop-test .left) (c .before .before .loop .inv)) (c .if3 .left)
-
-pub next-above-spec : {M : Type 1} → statement M
-next-above-spec =
+pub id-from-spec : {M : Type 1} → statement M
+id-from-spec =
     tie.close
     (tie.spec
     Inv-loop
@@ -73,5 +70,4 @@ next-above-spec =
     loop-again-2
     loop-less-3
     loop-again-3
-    returns
-    returns-2)
+    returns)
