@@ -2,4 +2,5 @@ pub mod Leaves
 pub mod Demand1
 pub mod Demand2
 pub mod Demand3
+pub mod Stays
 pub mod Exact
