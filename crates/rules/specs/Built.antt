@@ -1,9 +1,9 @@
 -- What every run keeps, from an opening on. No more than a written registry will have to meet, so that a load can start a run.
 use Prim.Native.Nat.{ℕ, _≤_, _<_}
 use mathlib.Core.Path.{_≡_}
-use mathlib.Core.Bool.{Bool, true, false}
-use mathlib.Core.List.{List, [], _∷_, map}
-use mathlib.Core.Option.{Option, none, some}
+use mathlib.Core.Bool.{true, false}
+use mathlib.Core.List.{List, _∷_, map}
+use mathlib.Core.Option.{some}
 use lib.ListN.{length}
 use Rattle.rules.specs.Basics.{all, any, isNone, isSome, twice, last}
 use Rattle.rules.specs.Holds.{Port, Provision, Plugin, Registry, plugins, provided, provides, running, lookup, rowsInUse, defaultRealm}

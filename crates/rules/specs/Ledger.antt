@@ -4,18 +4,20 @@ use Prim.Native.Nat.{ℕ, _+_, _≤_}
 use native.Mathlib.Omega.{arith}
 use mathlib.Core.Path.{_≡_, refl, sym, ap, _∙_}
 use mathlib.Core.Bool.{true, false}
-use mathlib.Core.List.{List, [], _∷_, map, map-map}
+use mathlib.Core.List.{List, [], _∷_, _++_, map, map-map}
 use mathlib.Core.Option.{Option, none, some}
 use lib.Dec.{eqb}
 use lib.ListN.{length, length-map, getD}
 use borrow.Author.Tests.{eqb-true, eq-eqb}
 use Rattle.rules.specs.Basics.{first, twice, sum, last}
-use Rattle.rules.specs.Holds.{Port, Plugin, Registry, plugins, lookup, opened, rowsOf, sumRows, rowsInUse}
-use Rattle.rules.specs.Outcomes.{Answer, Refused, Accepted, Outcome, refuses, answers, writes, stores, adds, removes, answerOf, after}
-use Rattle.rules.specs.Ports.{realmsOf}
+use Rattle.rules.specs.Holds.{Port, Plugin, Registry, plugins, lookup, count, provider, opened, rowsOf, sumRows, rowsInUse}
+use Rattle.rules.specs.Outcomes.{Answer, Refused, Accepted, Outcome, refuses, answers, writes, stores, adds, removes, checked, found, answerOf, after}
+use Rattle.rules.specs.Ports.{badRealms, realmsOf, resolve}
 use Rattle.rules.specs.Dependencies.{dependencyList}
-use Rattle.rules.specs.Registration.{Definition, parentOf, inheritedFrom, resolved, unoffered, dependenciesOf, newPlugin}
-use Rattle.rules.specs.Steps.{Op, Event, Run, event, step, answerTo, afterStep, goOn, goOnWith, run, runFresh}
+use Rattle.rules.specs.Registration.{Definition, parentOf, inheritedFrom, resolved, unoffered, dependenciesOf, newPlugin, register}
+use Rattle.rules.specs.Retirement.{retire, remove}
+use Rattle.rules.specs.Steps.{Op, Event, Run, step, answerTo, afterStep, goOn, goOnWith, run, runFresh, Retire, Remove}
+use Rattle.rules.specs.Examples.{fresh, E2-plugins}
 use Rattle.rules.specs.Acts.{Act, joins, leaves, begins, stays, act}
 use Rattle.rules.specs.Laws.Tests.{by-test}
 use Rattle.rules.specs.Laws.Once.{without, without-same, without-other, absent, once-without, sum-without}
@@ -23,7 +25,8 @@ use Rattle.rules.specs.Built.{Built}
 use Rattle.rules.specs.Kept.{opened-built, step-built}
 use Rattle.rules.specs.Kept.Places.{Only, only-stored, only-freed}
 use Rattle.rules.specs.Kept.Plugins.{as-many}
-use Rattle.rules.specs.Kept.Moves.{Turn, Join, Leave, fresh, turn-rows, join-only, join-rows, leave-rows}
+use Rattle.rules.specs.Kept.Moves.{Turn, Join, Leave, turn-rows, join-only, join-rows, leave-rows}
+use Rattle.rules.specs.Kept.Moves as moves
 use Rattle.rules.specs.Kept.Operations.{Dated, Lawful, lawful}
 
 -- An accepted registration: the id answered, the dependency list that the rule gave it, the number of its provisions.
@@ -71,6 +74,15 @@ ledger s (e ∷ es) = entered (e .answer) (act (e .op)) (ledger s es)
 abbrev pub entryRows : Entry → ℕ
 entryRows e = length (e .dependencies) + e .provisions + 1
 
+-- the rows that the ledger has after some operations on a fresh registry
+abbrev rowsAfter : List Op → ℕ
+rowsAfter ops = sum entryRows (ledger fresh (run fresh ops .events))
+
+-- E2's parent and child have 3 and 5 rows; without the child, 3 are left.
+pub ledger-example : (rowsAfter E2-plugins ≡ 8) × (rowsAfter (E2-plugins ++ Retire 2 ∷ Remove 2 ∷ []) ≡ 3)
+unfolding after checked found lookup count provider rowsInUse badRealms resolve dependencyList dependenciesOf newPlugin register retire remove
+ledger-example = (refl, refl)
+
 -- The ledger is the registry's: the same entries by id, each once, with the same rows in all.
 abbrev entryOf : Option Plugin → Option Entry
 entryOf none = none
@@ -100,8 +112,8 @@ start-booked s b = record {
 
 -- a change of what stands under one id, in both
 module _ (r r′ : Registry) (id : ℕ) (u u′ : Option Plugin) (o : Only r r′ id u u′) (l l′ : List Entry) (h : Booked l r) where
-  found : entryIn id l′ ≡ entryOf u′ → ((x : ℕ) → eqb id x ≡ false → entryIn x l′ ≡ entryIn x l) → (x : ℕ) → entryIn x l′ ≡ entryOf (lookup r′ x)
-  found here other x = by-test (eqb id x)
+  finds-after : entryIn id l′ ≡ entryOf u′ → ((x : ℕ) → eqb id x ≡ false → entryIn x l′ ≡ entryIn x l) → (x : ℕ) → entryIn x l′ ≡ entryOf (lookup r′ x)
+  finds-after here other x = by-test (eqb id x)
       (λ y. let i = eqb-true id x y in ap (λ x. entryIn x l′) (sym i) ∙ here ∙ sym (ap entryOf (o .now)) ∙ ap (λ x. entryOf (lookup r′ x)) i)
       (λ n. other x n ∙ h .finds x ∙ sym (ap entryOf (o .other x n)))
 
@@ -140,7 +152,7 @@ module _ (r : Registry) (b : Built r) (l : List Entry) (h : Booked l r) where
 
       kept : Booked l (after r (stores q vs))
       kept = record {
-        finds = found r (after r (stores q vs)) (q .id) (some p) (some q) (only-stored r vs p q e) l l h
+        finds = finds-after r (after r (stores q vs)) (q .id) (some p) (some q) (only-stored r vs p q e) l l h
             (h .finds (q .id) ∙ ap entryOf e ∙ ap some same) (λ x n. refl);
         once = h .once;
         rows = h .rows ∙ sym (turn-rows r b p q e t vs);
@@ -154,9 +166,9 @@ module _ (r : Registry) (b : Built r) (l : List Entry) (h : Booked l r) where
       → Booked (newEntry d (r .next) l ∷ l) (after r (adds q vs))
   joined d vs q i j =
       let e : newEntry d (r .next) l ≡ heldEntry q = new-entry d ∙ sym (ap heldEntry i) in
-      let none-yet : entryIn (q .id) l ≡ none = h .finds (q .id) ∙ ap entryOf (fresh r b (q .id) (omega (arith, j .id))) in
+      let none-yet : entryIn (q .id) l ≡ none = h .finds (q .id) ∙ ap entryOf (moves.fresh r b (q .id) (omega (arith, j .id))) in
       rw e record {
-        finds = found r (after r (adds q vs)) (q .id) none (some q) (join-only r b q j vs) l (heldEntry q ∷ l) h
+        finds = finds-after r (after r (adds q vs)) (q .id) none (some q) (join-only r b q j vs) l (heldEntry q ∷ l) h
             (rw (same-id (q .id))) (λ x n. rw n);
         once = rw (absent (λ (e : Entry). e .id) (q .id) l none-yet, h .once);
         rows = let k = h .rows in let m = join-rows r b q j vs in omega arith;
@@ -169,7 +181,7 @@ module _ (r : Registry) (b : Built r) (l : List Entry) (h : Booked l r) where
       → Booked (without (λ (e : Entry). e .id) id l) (after r (removes id vs))
   left vs id p e v =
       record {
-        finds = found r (after r (removes id vs)) id (some p) none (only-freed r vs id p e) l (without (λ (e : Entry). e .id) id l) h
+        finds = finds-after r (after r (removes id vs)) id (some p) none (only-freed r vs id p e) l (without (λ (e : Entry). e .id) id l) h
             (without-same (λ (e : Entry). e .id) id l) (λ x n. without-other (λ (e : Entry). e .id) id x l n);
         once = once-without (λ (e : Entry). e .id) id l (h .once);
         rows =

@@ -26,7 +26,7 @@ use Rattle.rules.specs.Lists.{listing, list}
 use Rattle.rules.specs.Queries.{askPlugin, askRegistry, idFrom}
 use Rattle.rules.specs.Steps.{Op, ResolveKey, DependencyPort, Register, Begin, Ready, Fail, Unload, Finish, Replace, Fits, Admit, Admits, Call}
 use Rattle.rules.specs.Steps.{Retire, RetireChild, ChildIdentity, Remove, Offer, Read, Visible, Own, FirstMissing, Matching, Declares}
-use Rattle.rules.specs.Steps.{Listed, AskPlugin, AskRegistry, IdFrom, step}
+use Rattle.rules.specs.Steps.{Listed, AskPlugin, AskRegistry, IdFrom}
 use Rattle.rules.specs.Examples.{fresh, worn, holding}
 use Rattle.rules.specs.Reached.Transcripts.{Line, Holds, keys}
 use Rattle.rules.specs.Reached.Registrations.{registrations, lastId, fullAndLast, crowd, fullAndLong}

@@ -1,12 +1,12 @@
 -- No operation changes the domain or the first id, and only begin changes a generation: in one step and in any run.
 use Prim.Native.Nat.{ℕ, _+_, _≤_}
 use native.Mathlib.Omega.{arith}
-use mathlib.Core.Path.{_≡_, refl, sym, ap, _∙_, subst⁻¹}
+use mathlib.Core.Path.{_≡_, refl, sym, ap, _∙_}
 use mathlib.Core.Bool.{true, false}
 use mathlib.Core.List.{List, [], _∷_}
 use mathlib.Core.Option.{Option, none, some}
 use lib.Dec.{eqb}
-use borrow.Author.Tests.{eqb-true, eq-eqb, ne-eqb}
+use borrow.Author.Tests.{eqb-true, ne-eqb}
 use Rattle.rules.specs.Basics.{yesNo, last}
 use Rattle.rules.specs.Holds.{Plugin, Registry, lookup, opened, neverBegun}
 use Rattle.rules.specs.Outcomes.{Answer, Refused, Accepted, Outcome, refuses, answers, writes, stores, adds, removes, answerOf, after}
@@ -16,7 +16,7 @@ use Rattle.rules.specs.Acts.{Act, joins, leaves, begins, stays, act}
 use Rattle.rules.specs.Laws.Tests.{by-test}
 use Rattle.rules.specs.Built.{Built}
 use Rattle.rules.specs.Kept.{opened-built, step-built}
-use Rattle.rules.specs.Kept.Places.{Only, only-stored, only-freed}
+use Rattle.rules.specs.Kept.Places.{only-stored, only-freed}
 use Rattle.rules.specs.Kept.Moves.{Join, fresh, join-only}
 use Rattle.rules.specs.Kept.Operations.{Dated, Lawful, lawful}
 
