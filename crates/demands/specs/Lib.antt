@@ -2,4 +2,3 @@ pub mod Leaves
 pub mod Demand1
 pub mod Demand2
 pub mod Demand3
-pub mod Exact

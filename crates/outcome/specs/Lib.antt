@@ -1,0 +1,10 @@
+pub mod One
+pub mod Equations
+pub mod Answers
+pub mod Records
+pub mod Lists
+pub mod Words
+pub mod Operations
+pub mod Values
+pub mod Host
+pub mod Console
