@@ -1,4 +1,5 @@
 pub mod One
+pub mod Silent
 pub mod Equations
 pub mod Answers
 pub mod Records
