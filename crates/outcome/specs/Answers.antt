@@ -1,6 +1,7 @@
--- Two answers with the same numbers are equal, for the answers whose crates do not say so themselves.
+-- Two answers that say the same are equal, for the answers whose crates do not say so themselves.
 use Prim.Native.Nat.{ℕ}
-use mathlib.Core.Path.{_≡_, refl, sym, ap, _∙_}
+use mathlib.Core.Path.{_≡_, refl, ap}
+use Rattle.rules.specs.declared.Generation.{Generation}
 use Rattle.rules.specs.declared.Root.{Root}
 use Rattle.rules.specs.declared.Root.the-variants.{Unissued, Queued, Spent}
 use Rattle.rules.specs.Queries.{rootNumbers}
@@ -21,14 +22,9 @@ use Rattle.retiring.specs.declared.Child.the-variants as child
 use Rattle.stepping.specs.Lives.{begunAnswer}
 use Rattle.stepping.specs.declared.Begun.{Begun}
 use Rattle.stepping.specs.declared.Begun.the-variants as begun
-
--- The law that every list entry of docs/FUNCTIONS.md uses: a promise fixes f of the outcome; where f tells outcomes apart, it allows
--- one. For a promise `r ≡ ..`, f is the identity.
-pub one-outcome : {A B : Type 0} (f : A → B) → ((a b : A) → f a ≡ f b → a ≡ b) → (x : B) (a b : A) → f a ≡ x → f b ≡ x → a ≡ b
-one-outcome f exact x a b e g = exact a b (e ∙ sym g)
-
-pub by-equation : {A : Type 0} (x a b : A) → a ≡ x → b ≡ x → a ≡ b
-by-equation x a b e g = one-outcome (λ y. y) (λ c d h. h) x a b e g
+use Rattle.valuing.specs.Values.{valueOf}
+use Rattle.valuing.specs.declared.Value.{Value}
+use Rattle.valuing.specs.declared.Value.the-variants as value
 
 pub number-exact : (a b : Number) → numberAnswer a ≡ numberAnswer b → a ≡ b
 number-exact (number.Is n) (number.Is k) e = let j : n ≡ k = cc in ap number.Is j
@@ -93,3 +89,13 @@ parent-exact (parent.Of n) (parent.Of k) e = let j : n ≡ k = cc in ap parent.O
 parent-exact (parent.Of n) parent.Nobody e = cc
 parent-exact parent.Nobody (parent.Of k) e = cc
 parent-exact parent.Nobody parent.Nobody e = refl
+
+-- a value as the words hold it
+pub held-exact : (a b : Value) → valueOf a ≡ valueOf b → a ≡ b
+held-exact (value.Is v) (value.Is w) e = let j : v ≡ w = cc in ap value.Is j
+held-exact (value.Is v) value.Nothing e = cc
+held-exact value.Nothing (value.Is w) e = cc
+held-exact value.Nothing value.Nothing e = refl
+
+pub generation-exact : (a b : Generation) → a .0 ≡ b .0 → a ≡ b
+generation-exact a b e = λ i. record { 0 = e i }

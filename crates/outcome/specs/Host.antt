@@ -1,0 +1,206 @@
+-- Each promise of these crates allows one outcome: what a host is told, and what it calls.
+use Rattle.telling.proofs as telling
+use Rattle.host.proofs as host
+use Rattle.outcome.specs.One.{One}
+use Rattle.outcome.specs.Equations.{by-equation, by-three, by-two, memory-alone, one-number}
+
+pub telling-done : One telling.done.ended telling.done.Reads.Learnt
+telling-done κs a r s ms ns p q = by-equation p q
+
+pub telling-verdict : One telling.verdict.ended telling.verdict.Reads.Learnt
+telling-verdict κs a r s ms ns p q = by-equation p q
+
+pub telling-whether : One telling.whether.ended telling.whether.Reads.Learnt
+telling-whether κs a r s ms ns p q = by-two p q
+
+pub telling-number : One telling.number.ended telling.number.Reads.Learnt
+telling-number κs a r s ms ns p q = by-two p q
+
+pub telling-perhaps : One telling.perhaps.ended telling.perhaps.Reads.Learnt
+telling-perhaps κs a r s ms ns p q = by-two p q
+
+pub telling-port : One telling.port.ended telling.port.Reads.Learnt
+telling-port κs a r s ms ns p q = by-two p q
+
+pub telling-root : One telling.root.ended telling.root.Reads.Learnt
+telling-root κs a r s ms ns p q = by-two p q
+
+pub telling-resolved : One telling.resolved.ended telling.resolved.Reads.Learnt
+telling-resolved κs a r s ms ns p q = by-two p q
+
+pub telling-listed : One telling.listed.ended telling.listed.Reads.Learnt
+telling-listed κs a r s ms ns p q = by-two p q
+
+pub telling-above : One telling.above.ended telling.above.Reads.Learnt
+telling-above κs a r s ms ns p q = by-two p q
+
+pub telling-registered : One telling.registered.ended telling.registered.Reads.Learnt
+telling-registered κs a r s ms ns p q = by-two p q
+
+pub telling-begun : One telling.begun.ended telling.begun.Reads.Learnt
+telling-begun κs a r s ms ns p q = by-two p q
+
+pub telling-replaced : One telling.replaced.ended telling.replaced.Reads.Learnt
+telling-replaced κs a r s ms ns p q = by-two p q
+
+pub telling-admitted : One telling.admitted.ended telling.admitted.Reads.Learnt
+telling-admitted κs a r s ms ns p q = by-two p q
+
+pub telling-called : One telling.called.ended telling.called.Reads.Learnt
+telling-called κs a r s ms ns p q = by-two p q
+
+pub telling-child : One telling.child.ended telling.child.Reads.Learnt
+telling-child κs a r s ms ns p q = by-two p q
+
+pub telling-reading : One telling.reading.ended telling.reading.Reads.Learnt
+telling-reading κs a r s ms ns p q = by-two p q
+
+pub telling-value : One telling.value.ended telling.value.Reads.Learnt
+telling-value κs a r s ms ns p q = by-two p q
+
+pub telling-yes-or-no : One telling.«yes_or_no».ended telling.«yes_or_no».Reads.Learnt
+telling-yes-or-no κs a r s ms ns p q = by-two p q
+
+pub host-vaskelbi-admit : One host.«vaskelbi_admit».ended host.«vaskelbi_admit».Reads.Learnt
+host-vaskelbi-admit κs a r s ms ns p q = by-three p q
+
+pub host-vaskelbi-admits : One host.«vaskelbi_admits».ended host.«vaskelbi_admits».Reads.Learnt
+host-vaskelbi-admits κs a r s ms ns p q = by-two p q
+
+pub host-vaskelbi-call : One host.«vaskelbi_call».ended host.«vaskelbi_call».Reads.Learnt
+host-vaskelbi-call κs a r s ms ns p q = by-three p q
+
+pub host-vaskelbi-slot-pending : One host.«vaskelbi_slot_pending».ended host.«vaskelbi_slot_pending».Reads.Learnt
+host-vaskelbi-slot-pending κs a r s ms ns p q = memory-alone p q
+
+pub host-vaskelbi-slot-assigned : One host.«vaskelbi_slot_assigned».ended host.«vaskelbi_slot_assigned».Reads.Learnt
+host-vaskelbi-slot-assigned κs a r s ms ns p q = memory-alone p q
+
+pub host-vaskelbi-slot-assign : One host.«vaskelbi_slot_assign».ended host.«vaskelbi_slot_assign».Reads.Learnt
+host-vaskelbi-slot-assign κs a r s ms ns p q = by-two p q
+
+pub host-vaskelbi-slot-reject : One host.«vaskelbi_slot_reject».ended host.«vaskelbi_slot_reject».Reads.Learnt
+host-vaskelbi-slot-reject κs a r s ms ns p q = by-two p q
+
+pub host-vaskelbi-slot-cancel : One host.«vaskelbi_slot_cancel».ended host.«vaskelbi_slot_cancel».Reads.Learnt
+host-vaskelbi-slot-cancel κs a r s ms ns p q = by-two p q
+
+pub host-vaskelbi-resolve : One host.«vaskelbi_resolve».ended host.«vaskelbi_resolve».Reads.Learnt
+host-vaskelbi-resolve κs a r s ms ns p q = by-two p q
+
+pub host-vaskelbi-lookup : One host.«vaskelbi_lookup».ended host.«vaskelbi_lookup».Reads.Learnt
+host-vaskelbi-lookup κs a r s ms ns p q = by-two p q
+
+pub host-vaskelbi-open : One host.«vaskelbi_open».ended host.«vaskelbi_open».Reads.Learnt
+host-vaskelbi-open κs a r s ms ns p q = memory-alone p q
+
+pub host-vaskelbi-list-dependencies : One host.«vaskelbi_list_dependencies».ended host.«vaskelbi_list_dependencies».Reads.Learnt
+host-vaskelbi-list-dependencies κs a r s ms ns p q = by-three p q
+
+pub host-vaskelbi-list-provisions : One host.«vaskelbi_list_provisions».ended host.«vaskelbi_list_provisions».Reads.Learnt
+host-vaskelbi-list-provisions κs a r s ms ns p q = by-three p q
+
+pub host-vaskelbi-list-realms : One host.«vaskelbi_list_realms».ended host.«vaskelbi_list_realms».Reads.Learnt
+host-vaskelbi-list-realms κs a r s ms ns p q = by-three p q
+
+pub host-vaskelbi-begin : One host.«vaskelbi_begin».ended host.«vaskelbi_begin».Reads.Learnt
+host-vaskelbi-begin κs a r s ms ns p q = by-three p q
+
+pub host-vaskelbi-ready : One host.«vaskelbi_ready».ended host.«vaskelbi_ready».Reads.Learnt
+host-vaskelbi-ready κs a r s ms ns p q = by-two p q
+
+pub host-vaskelbi-fail : One host.«vaskelbi_fail».ended host.«vaskelbi_fail».Reads.Learnt
+host-vaskelbi-fail κs a r s ms ns p q = by-two p q
+
+pub host-vaskelbi-unload : One host.«vaskelbi_unload».ended host.«vaskelbi_unload».Reads.Learnt
+host-vaskelbi-unload κs a r s ms ns p q = by-two p q
+
+pub host-vaskelbi-finish : One host.«vaskelbi_finish».ended host.«vaskelbi_finish».Reads.Learnt
+host-vaskelbi-finish κs a r s ms ns p q = by-two p q
+
+pub host-vaskelbi-parent : One host.«vaskelbi_parent».ended host.«vaskelbi_parent».Reads.Learnt
+host-vaskelbi-parent κs a r s ms ns p q = by-two p q
+
+pub host-vaskelbi-anchor : One host.«vaskelbi_anchor».ended host.«vaskelbi_anchor».Reads.Learnt
+host-vaskelbi-anchor κs a r s ms ns p q = by-two p q
+
+pub host-vaskelbi-phase : One host.«vaskelbi_phase».ended host.«vaskelbi_phase».Reads.Learnt
+host-vaskelbi-phase κs a r s ms ns p q = by-two p q
+
+pub host-vaskelbi-retired : One host.«vaskelbi_retired».ended host.«vaskelbi_retired».Reads.Learnt
+host-vaskelbi-retired κs a r s ms ns p q = by-two p q
+
+pub host-vaskelbi-generation : One host.«vaskelbi_generation».ended host.«vaskelbi_generation».Reads.Learnt
+host-vaskelbi-generation κs a r s ms ns p q = by-two p q
+
+pub host-vaskelbi-revision : One host.«vaskelbi_revision».ended host.«vaskelbi_revision».Reads.Learnt
+host-vaskelbi-revision κs a r s ms ns p q = by-two p q
+
+pub host-vaskelbi-payload : One host.«vaskelbi_payload».ended host.«vaskelbi_payload».Reads.Learnt
+host-vaskelbi-payload κs a r s ms ns p q = by-two p q
+
+pub host-vaskelbi-root : One host.«vaskelbi_root».ended host.«vaskelbi_root».Reads.Learnt
+host-vaskelbi-root κs a r s ms ns p q = by-two p q
+
+pub host-vaskelbi-id-from : One host.«vaskelbi_id_from».ended host.«vaskelbi_id_from».Reads.Learnt
+host-vaskelbi-id-from κs a r s ms ns p q = by-two p q
+
+pub host-vaskelbi-domain : One host.«vaskelbi_domain».ended host.«vaskelbi_domain».Reads.Learnt
+host-vaskelbi-domain κs a r s ms ns p q = one-number p q
+
+pub host-vaskelbi-first : One host.«vaskelbi_first».ended host.«vaskelbi_first».Reads.Learnt
+host-vaskelbi-first κs a r s ms ns p q = one-number p q
+
+pub host-vaskelbi-next : One host.«vaskelbi_next».ended host.«vaskelbi_next».Reads.Learnt
+host-vaskelbi-next κs a r s ms ns p q = one-number p q
+
+pub host-vaskelbi-count : One host.«vaskelbi_count».ended host.«vaskelbi_count».Reads.Learnt
+host-vaskelbi-count κs a r s ms ns p q = one-number p q
+
+pub host-vaskelbi-rows : One host.«vaskelbi_rows».ended host.«vaskelbi_rows».Reads.Learnt
+host-vaskelbi-rows κs a r s ms ns p q = one-number p q
+
+pub host-vaskelbi-register : One host.«vaskelbi_register».ended host.«vaskelbi_register».Reads.Learnt
+host-vaskelbi-register κs a r s ms ns p q = by-three p q
+
+pub host-vaskelbi-register-child : One host.«vaskelbi_register_child».ended host.«vaskelbi_register_child».Reads.Learnt
+host-vaskelbi-register-child κs a r s ms ns p q = by-three p q
+
+pub host-vaskelbi-replace : One host.«vaskelbi_replace».ended host.«vaskelbi_replace».Reads.Learnt
+host-vaskelbi-replace κs a r s ms ns p q = by-three p q
+
+pub host-vaskelbi-fits : One host.«vaskelbi_fits».ended host.«vaskelbi_fits».Reads.Learnt
+host-vaskelbi-fits κs a r s ms ns p q = by-two p q
+
+pub host-vaskelbi-retire : One host.«vaskelbi_retire».ended host.«vaskelbi_retire».Reads.Learnt
+host-vaskelbi-retire κs a r s ms ns p q = by-two p q
+
+pub host-vaskelbi-retire-child : One host.«vaskelbi_retire_child».ended host.«vaskelbi_retire_child».Reads.Learnt
+host-vaskelbi-retire-child κs a r s ms ns p q = by-two p q
+
+pub host-vaskelbi-child : One host.«vaskelbi_child».ended host.«vaskelbi_child».Reads.Learnt
+host-vaskelbi-child κs a r s ms ns p q = by-two p q
+
+pub host-vaskelbi-remove : One host.«vaskelbi_remove».ended host.«vaskelbi_remove».Reads.Learnt
+host-vaskelbi-remove κs a r s ms ns p q = by-two p q
+
+pub host-vaskelbi-offer : One host.«vaskelbi_offer».ended host.«vaskelbi_offer».Reads.Learnt
+host-vaskelbi-offer κs a r s ms ns p q = by-two p q
+
+pub host-vaskelbi-read : One host.«vaskelbi_read».ended host.«vaskelbi_read».Reads.Learnt
+host-vaskelbi-read κs a r s ms ns p q = by-two p q
+
+pub host-vaskelbi-visible : One host.«vaskelbi_visible».ended host.«vaskelbi_visible».Reads.Learnt
+host-vaskelbi-visible κs a r s ms ns p q = by-two p q
+
+pub host-vaskelbi-own : One host.«vaskelbi_own».ended host.«vaskelbi_own».Reads.Learnt
+host-vaskelbi-own κs a r s ms ns p q = by-two p q
+
+pub host-vaskelbi-missing : One host.«vaskelbi_missing».ended host.«vaskelbi_missing».Reads.Learnt
+host-vaskelbi-missing κs a r s ms ns p q = by-two p q
+
+pub host-vaskelbi-matches : One host.«vaskelbi_matches».ended host.«vaskelbi_matches».Reads.Learnt
+host-vaskelbi-matches κs a r s ms ns p q = by-two p q
+
+pub host-vaskelbi-declares : One host.«vaskelbi_declares».ended host.«vaskelbi_declares».Reads.Learnt
+host-vaskelbi-declares κs a r s ms ns p q = by-two p q

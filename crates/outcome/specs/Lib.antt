@@ -1,0 +1,11 @@
+pub mod One
+pub mod Silent
+pub mod Equations
+pub mod Answers
+pub mod Records
+pub mod Lists
+pub mod Words
+pub mod Operations
+pub mod Values
+pub mod Host
+pub mod Console

@@ -1,0 +1,80 @@
+-- Each promise of these crates allows one outcome: the forms that the rules and the code share, and lists of keys and ports.
+use Rattle.listing.specs.Answers.{answer-exact}
+use Rattle.ports.specs.Answers.{resolved-exact}
+use Rattle.slot.specs.Exact.{decided-exact, slot-exact}
+use Rattle.rules.proofs as rules
+use Rattle.slot.proofs as slot
+use Rattle.listing.proofs as listing
+use Rattle.ports.proofs as ports
+use Rattle.claiming.proofs as claiming
+use Rattle.resolving.proofs as resolving
+use Rattle.inherit.proofs as inherit
+use Rattle.outcome.specs.One.{One}
+use Rattle.outcome.specs.Equations.{by-equation, by-two, one-outcome, one-with-memory}
+use Rattle.outcome.specs.Answers.{generation-exact}
+
+pub rules-Port-new : One rules.Port.new.ended rules.Port.new.Reads.Learnt
+rules-Port-new κs a r s ms ns p q = by-equation p q
+
+pub rules-Port-in-default-realm : One rules.Port.«in_default_realm».ended rules.Port.«in_default_realm».Reads.Learnt
+rules-Port-in-default-realm κs a r s ms ns p q = by-equation p q
+
+pub rules-Generation-never-begun : One rules.Generation.«never_begun».ended rules.Generation.«never_begun».Reads.Learnt
+rules-Generation-never-begun κs a r s ms ns p q = one-outcome generation-exact p q
+
+pub rules-Generation-of : One rules.Generation.of.ended rules.Generation.of.Reads.Learnt
+rules-Generation-of κs a r s ms ns p q = one-outcome generation-exact p q
+
+pub slot-Slot-pending : One slot.Slot.pending.ended slot.Slot.pending.Reads.Learnt
+slot-Slot-pending κs a r s ms ns p q = one-outcome slot-exact p q
+
+pub slot-Slot-assigned : One slot.Slot.assigned.ended slot.Slot.assigned.Reads.Learnt
+slot-Slot-assigned κs a r s ms ns p q = one-outcome slot-exact p q
+
+pub slot-Slot-assign : One slot.Slot.assign.ended slot.Slot.assign.Reads.Learnt
+slot-Slot-assign κs a r s ms ns p q = one-outcome decided-exact p q
+
+pub slot-Slot-reject : One slot.Slot.reject.ended slot.Slot.reject.Reads.Learnt
+slot-Slot-reject κs a r s ms ns p q = one-outcome decided-exact p q
+
+pub slot-Slot-cancel : One slot.Slot.cancel.ended slot.Slot.cancel.Reads.Learnt
+slot-Slot-cancel κs a r s ms ns p q = one-outcome decided-exact p q
+
+pub listing-list-ports : One listing.«list_ports».ended listing.«list_ports».Reads.Learnt
+listing-list-ports κs a r s ms ns p q = one-with-memory answer-exact p q
+
+pub ports-bad-realms : One ports.«bad_realms».ended ports.«bad_realms».Reads.Learnt
+ports-bad-realms κs a r s ms ns p q = by-equation p q
+
+pub ports-resolve : One ports.resolve.ended ports.resolve.Reads.Learnt
+ports-resolve κs a r s ms ns p q = by-equation p q
+
+pub ports-resolve-key : One ports.«resolve_key».ended ports.«resolve_key».Reads.Learnt
+ports-resolve-key κs a r s ms ns p q = one-outcome resolved-exact p q
+
+pub ports-has-port : One ports.«has_port».ended ports.«has_port».Reads.Learnt
+ports-has-port κs a r s ms ns p q = by-equation p q
+
+pub ports-first-port : One ports.«first_port».ended ports.«first_port».Reads.Learnt
+ports-first-port κs a r s ms ns p q = by-equation p q
+
+pub ports-same-ports : One ports.«same_ports».ended ports.«same_ports».Reads.Learnt
+ports-same-ports κs a r s ms ns p q = by-equation p q
+
+pub ports-repeated : One ports.repeated.ended ports.repeated.Reads.Learnt
+ports-repeated κs a r s ms ns p q = by-equation p q
+
+pub claiming-repeated-key : One claiming.«repeated_key».ended claiming.«repeated_key».Reads.Learnt
+claiming-repeated-key κs a r s ms ns p q = by-equation p q
+
+pub claiming-claims : One claiming.claims.ended claiming.claims.Reads.Learnt
+claiming-claims κs a r s ms ns p q = by-equation p q
+
+pub resolving-declared : One resolving.declared.ended resolving.declared.Reads.Learnt
+resolving-declared κs a r s ms ns p q = by-two p q
+
+pub resolving-candidate : One resolving.candidate.ended resolving.candidate.Reads.Learnt
+resolving-candidate κs a r s ms ns p q = by-equation p q
+
+pub inherit-dependency-list : One inherit.«dependency_list».ended inherit.«dependency_list».Reads.Learnt
+inherit-dependency-list κs a r s ms ns p q = by-equation p q
