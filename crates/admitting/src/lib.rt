@@ -32,12 +32,13 @@ fn rooted(life: Life, root: Root) -> Life
     ensures { λ r. ⌜ r ≡ rootedLife root life ⌝ }
 {
     let phase = life.phase;
+    let generation = life.generation;
     Life {
         revision: life.revision,
         payload: life.payload,
         phase: phase,
         retired: life.retired,
-        generation: life.generation,
+        generation: generation,
         root: root,
     }
 }

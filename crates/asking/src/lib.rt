@@ -100,7 +100,7 @@ pub fn generation(m: &[u64; WORDS], id: u64) -> Number
         return Number::Refused(refusal::UNKNOWN);
     };
     let life = living::load(m, at);
-    Number::Is(life.generation)
+    Number::Is(life.generation.0)
 }
 
 pub fn revision(m: &[u64; WORDS], id: u64) -> Number

@@ -16,7 +16,7 @@ use Rattle.rules.specs.Laws.Tests.{by-test}
 use Rattle.memory.specs.Layout.{word, taken, idAt, depsAt, provsAt}
 use Rattle.memory.specs.View.{pluginAt, placeAt, view}
 use Rattle.memory.specs.Writes.{findAt, putLife}
-use Rattle.memory.specs.Frames.{withLife, life-length, life-before, life-apart}
+use Rattle.memory.specs.Frames.{withLife, OnlyLife, life-only}
 use Rattle.memory.specs.Stores.{Alone}
 use Rattle.memory.specs.Known.{storedLife, stored-at, stored-view}
 use Rattle.memory.specs.declared.Life.{Life}
@@ -61,13 +61,16 @@ module _ (m m′ : List ℕ) (d : Dense m) (size : length m′ ≡ length m) (he
     room = omega (arith, used-same, d .room);
   }
 
+pub only-dense : (m m′ : List ℕ) (i : ℕ) → OnlyLife m m′ i → Dense m → Dense m′
+only-dense m m′ i o d = same-dense m m′ d (o .size) (o .apart 3 (λ a b. omega arith))
+    (λ j. o .apart (j * 72 + 8) (λ a b. omega arith))
+    (λ j. o .apart (j * 72 + 19) (λ a b. omega arith))
+    (λ j. o .apart (j * 72 + 20) (λ a b. omega arith))
+    (λ j. o .apart (j * 72 + 21) (λ a b. omega arith))
+    (λ j. o .apart (j * 72 + 22) (λ a b. omega arith))
+
 pub life-dense : (m : List ℕ) (i : ℕ) (l : Life) → Dense m → Dense (putLife m i l)
-life-dense m i l d = same-dense m (putLife m i l) d (life-length m i l) (life-before m i l 3 (omega arith))
-    (λ j. life-apart m i l (j * 72 + 8) (λ a b. omega arith))
-    (λ j. life-apart m i l (j * 72 + 19) (λ a b. omega arith))
-    (λ j. life-apart m i l (j * 72 + 20) (λ a b. omega arith))
-    (λ j. life-apart m i l (j * 72 + 21) (λ a b. omega arith))
-    (λ j. life-apart m i l (j * 72 + 22) (λ a b. omega arith))
+life-dense m i l d = only-dense m (putLife m i l) i (life-only m i l) d
 
 -- One taken place reads as another plugin of the same id, all else as before: that plugin is stored.
 module _ (m m′ : List ℕ) (i : ℕ) (alone : Alone m) (there : taken m i ≡ true)

@@ -12,10 +12,11 @@ use Rattle.memory.specs.View.{view}
 use Rattle.memory.specs.Known.{storedLife}
 use Rattle.freeing.specs.Words.{removedFrom}
 use Rattle.registering.specs.Written.{addedTo}
+use Rattle.replacing.specs.Words.{replacedIn}
 use Rattle.settling.specs.Finished.{finishedTo}
 use Rattle.offering.specs.Words.{offeredTo}
 use Rattle.demands.specs.Leaves.{Way, wayOf, leftBy, leaves}
-use Rattle.demands.specs.Leaves.Way.{asks, adds, stores, finishes, removes, offers}
+use Rattle.demands.specs.Leaves.Way.{asks, adds, stores, replaces, finishes, removes, offers}
 
 -- An outcome whose answer is a refusal.
 pub record IsRefusal (o : Outcome) (n : ℕ) : Type 0 where
@@ -33,10 +34,11 @@ refused (outcome.adds p ws) n vs e = let z : _≡_ {A = ℕ} 0 1 = cc in absurd 
 refused (outcome.removes id ws) n vs e = let z : _≡_ {A = ℕ} 0 1 = cc in absurd (omega arith)
 
 left-same : (w : Way) (m : List ℕ) (x : Refusal) (vs : List ℕ) → leftBy w m (refuses x vs) ≡ m
-unfolding addedTo storedLife finishedTo removedFrom offeredTo
+unfolding addedTo storedLife replacedIn finishedTo removedFrom offeredTo
 left-same asks m x vs = refl
 left-same adds m x vs = refl
 left-same stores m x vs = refl
+left-same replaces m x vs = refl
 left-same finishes m x vs = refl
 left-same removes m x vs = refl
 left-same (offers id q value) m x vs = refl

@@ -10,12 +10,13 @@ use Rattle.memory.specs.View.{view}
 use Rattle.memory.specs.Known.{storedLife, stored-size}
 use Rattle.freeing.specs.Words.{removedFrom, removed-size}
 use Rattle.registering.specs.Written.{addedTo, added-size}
+use Rattle.replacing.specs.Words.{replacedIn, replaced-size}
 use Rattle.settling.specs.Finished.{finishedTo, finished-size}
 use Rattle.offering.specs.Words.{offeredTo, offered-size}
 
 -- the ways in which an operation changes the words, or does not
 pub data Way : Type 0 where
-  asks adds stores finishes removes : Way
+  asks adds stores replaces finishes removes : Way
   offers : (id : ℕ) → Port → (value : ℕ) → Way
 
 abbrev pub wayOf : Op → Way
@@ -25,7 +26,7 @@ wayOf (Ready id) = stores
 wayOf (Fail id) = stores
 wayOf (Unload id) = stores
 wayOf (Finish id) = finishes
-wayOf (Replace id payload) = stores
+wayOf (Replace id payload) = replaces
 wayOf (Admit t argument) = stores
 wayOf (Call t) = stores
 wayOf (Retire id) = stores
@@ -53,6 +54,7 @@ abbrev pub leftBy : Way → List ℕ → Outcome → List ℕ
 leftBy asks m o = m
 leftBy adds m o = addedTo m o
 leftBy stores m o = storedLife m o
+leftBy replaces m o = replacedIn m o
 leftBy finishes m o = finishedTo m o
 leftBy removes m o = removedFrom m o
 leftBy (offers id q value) m o = offeredTo m id q value o
@@ -65,6 +67,7 @@ left-size : (w : Way) (m : List ℕ) (o : Outcome) → length (leftBy w m o) ≡
 left-size asks m o = refl
 left-size adds m o = added-size m o
 left-size stores m o = stored-size m o
+left-size replaces m o = replaced-size m o
 left-size finishes m o = finished-size m o
 left-size removes m o = removed-size m o
 left-size (offers id q value) m o = offered-size m id q value o

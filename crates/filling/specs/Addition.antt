@@ -14,6 +14,7 @@ use lib.Seq.{getD-take, getD-drop, ext-getD}
 use borrow.Author.Tests.{eqb-true, eqb-false}
 use Rattle.rules.specs.Basics.{pick}
 use Rattle.rules.specs.Holds.{port, Plugin, neverBegun, defaultRealm}
+use Rattle.rules.specs.Generations.{generationOf}
 use Rattle.rules.specs.declared.Port.{Port}
 use Rattle.rules.specs.declared.Phase.the-variants.{Idle}
 use Rattle.rules.specs.declared.Root.the-variants.{Unissued}
@@ -83,7 +84,7 @@ pub record Adds (m m′ : List ℕ) (p : ℕ) (n : Newcomer) : Type 0 where
   pub payload : word m′ (p * 72 + 12) ≡ n .payload
   pub phase : word m′ (p * 72 + 13) ≡ 0
   pub retired : word m′ (p * 72 + 14) ≡ 0
-  pub generation : word m′ (p * 72 + 15) ≡ 0
+  pub generation : word m′ (p * 72 + 15) ≡ neverBegun
   pub root : word m′ (p * 72 + 16) ≡ 0
   pub start : startWord m′ p ≡ used m
   pub d : word m′ (p * 72 + 20) ≡ n .d
@@ -226,7 +227,7 @@ module _ (m m′ : List ℕ) (p : ℕ) (n : Newcomer) (h : p < 32) (free : taken
       rw realms-new
       (part-list m′ (n .realms) (p * 72 + 39) (n .z * 2) (sized .realms) (omega (arith, size′, sized .few-realms)) (r .realms))
 
-  life-new : lifeAt m′ p ≡ record { revision = 0; payload = n .payload; phase = Idle; retired = false; generation = neverBegun; root = Unissued }
+  life-new : lifeAt m′ p ≡ record { revision = 0; payload = n .payload; phase = Idle; retired = false; generation = generationOf neverBegun; root = Unissued }
   unfolding lifeAt decoded
   life-new = rw (r .revision, r .payload, r .phase, r .retired, r .generation, r .root)
 

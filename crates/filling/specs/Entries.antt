@@ -4,15 +4,16 @@ use mathlib.Core.List.{List, [], _∷_}
 use lib.Dec.{leb}
 use lib.ListN.{length, set}
 use Rattle.rules.specs.Basics.{pick}
+use Rattle.rules.specs.Holds.{neverBegun}
 use Rattle.memory.specs.Layout.{rowWord}
 use Rattle.memory.specs.Writes.{puts}
 use Rattle.places.specs.Changes.{occupiedAt}
 use Rattle.filling.specs.declared.Entry.{Entry}
 
--- the words of a place from its id to its mask of values: revision, phase, retired mark, generation, root and mask are 0
+-- the words of a place from its id to its mask of values: revision, phase, retired mark, root and mask are 0
 abbrev pub entryWords : Entry → List ℕ
 entryWords e =
-    e .id ∷ e .tag ∷ e .parent ∷ 0 ∷ e .payload ∷ 0 ∷ 0 ∷ 0 ∷ 0 ∷ 0 ∷ 0 ∷ e .start ∷ e .dependencies ∷ e .provisions ∷ e .realms ∷ 0 ∷ []
+    e .id ∷ e .tag ∷ e .parent ∷ 0 ∷ e .payload ∷ 0 ∷ 0 ∷ neverBegun ∷ 0 ∷ 0 ∷ 0 ∷ e .start ∷ e .dependencies ∷ e .provisions ∷ e .realms ∷ 0 ∷ []
 
 -- A plugin written to a place: dependencies and claims as rows from its first row on, its realm rows, its words, the next
 -- id, and the place taken. A first row or a list past its limit changes nothing.

@@ -6,6 +6,7 @@ ghost use Rattle.memory.specs.Writes.{puts};
 ghost use Rattle.filling.specs.Entries.{entryWords, filledPlace};
 use memory::PLACE_WORDS;
 use memory::WORDS;
+use rules::Generation;
 
 // What is written of a new plugin beside its lists. A tag of 0 says that it has no parent.
 pub struct Entry {
@@ -63,7 +64,7 @@ fn store_entry(m: &mut [u64; WORDS], place: usize, e: Entry)
     m[b + 12] = e.payload;
     m[b + 13] = 0;
     m[b + 14] = 0;
-    m[b + 15] = 0;
+    m[b + 15] = Generation::NEVER_BEGUN.0;
     m[b + 16] = 0;
     m[b + 17] = 0;
     m[b + 18] = 0;

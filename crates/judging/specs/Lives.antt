@@ -16,7 +16,7 @@ use Rattle.memory.specs.declared.Life.{Life}
 
 -- Loading, and of this generation
 unfoldable pub isCurrent : Life → ℕ → Bool
-isCurrent l g = isLoading (l .phase) && eqb (l .generation) g
+isCurrent l g = isLoading (l .phase) && eqb (l .generation .0) g
 
 -- the number of the first refusal; 0 where nothing refuses
 abbrev pub verdict : Bool → Bool → Bool → Bool → ℕ
@@ -24,13 +24,13 @@ verdict retired loading same unissued =
     pick retired (number Retired) (pick (loading && same) (pick unissued 0 (number InvalidState)) (number Stale))
 
 unfoldable pub verdictOf : Life → ℕ → ℕ
-verdictOf l g = verdict (l .retired) (isLoading (l .phase)) (eqb (l .generation) g) (isUnissued (l .root))
+verdictOf l g = verdict (l .retired) (isLoading (l .phase)) (eqb (l .generation .0) g) (isUnissued (l .root))
 
 -- the rule's `isLive`, of a life
 unfoldable pub liveOf : Life → ℕ → ℕ → ℕ → Bool
-liveOf l g v a = isLoading (l .phase) && isQueued (l .root) v a && eqb (l .generation) g && eqb (l .revision) v
+liveOf l g v a = isLoading (l .phase) && isQueued (l .root) v a && eqb (l .generation .0) g && eqb (l .revision) v
 
-pub current-phase : (l : Life) (g : ℕ) (p : Phase) → l .phase ≡ p → (isLoading p && eqb (l .generation) g) ≡ isCurrent l g
+pub current-phase : (l : Life) (g : ℕ) (p : Phase) → l .phase ≡ p → (isLoading p && eqb (l .generation .0) g) ≡ isCurrent l g
 unfolding isCurrent
 current-phase l g p e = rw e
 
@@ -64,7 +64,7 @@ module _ (l : Life) (g : ℕ) (b : Bool) (k : b ≡ isCurrent l g) where
   module _ (v a : ℕ) where
     regrouped-life : liveOf l g v a ≡ (isCurrent l g && eqb (l .revision) v && isQueued (l .root) v a)
     unfolding isCurrent liveOf
-    regrouped-life = regrouped (isLoading (l .phase)) (isQueued (l .root) v a) (eqb (l .generation) g) (eqb (l .revision) v)
+    regrouped-life = regrouped (isLoading (l .phase)) (isQueued (l .root) v a) (eqb (l .generation .0) g) (eqb (l .revision) v)
 
     pub live-other : b ≡ false → false ≡ liveOf l g v a
     live-other n = rw (regrouped-life, sym k ∙ n)

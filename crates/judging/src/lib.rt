@@ -17,7 +17,7 @@ fn is_current(life: Life, generation: u64) -> bool
     let phase = life.phase;
     match phase {
         Phase::Idle => false,
-        Phase::Loading => life.generation == generation,
+        Phase::Loading => life.generation.0 == generation,
         Phase::Active => false,
         Phase::Unloading => false,
     }

@@ -41,6 +41,10 @@ told-same o m vs e = (rw e, rw e)
 pub life-found : (m : List ℕ) (id i : ℕ) → findAt m id ≡ At i → (l : Life) → l ≡ lifeAt m (i % 32) → l ≡ lifeAt m i
 life-found m id i e l h = h ∙ ap (lifeAt m) (at-place m id i e)
 
+pub generation-found : (m : List ℕ) (id i : ℕ) → findAt m id ≡ At i → (l : Life) → l ≡ lifeAt m (i % 32) → pluginAt m i .generation ≡ l .generation .0
+unfolding pluginAt
+generation-found m id i e l h = sym (ap (λ (x : Life). x .generation .0) (life-found m id i e l h))
+
 -- a found plugin's life was stored
 pub told-stored : (o : Outcome) (m : List ℕ) (id i : ℕ) (vs : List ℕ) (l : Life) (m′ : List ℕ) → findAt m id ≡ At i
     → o ≡ stores (withLife (pluginAt m i) l) vs → m′ ≡ putLife m (i % 32) l → Told o m (Accepted vs) m′

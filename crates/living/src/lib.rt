@@ -2,11 +2,12 @@
 ghost use mathlib.Core.Path.{_≡_};
 ghost use Prim.Native.Nat.{_%_, _<_};
 ghost use Rattle.memory.specs.View.{phaseOf, rootOf, wordsAt, decoded, lifeAt};
-ghost use Rattle.memory.specs.Writes.{phaseWord, rootTag, rootRevision, rootArgument, putWords, encoded, putLife};
+ghost use Rattle.memory.specs.Writes.{phaseWord, rootTag, rootRevision, rootArgument, putWords, encoded, putLife, renewedAt};
 use memory::Life;
 use memory::PLACE_WORDS;
 use memory::WORDS;
 use memory::Words;
+use rules::Generation;
 use rules::Phase;
 use rules::Root;
 
@@ -128,7 +129,7 @@ fn decode(w: Words) -> Life
         payload: w.payload,
         phase: phase,
         retired: w.retired != 0,
-        generation: w.generation,
+        generation: Generation::of(w.generation),
         root: root,
     }
 }
@@ -143,7 +144,7 @@ fn encode(life: Life) -> Words
         payload: life.payload,
         phase: phase_word(phase),
         retired: life.retired as u64,
-        generation: life.generation,
+        generation: life.generation.0,
         root: root_tag(root),
         root_revision: root_revision(root),
         root_argument: root_argument(root),
@@ -160,4 +161,13 @@ pub fn store(m: &mut [u64; WORDS], place: usize, life: Life)
     ensures { λ _. ⌜ now (m .exit) ≡ putLife (now (m .entry)) (place % 32) life ⌝ }
 {
     store_words(m, place % 32, encode(life))
+}
+
+// Revision and payload alone, where they lie.
+pub fn renew(m: &mut [u64; WORDS], place: usize, revision: u64, payload: u64)
+    ensures { λ _. ⌜ now (m .exit) ≡ renewedAt (now (m .entry)) (place % 32) revision payload ⌝ }
+{
+    let b = place % 32 * PLACE_WORDS;
+    m[b + 11] = revision;
+    m[b + 12] = payload;
 }

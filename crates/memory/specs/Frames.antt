@@ -20,7 +20,7 @@ use Rattle.rules.specs.declared.Root.the-variants.{Unissued, Queued, Spent}
 use Rattle.rules.specs.Ports.{pairs}
 use Rattle.memory.specs.Layout.{word, idAt, startAt, depsAt, provsAt, realmsAt, part, rowWord, anchorWord, depPart, provPart, realmPart, taken}
 use Rattle.memory.specs.View.{phaseOf, rootOf, wordsAt, decoded, lifeAt, valueAt, valued, pluginAt}
-use Rattle.memory.specs.Writes.{puts, phaseWord, rootTag, rootRevision, rootArgument, lifeWords, putWords, encoded, putLife}
+use Rattle.memory.specs.Writes.{puts, phaseWord, rootTag, rootRevision, rootArgument, lifeWords, encoded, putLife, renewedAt, renewedLife}
 use Rattle.memory.specs.declared.Life.{Life}
 use Rattle.memory.specs.declared.Words.{Words}
 
@@ -47,6 +47,11 @@ puts-after [] m b k j h = refl
 puts-after (v ∷ vs) m b k j h =
     puts-after vs (set m (b + k) v) b (k + 1) j (omega arith) ∙ getD-set-other m (b + k) j v 0 (omega arith)
 
+pub puts-apart : (vs m : List ℕ) (b k j : ℕ) → (b + k ≤ j → j < b + k + length vs → ⊥) → word (puts m b k vs) j ≡ word m j
+puts-apart [] m b k j n = refl
+puts-apart (v ∷ vs) m b k j n =
+    puts-apart vs (set m (b + k) v) b (k + 1) j (λ x y. n (omega arith) (omega arith)) ∙ getD-set-other m (b + k) j v 0 (λ e. n (omega arith) (omega arith))
+
 pub puts-same : (vs m : List ℕ) (b k n : ℕ) → n < length vs → b + k + length vs ≤ length m → word (puts m b k vs) (b + (k + n)) ≡ getD vs n 0
 puts-same [] m b k n h f = absurd (not-suc-le-zero h)
 puts-same (v ∷ vs) m b k zero h f =
@@ -71,7 +76,7 @@ pub record Kept (m m′ : List ℕ) (i : ℕ) : Type 0 where
   pub values : (j : ℕ) → j < 15 → word m′ (i * 72 + 24 + j) ≡ word m (i * 72 + 24 + j)
 
 abbrev pub withLife : Plugin → Life → Plugin
-withLife p l = changed p (p .provisions) (l .revision) (l .payload) (l .phase) (l .retired) (l .generation) (l .root)
+withLife p l = changed p (p .provisions) (l .revision) (l .payload) (l .phase) (l .retired) (l .generation .0) (l .root)
 
 pairs-half : (l : List ℕ) (n : ℕ) → length l ≤ n * 2 → length (pairs l) ≤ n
 pairs-half [] n h = omega arith
@@ -126,6 +131,28 @@ decoded-encoded l = λ x. record {
   root = root-code (l .root) x;
 }
 
+-- No word changes but those of place i's life.
+pub record OnlyLife (m m′ : List ℕ) (i : ℕ) : Type 0 where
+  pub size : length m′ ≡ length m
+  pub apart : (k : ℕ) → (i * 72 + 11 ≤ k → k < i * 72 + 19 → ⊥) → word m′ k ≡ word m k
+
+module _ (m m′ : List ℕ) (i : ℕ) (o : OnlyLife m m′ i) where
+  words-other : (j : ℕ) → i ≢ j → wordsAt m′ j ≡ wordsAt m j
+  words-other j d = λ x. record {
+    revision = o .apart (j * 72 + 11) (λ a b. d (omega arith)) x;
+    payload = o .apart (j * 72 + 12) (λ a b. d (omega arith)) x;
+    phase = o .apart (j * 72 + 13) (λ a b. d (omega arith)) x;
+    retired = o .apart (j * 72 + 14) (λ a b. d (omega arith)) x;
+    generation = o .apart (j * 72 + 15) (λ a b. d (omega arith)) x;
+    root = o .apart (j * 72 + 16) (λ a b. d (omega arith)) x;
+    «root_revision» = o .apart (j * 72 + 17) (λ a b. d (omega arith)) x;
+    «root_argument» = o .apart (j * 72 + 18) (λ a b. d (omega arith)) x;
+  }
+
+  pub life-other : (j : ℕ) → i ≢ j → lifeAt m′ j ≡ lifeAt m j
+  unfolding lifeAt
+  life-other j d = ap decoded (words-other j d)
+
 -- The words of a life: what is stored is what is read, and nothing else changes.
 module _ (m : List ℕ) (i : ℕ) (l : Life) where
   pub life-length : length (putLife m i l) ≡ length m
@@ -140,17 +167,12 @@ module _ (m : List ℕ) (i : ℕ) (l : Life) where
   unfolding putLife
   life-after k h = puts-after (lifeWords (encoded l)) m (i * 72) 11 k (omega arith)
 
-  -- a word outside the place's life
-  pub life-apart : (k : ℕ) → (i * 72 + 11 ≤ k → k < i * 72 + 19 → ⊥) → word (putLife m i l) k ≡ word m k
-  life-apart k n = go (ltb k (i * 72 + 11)) refl
-    where
-      go : (b : Bool) → ltb k (i * 72 + 11) ≡ b → word (putLife m i l) k ≡ word m k
-      go true e = life-before k (ltb-true _ _ e)
-      go false e = go′ (ltb k (i * 72 + 19)) refl
-        where
-          go′ : (b : Bool) → ltb k (i * 72 + 19) ≡ b → word (putLife m i l) k ≡ word m k
-          go′ true f = absurd (n (ltb-false _ _ e) (ltb-true _ _ f))
-          go′ false f = life-after k (ltb-false _ _ f)
+  pub life-only : OnlyLife m (putLife m i l) i
+  unfolding putLife
+  life-only = record {
+    size = life-length;
+    apart = λ k n. puts-apart (lifeWords (encoded l)) m (i * 72) 11 k (λ x y. n x (omega arith));
+  }
 
   module _ (h : i < 32) (s : length m ≡ 4488) where
     one-same : (n : ℕ) → n < 8 → word (putLife m i l) (i * 72 + (11 + n)) ≡ getD (lifeWords (encoded l)) n 0
@@ -173,18 +195,33 @@ module _ (m : List ℕ) (i : ℕ) (l : Life) where
     unfolding lifeAt
     life-put = ap decoded words-put ∙ decoded-encoded l
 
-  words-other : (j : ℕ) → i ≢ j → wordsAt (putLife m i l) j ≡ wordsAt m j
-  words-other j d = λ x. record {
-    revision = life-apart (j * 72 + 11) (λ a b. d (omega arith)) x;
-    payload = life-apart (j * 72 + 12) (λ a b. d (omega arith)) x;
-    phase = life-apart (j * 72 + 13) (λ a b. d (omega arith)) x;
-    retired = life-apart (j * 72 + 14) (λ a b. d (omega arith)) x;
-    generation = life-apart (j * 72 + 15) (λ a b. d (omega arith)) x;
-    root = life-apart (j * 72 + 16) (λ a b. d (omega arith)) x;
-    «root_revision» = life-apart (j * 72 + 17) (λ a b. d (omega arith)) x;
-    «root_argument» = life-apart (j * 72 + 18) (λ a b. d (omega arith)) x;
+-- Revision and payload: what is stored is what is read, and nothing else changes.
+module _ (m : List ℕ) (i revision payload : ℕ) where
+  pub renewed-only : OnlyLife m (renewedAt m i revision payload) i
+  unfolding renewedAt
+  renewed-only = record {
+    size = puts-length (revision ∷ payload ∷ []) m (i * 72) 11;
+    apart = λ k n. puts-apart (revision ∷ payload ∷ []) m (i * 72) 11 k (λ x y. n x (omega arith));
   }
 
-  pub life-other : (j : ℕ) → i ≢ j → lifeAt (putLife m i l) j ≡ lifeAt m j
-  unfolding lifeAt
-  life-other j d = ap decoded (words-other j d)
+  module _ (h : i < 32) (s : length m ≡ 4488) where
+    stored : (n : ℕ) → n < 2 → word (renewedAt m i revision payload) (i * 72 + (11 + n)) ≡ getD (revision ∷ payload ∷ []) n 0
+    unfolding renewedAt
+    stored n k = puts-same (revision ∷ payload ∷ []) m (i * 72) 11 n k (omega arith)
+
+    behind : (n : ℕ) → i * 72 + 13 ≤ n → word (renewedAt m i revision payload) n ≡ word m n
+    unfolding renewedAt
+    behind n k = puts-after (revision ∷ payload ∷ []) m (i * 72) 11 n (omega arith)
+
+    pub life-renewed : lifeAt (renewedAt m i revision payload) i ≡ renewedLife (lifeAt m i) revision payload
+    unfolding lifeAt decoded
+    life-renewed = λ x. decoded (record {
+      revision = stored 0 (lit< tt) x;
+      payload = stored 1 (lit< tt) x;
+      phase = behind (i * 72 + 13) (omega arith) x;
+      retired = behind (i * 72 + 14) (omega arith) x;
+      generation = behind (i * 72 + 15) (omega arith) x;
+      root = behind (i * 72 + 16) (omega arith) x;
+      «root_revision» = behind (i * 72 + 17) (omega arith) x;
+      «root_argument» = behind (i * 72 + 18) (omega arith) x;
+    })

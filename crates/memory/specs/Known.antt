@@ -9,6 +9,7 @@ use mathlib.Core.Option.{Option, none, some}
 use lib.ListN.{length}
 use borrow.Author.Tests.{eqb-true}
 use Rattle.rules.specs.Holds.{Plugin, lookup}
+use Rattle.rules.specs.Generations.{generationOf}
 use Rattle.rules.specs.Refusals.{Unknown}
 use Rattle.rules.specs.Outcomes.{Outcome, refuses, answers, writes, stores, adds, removes, found, known, after}
 use Rattle.memory.specs.Layout.{taken, idAt}
@@ -57,7 +58,7 @@ lifeOf p = record {
   payload = p .payload;
   phase = p .phase;
   retired = p .retired;
-  generation = p .generation;
+  generation = generationOf (p .generation);
   root = p .root;
 }
 

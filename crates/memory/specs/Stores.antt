@@ -1,4 +1,4 @@
--- The registry after a life is stored.
+-- The registry after a life, or its revision and payload alone, is stored.
 use Prim.Native.Nat.{ℕ, zero, suc, _+_, _*_, _<_, _≤_, min}
 use native.Mathlib.Omega.{arith}
 use mathlib.Core.Path.{_≡_, refl, sym, ap, _∙_, subst}
@@ -14,8 +14,8 @@ use Rattle.rules.specs.Outcomes.{stores, after, storedAt}
 use Rattle.rules.specs.Laws.Tests.{by-test}
 use Rattle.memory.specs.Layout.{word, part, taken, idAt, startAt, depsAt, provsAt, realmsAt, rowWord, anchorWord, depPart, provPart, realmPart}
 use Rattle.memory.specs.View.{lifeAt, pluginAt, placeAt, placesFrom, view}
-use Rattle.memory.specs.Writes.{putLife}
-use Rattle.memory.specs.Frames.{part-same, Kept, withLife, plugin-kept, life-length, life-before, life-after, life-apart, life-put, life-other}
+use Rattle.memory.specs.Writes.{putLife, renewedAt, renewedLife}
+use Rattle.memory.specs.Frames.{part-same, Kept, withLife, plugin-kept, OnlyLife, life-other, life-only, life-put, renewed-only, life-renewed}
 use Rattle.memory.specs.declared.Life.{Life}
 
 -- An id stands at one taken place only.
@@ -72,52 +72,73 @@ module _ (m m′ : List ℕ) (j : ℕ) (h : j < 32) (l : length m ≡ 4488) (l�
     values = λ k u. let e : j * 72 + 24 + k ≡ j * 72 + (24 + k) = omega arith in rw e (back (24 + k) (omega arith) (omega arith));
   }
 
-module _ (m : List ℕ) (i : ℕ) (l : Life) (h : i < 32) (size : length m ≡ 4488) where
-  put-kept : (j : ℕ) → j < 32 → Kept m (putLife m i l) j
-  put-kept j k = kept-frame m (putLife m i l) j k size (life-length m i l ∙ size)
-      (λ n a b. life-apart m i l (j * 72 + n) (λ c d. omega arith))
-      (λ n a b. life-apart m i l (j * 72 + n) (λ c d. omega arith))
-      (λ n u. ap (λ w. word (putLife m i l) (rowWord (min w 1024) + n)) (life-apart m i l (j * 72 + 19) (λ c d. omega arith))
-      ∙ life-after m i l (rowWord (startAt m j) + n) (omega arith))
+-- Where no words change but those of one place's life, that life is all that is stored.
+module _ (m m′ : List ℕ) (i : ℕ) (o : OnlyLife m m′ i) (h : i < 32) (size : length m ≡ 4488) where
+  only-kept : (j : ℕ) → j < 32 → Kept m m′ j
+  only-kept j k = kept-frame m m′ j k size (o .size ∙ size)
+      (λ n a b. o .apart (j * 72 + n) (λ c d. omega arith))
+      (λ n a b. o .apart (j * 72 + n) (λ c d. omega arith))
+      (λ n u. ap (λ w. word m′ (rowWord (min w 1024) + n)) (o .apart (j * 72 + 19) (λ c d. omega arith))
+      ∙ o .apart (rowWord (startAt m j) + n) (λ c d. omega arith))
 
-  pub plugin-put : pluginAt (putLife m i l) i ≡ withLife (pluginAt m i) l
-  plugin-put = plugin-kept m (putLife m i l) i (put-kept i h) ∙ ap (withLife (pluginAt m i)) (life-put m i l h size)
+  only-plugin : pluginAt m′ i ≡ withLife (pluginAt m i) (lifeAt m′ i)
+  only-plugin = plugin-kept m m′ i (only-kept i h)
 
-  pub plugin-other : (j : ℕ) → j < 32 → i ≢ j → pluginAt (putLife m i l) j ≡ pluginAt m j
+  only-other : (j : ℕ) → j < 32 → i ≢ j → pluginAt m′ j ≡ pluginAt m j
   unfolding pluginAt
-  plugin-other j k d = plugin-kept m (putLife m i l) j (put-kept j k) ∙ ap (withLife (pluginAt m j)) (life-other m i l j d)
+  only-other j k d = plugin-kept m m′ j (only-kept j k) ∙ ap (withLife (pluginAt m j)) (life-other m m′ i o j d)
 
-  taken-put : (j : ℕ) → taken (putLife m i l) j ≡ taken m j
+  only-taken : (j : ℕ) → taken m′ j ≡ taken m j
   unfolding taken
-  taken-put j = rw (life-before m i l 3 (omega arith))
+  only-taken j = rw (o .apart 3 (λ c d. omega arith))
 
   -- place by place, the plugin that changed is stored
   module _ (alone : Alone m) (there : taken m i ≡ true) where
-    here : placeAt (putLife m i l) i ≡ storedAt (withLife (pluginAt m i) l) (placeAt m i)
-    unfolding placeAt
-    here = rw (taken-put i, there, plugin-put) (rw (eq-eqb (pluginAt m i .id) (pluginAt m i .id) refl))
+    abbrev new : Plugin
+    new = withLife (pluginAt m i) (lifeAt m′ i)
 
-    place-put : (j : ℕ) → j < 32 → placeAt (putLife m i l) j ≡ storedAt (withLife (pluginAt m i) l) (placeAt m j)
+    here : placeAt m′ i ≡ storedAt new (placeAt m i)
+    unfolding placeAt
+    here = rw (only-taken i, there, only-plugin) (rw (eq-eqb (pluginAt m i .id) (pluginAt m i .id) refl))
+
+    place-put : (j : ℕ) → j < 32 → placeAt m′ j ≡ storedAt new (placeAt m j)
     unfolding placeAt
     place-put j k = by-test (taken m j)
         (λ t. by-test (eqb i j)
-        (λ y. subst (λ x. placeAt (putLife m i l) x ≡ storedAt (withLife (pluginAt m i) l) (placeAt m x)) (eqb-true i j y) here)
+        (λ y. subst (λ x. placeAt m′ x ≡ storedAt new (placeAt m x)) (eqb-true i j y) here)
         (λ d. let n = eqb-false i j d in
-        rw (taken-put j, t, plugin-other j k n)
+        rw (only-taken j, t, only-other j k n)
         (rw (ne-eqb (pluginAt m j .id) (pluginAt m i .id) (λ e. n (sym (alone j i t there (sym (id-of m j) ∙ e ∙ id-of m i))))))))
-        (λ f. rw (taken-put j, f))
+        (λ f. rw (only-taken j, f))
 
-  places-put : (n j : ℕ) (q : Plugin) → j + n ≤ 32 → ((k : ℕ) → k < 32 → placeAt (putLife m i l) k ≡ storedAt q (placeAt m k))
-      → placesFrom n (putLife m i l) j ≡ map (storedAt q) (placesFrom n m j)
-  unfolding placesFrom
-  places-put zero j q b f = refl
-  places-put (suc n) j q b f = let r = places-put n (j + 1) q (omega arith) f in let e = f j (omega arith) in rw (e, r)
+    places-put : (n j : ℕ) → j + n ≤ 32 → placesFrom n m′ j ≡ map (storedAt new) (placesFrom n m j)
+    unfolding placesFrom
+    places-put zero j b = refl
+    places-put (suc n) j b = let r = places-put n (j + 1) (omega arith) in let e = place-put j (omega arith) in rw (e, r)
+
+    pub only-view : (vs : List ℕ) → view m′ ≡ after (view m) (stores (withLife (pluginAt m i) (lifeAt m′ i)) vs)
+    unfolding view after
+    only-view vs = λ x. record {
+      domain = o .apart 0 (λ c d. omega arith) x;
+      first = o .apart 1 (λ c d. omega arith) x;
+      next = o .apart 2 (λ c d. omega arith) x;
+      places = places-put 32 0 (omega arith) x;
+    }
+
+module _ (m : List ℕ) (i : ℕ) (l : Life) (h : i < 32) (size : length m ≡ 4488) where
+  pub plugin-put : pluginAt (putLife m i l) i ≡ withLife (pluginAt m i) l
+  plugin-put = only-plugin m (putLife m i l) i (life-only m i l) h size ∙ ap (withLife (pluginAt m i)) (life-put m i l h size)
+
+  pub plugin-other : (j : ℕ) → j < 32 → i ≢ j → pluginAt (putLife m i l) j ≡ pluginAt m j
+  plugin-other = only-other m (putLife m i l) i (life-only m i l) h size
 
   pub store-view : Alone m → taken m i ≡ true → (vs : List ℕ) → view (putLife m i l) ≡ after (view m) (stores (withLife (pluginAt m i) l) vs)
-  unfolding view after
-  store-view alone there vs = λ x. record {
-    domain = life-before m i l 0 (omega arith) x;
-    first = life-before m i l 1 (omega arith) x;
-    next = life-before m i l 2 (omega arith) x;
-    places = places-put 32 0 (withLife (pluginAt m i) l) (omega arith) (place-put alone there) x;
-  }
+  store-view alone there vs =
+      only-view m (putLife m i l) i (life-only m i l) h size alone there vs
+      ∙ ap (λ x. after (view m) (stores (withLife (pluginAt m i) x) vs)) (life-put m i l h size)
+
+pub renewed-view : (m : List ℕ) (i v w : ℕ) → i < 32 → length m ≡ 4488 → Alone m → taken m i ≡ true → (vs : List ℕ)
+    → view (renewedAt m i v w) ≡ after (view m) (stores (withLife (pluginAt m i) (renewedLife (lifeAt m i) v w)) vs)
+renewed-view m i v w h size alone there vs =
+    only-view m (renewedAt m i v w) i (renewed-only m i v w) h size alone there vs
+    ∙ ap (λ x. after (view m) (stores (withLife (pluginAt m i) x) vs)) (life-renewed m i v w h size)

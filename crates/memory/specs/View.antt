@@ -6,6 +6,7 @@ use mathlib.Core.Option.{Option, none, some}
 use lib.Dec.{eqb}
 use Rattle.rules.specs.Basics.{pick}
 use Rattle.rules.specs.Holds.{port, Realms, Provision, Plugin, Places, Registry, defaultRealm}
+use Rattle.rules.specs.Generations.{generationOf}
 use Rattle.rules.specs.declared.Port.{Port}
 use Rattle.rules.specs.declared.Phase.{Phase}
 use Rattle.rules.specs.declared.Phase.the-variants.{Idle, Loading, Active, Unloading}
@@ -53,7 +54,7 @@ decoded w = record {
   payload = w .payload;
   phase = phaseOf (w .phase);
   retired = not (eqb (w .retired) 0);
-  generation = w .generation;
+  generation = generationOf (w .generation);
   root = rootOf (w .root) (w .«root_revision») (w .«root_argument»);
 }
 
@@ -84,7 +85,7 @@ pluginAt m i = record {
   payload = lifeAt m i .payload;
   phase = lifeAt m i .phase;
   retired = lifeAt m i .retired;
-  generation = lifeAt m i .generation;
+  generation = lifeAt m i .generation .0;
   root = lifeAt m i .root;
 }
 

@@ -74,7 +74,7 @@ encoded l = record {
   payload = l .payload;
   phase = phaseWord (l .phase);
   retired = boolByte (l .retired);
-  generation = l .generation;
+  generation = l .generation .0;
   root = rootTag (l .root);
   «root_revision» = rootRevision (l .root);
   «root_argument» = rootArgument (l .root);
@@ -82,3 +82,17 @@ encoded l = record {
 
 unfoldable pub putLife : List ℕ → ℕ → Life → List ℕ
 putLife m i l = putWords m i (encoded l)
+
+-- revision and payload alone, which a replacement changes
+unfoldable pub renewedAt : List ℕ → ℕ → ℕ → ℕ → List ℕ
+renewedAt m i revision payload = puts m (i * 72) 11 (revision ∷ payload ∷ [])
+
+abbrev pub renewedLife : Life → ℕ → ℕ → Life
+renewedLife l revision payload = record {
+  revision = revision;
+  payload = payload;
+  phase = l .phase;
+  retired = l .retired;
+  generation = l .generation;
+  root = l .root;
+}

@@ -6,6 +6,7 @@ ghost use Rattle.rules.specs.Basics.{holds};
 ghost use Rattle.memory.specs.Layout.{word, occupancy, taken, idAt};
 ghost use Rattle.memory.specs.View.{parentAt};
 ghost use Rattle.memory.specs.Writes.{parentId, namesAt, findAt};
+use rules::Generation;
 use rules::Phase;
 use rules::Root;
 
@@ -32,7 +33,7 @@ pub struct Life {
     pub payload: u64,
     pub phase: Phase,
     pub retired: bool,
-    pub generation: u64,
+    pub generation: Generation,
     pub root: Root,
 }
 

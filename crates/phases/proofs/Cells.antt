@@ -1,5 +1,5 @@
--- The code's table is document 01's: one test at each of its cells, which is computed.
-use Prim.Native.Nat.{ℕ, zero, suc, _+_, _*_, _/_, _%_, _<_}
+-- A table that passes one test at each of its cells is document 01's; of the code's table the test is computed.
+use Prim.Native.Nat.{ℕ, zero, suc, _+_, _<_}
 use native.Mathlib.Nat.{add-zero, add-suc, suc-add, le-of-suc-le-suc, not-suc-le-zero}
 use native.Mathlib.Omega.{arith}
 use mathlib.Core.Path.{_≡_, refl, sym, ap, _∙_, subst}
@@ -22,37 +22,34 @@ use Rattle.phases.specs.declared.Cell.{Cell}
 use Rattle.phases.specs.declared.Cell.the-variants.{To, Empty}
 
 -- a test at each entry of a list and its place, counted from i
-abbrev every : (ℕ → ℕ → Bool) → ℕ → List ℕ → Bool
+abbrev every : {A : Type 0} → (ℕ → A → Bool) → ℕ → List A → Bool
 every f i [] = true
 every f i (x ∷ xs) = f i x && every f (suc i) xs
 
-from : (f : ℕ → ℕ → Bool) (xs : List ℕ) (i : ℕ) → every f i xs ≡ true → (k : ℕ) → k < length xs → f (i + k) (getD xs k 0) ≡ true
-from f [] i t k h = absurd (not-suc-le-zero h)
-from f (x ∷ xs) i t zero h = subst (λ (m : ℕ). f m x ≡ true) (sym (add-zero i)) (both (f i x) (every f (suc i) xs) t .0)
-from f (x ∷ xs) i t (suc k) h =
-    subst (λ (m : ℕ). f m (getD xs k 0) ≡ true) (suc-add i k ∙ sym (add-suc i k))
-    (from f xs (suc i) (both (f i x) (every f (suc i) xs) t .1) k (le-of-suc-le-suc h))
+from : {A : Type 0} (f : ℕ → A → Bool) (d : A) (xs : List A) (i : ℕ) → every f i xs ≡ true → (k : ℕ) → k < length xs → f (i + k) (getD xs k d) ≡ true
+from f d [] i t k h = absurd (not-suc-le-zero h)
+from f d (x ∷ xs) i t zero h = subst (λ (m : ℕ). f m x ≡ true) (sym (add-zero i)) (both (f i x) (every f (suc i) xs) t .0)
+from f d (x ∷ xs) i t (suc k) h =
+    subst (λ (m : ℕ). f m (getD xs k d) ≡ true) (suc-add i k ∙ sym (add-suc i k))
+    (from f d xs (suc i) (both (f i x) (every f (suc i) xs) t .1) k (le-of-suc-le-suc h))
 
 -- document 01's rows, and a cell as a number
-rows : List (List (Option Phase))
+abbrev rows : List (List (Option Phase))
 rows = rules.row Idle ∷ rules.row Loading ∷ rules.row Active ∷ rules.row Unloading ∷ []
 
-code : Option Phase → ℕ
+abbrev code : Option Phase → ℕ
 code none = 4
 code (some p) = phaseNumber p
 
-there : ℕ → ℕ → ℕ
+abbrev there : ℕ → ℕ → ℕ
 there n c = code (getD (getD rows n []) c none)
 
-right : ℕ → ℕ → Bool
-right k x = eqb x (there (k / 5) (k % 5))
+-- The test of a table: four rows of five cells, each document 01's.
+abbrev right : ℕ → List ℕ → Bool
+right n xs = eqb (length xs) 5 && every (λ (c x : ℕ). eqb x (there n c)) 0 xs
 
-abbrev pub cells : List ℕ
-cells = 1 ∷ 4 ∷ 4 ∷ 4 ∷ 4 ∷ 4 ∷ 2 ∷ 3 ∷ 4 ∷ 4 ∷ 4 ∷ 4 ∷ 4 ∷ 3 ∷ 4 ∷ 4 ∷ 4 ∷ 4 ∷ 4 ∷ 0 ∷ []
-
-all-right : every right 0 cells ≡ true
-unfolding right there code rows
-all-right = refl
+unfoldable isRight : List (List ℕ) → Bool
+isRight t = eqb (length t) 4 && every right 0 t
 
 pub phase-few : (p : Phase) → phaseNumber p < 4
 phase-few Idle = omega arith
@@ -68,34 +65,36 @@ step-few rules.Unload = omega arith
 step-few rules.Finish = omega arith
 
 row-is : (p : Phase) → getD rows (phaseNumber p) [] ≡ rules.row p
-unfolding rows
 row-is Idle = refl
 row-is Loading = refl
 row-is Active = refl
 row-is Unloading = refl
 
 back : (c : Option Phase) → numbered (code c) ≡ cellOf c
-unfolding code
 back none = refl
 back (some Idle) = refl
 back (some Loading) = refl
 back (some Active) = refl
 back (some Unloading) = refl
 
-at : (k : ℕ) → k < 20 → getD cells k 0 ≡ there (k / 5) (k % 5)
-unfolding right
-at k h = let e : 0 + k ≡ k = omega arith in eqb-true _ _ (rw e at (from right cells 0 all-right k h))
+-- a table that passes
+module _ (t : List (List ℕ)) (passed : isRight t ≡ true) where
+  at : (n c : ℕ) → n < 4 → c < 5 → getD (getD t n []) c 0 ≡ there n c
+  unfolding isRight
+  at n c h g =
+      let xs = getD t n [] in
+      let w = both (eqb (length t) 4) (every right 0 t) passed in
+      let e : 0 + n ≡ n = omega arith in
+      let f : 0 + c ≡ c = omega arith in
+      let r : n < length t = omega (arith, eqb-true (length t) 4 (w .0)) in
+      let u = both (eqb (length xs) 5) _ (rw e at (from right [] t 0 (w .1) n r)) in
+      let l : c < length xs = omega (arith, eqb-true (length xs) 5 (u .0)) in
+      eqb-true _ _ (rw f at (from (λ (k x : ℕ). eqb x (there n k)) 0 xs 0 (u .1) c l))
 
-pub cell-is : (p : Phase) (s : rules.Step) → numbered (getD cells (phaseNumber p * 5 + rules.column s) 0) ≡ cellOf (rules.cell p s)
-unfolding right there
-cell-is p s =
-    let n = phaseNumber p in
-    let c = rules.column s in
-    let k = n * 5 + c in
-    let a : k / 5 ≡ n = omega (arith, step-few s) in
-    let b : k % 5 ≡ c = omega (arith, step-few s) in
-    let t : getD cells k 0 ≡ there (k / 5) (k % 5) = at k (omega (arith, phase-few p, step-few s)) in
-    ap numbered (t ∙ (λ i. there (a i) (b i)) ∙ ap (λ r. code (getD r c none)) (row-is p)) ∙ back (rules.cell p s)
+  cell-is : (p : Phase) (s : rules.Step) → numbered (getD (getD t (phaseNumber p) []) (rules.column s) 0) ≡ cellOf (rules.cell p s)
+  cell-is p s =
+      let c = rules.column s in
+      ap numbered (at (phaseNumber p) c (phase-few p) (step-few s) ∙ ap (λ r. code (getD r c none)) (row-is p)) ∙ back (rules.cell p s)
 
 -- what the functions answer
 pub empty-cell : (n : ℕ) → n ≡ 4 → Empty ≡ numbered n
@@ -104,6 +103,19 @@ empty-cell n e = rw (eq-eqb n 4 e)
 pub phase-cell : (n : ℕ) → n ≢ 4 → (p : Phase) → p ≡ phaseOf n → To p ≡ numbered n
 phase-cell n d p e = rw (ne-eqb n 4 d) (ap To e)
 
-pub next-cell : (p : Phase) (s : Step) (a b : ℕ) → a ≡ phaseNumber p → b ≡ rules.column (ruled s) → (x : Cell) → x ≡ numbered (getD cells (a * 5 + b) 0)
-    → x ≡ cellOf (rules.cell p (ruled s))
-next-cell p s a b e f x g = g ∙ (λ i. numbered (getD cells (e i * 5 + f i) 0)) ∙ cell-is p (ruled s)
+-- The code's table passes.
+abbrev cells : List (List ℕ)
+cells =
+    (1 ∷ 4 ∷ 4 ∷ 4 ∷ 4 ∷ [])
+    ∷ (4 ∷ 2 ∷ 3 ∷ 4 ∷ 4 ∷ [])
+    ∷ (4 ∷ 4 ∷ 4 ∷ 3 ∷ 4 ∷ [])
+    ∷ (4 ∷ 4 ∷ 4 ∷ 4 ∷ 0 ∷ [])
+    ∷ []
+
+cells-right : isRight cells ≡ true
+unfolding isRight
+cells-right = refl
+
+pub next-cell : (p : Phase) (s : Step) (a b : ℕ) → a ≡ phaseNumber p → b ≡ rules.column (ruled s) → (x : Cell)
+    → x ≡ numbered (getD (getD cells a []) b 0) → x ≡ cellOf (rules.cell p (ruled s))
+next-cell p s a b e f x g = g ∙ (λ i. numbered (getD (getD cells (e i) []) (f i) 0)) ∙ cell-is cells cells-right p (ruled s)

@@ -23,8 +23,25 @@ pub enum Cell {
     Empty,
 }
 
-// A row for each of Idle, Loading, Active and Unloading; begin, ready, fail, unload and finish across. A phase by its number, 4 where the cell is empty.
-const NEXT: [u64; 20] = [1, 4, 4, 4, 4, 4, 2, 3, 4, 4, 4, 4, 4, 3, 4, 4, 4, 4, 4, 0];
+// Phases by their numbers, and an empty cell.
+const IDLE: u64 = 0;
+
+const LOADING: u64 = 1;
+
+const ACTIVE: u64 = 2;
+
+const UNLOADING: u64 = 3;
+
+const EMPTY: u64 = 4;
+
+// A row for each of Idle, Loading, Active and Unloading.
+const NEXT: [[u64; 5]; 4] = [
+    // begin, ready, fail, unload, finish
+    [LOADING, EMPTY, EMPTY, EMPTY, EMPTY],
+    [EMPTY, ACTIVE, UNLOADING, EMPTY, EMPTY],
+    [EMPTY, EMPTY, EMPTY, UNLOADING, EMPTY],
+    [EMPTY, EMPTY, EMPTY, EMPTY, IDLE],
+];
 
 fn row(phase: Phase) -> usize
     ensures { λ r. ⌜ r ≡ phaseNumber phase ⌝ ∗ ⌜ r < 4 ⌝ }
@@ -52,7 +69,7 @@ fn column(step: Step) -> usize
 fn cell_of(number: u64) -> Cell
     ensures { λ r. ⌜ r ≡ numbered number ⌝ }
 {
-    if number == 4 {
+    if number == EMPTY {
         return Cell::Empty;
     }
     Cell::To(living::phase_of(number))
@@ -62,5 +79,5 @@ fn cell_of(number: u64) -> Cell
 pub fn next(phase: Phase, step: Step) -> Cell
     ensures { λ r. ⌜ r ≡ cellOf (cell phase (ruled step)) ⌝ }
 {
-    cell_of(NEXT[row(phase) * 5 + column(step)])
+    cell_of(NEXT[row(phase)][column(step)])
 }

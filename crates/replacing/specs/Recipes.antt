@@ -1,10 +1,11 @@
--- A recipe, what a replacement makes of it, and the life that has it.
-use Prim.Native.Nat.{ℕ, _+_}
-use mathlib.Core.Path.{_≡_}
+-- A recipe, what a replacement makes of it, and whether a count of them fits.
+use Prim.Native.Nat.{ℕ, _+_, _-_, _≤_}
+use native.Mathlib.Omega.{arith}
+use mathlib.Core.Path.{_≡_, sym, _∙_}
 use mathlib.Core.Logic.{_≢_}
-use mathlib.Core.Bool.{true, false}
-use lib.Dec.{eqb}
-use borrow.Author.Tests.{eq-eqb, ne-eqb}
+use mathlib.Core.Bool.{Bool, true, false}
+use lib.Dec.{eqb, leb}
+use borrow.Author.Tests.{eq-eqb, ne-eqb, le-leb, lt-leb, leb-true, leb-false}
 use Rattle.rules.specs.Basics.{pick, last}
 use Rattle.rules.specs.Refusals.{number, Exhausted}
 use Rattle.rules.specs.Laws.Tests.{by-test}
@@ -37,12 +38,12 @@ module _ (r : Recipe) (v : ℕ) where
 abbrev pub recipeOf : Life → Recipe
 recipeOf l = record { revision = l .revision; payload = l .payload }
 
-abbrev pub withRecipe : Life → Recipe → Life
-withRecipe l r = record {
-  revision = r .revision;
-  payload = r .payload;
-  phase = l .phase;
-  retired = l .retired;
-  generation = l .generation;
-  root = l .root;
-}
+-- a count fits behind a revision: no more than the revisions that are left
+abbrev pub fitsBehind : ℕ → ℕ → Bool
+fitsBehind revision count = leb count (last - revision)
+
+module _ (r n : ℕ) where
+  pub fits-sum : r ≤ last → fitsBehind r n ≡ leb (r + n) last
+  fits-sum h = by-test (leb n (last - r))
+      (λ t. t ∙ sym (le-leb (r + n) last (omega (arith, leb-true n (last - r) t))))
+      (λ f. f ∙ sym (lt-leb (r + n) last (omega (arith, leb-false n (last - r) f))))

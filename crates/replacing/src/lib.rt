@@ -3,15 +3,17 @@ ghost use mathlib.Core.Path.{_≡_};
 ghost use Rattle.rules.specs.Outcomes.{answerOf};
 ghost use Rattle.rules.specs.Replacement.{replace, fits};
 ghost use Rattle.memory.specs.View.{view};
-ghost use Rattle.memory.specs.Known.{storedLife};
 ghost use Rattle.living.specs.Told.{whetherAnswer};
 ghost use Rattle.replacing.specs.Answers.{replacedAnswer};
-ghost use Rattle.replacing.specs.Recipes.{changeOf, withRecipe};
+ghost use Rattle.replacing.specs.Recipes.{changeOf, fitsBehind};
+ghost use Rattle.replacing.specs.Words.{replacedIn};
 use living::Whether;
-use memory::Life;
 use memory::Place;
 use memory::WORDS;
 use rules::refusal;
+
+// The last revision.
+const LAST: u64 = 18446744073709551615;
 
 // What a replacement changes of a plugin.
 pub struct Recipe {
@@ -35,7 +37,7 @@ pub struct Change {
 pub fn changed(r: Recipe, payload: u64) -> Change
     ensures { λ c. ⌜ c ≡ changeOf r payload ⌝ }
 {
-    if r.revision == 18446744073709551615 {
+    if r.revision == LAST {
         return Change {
             recipe: r,
             answer: Replaced::Refused(refusal::EXHAUSTED, payload),
@@ -72,24 +74,9 @@ fn by_lending(r: Recipe, payload: u64) -> Change
     }
 }
 
-fn renewed(life: Life, recipe: Recipe) -> Life
-    ensures { λ r. ⌜ r ≡ withRecipe life recipe ⌝ }
-{
-    let phase = life.phase;
-    let root = life.root;
-    Life {
-        revision: recipe.revision,
-        payload: recipe.payload,
-        phase: phase,
-        retired: life.retired,
-        generation: life.generation,
-        root: root,
-    }
-}
-
 // 1, 16, each with the offered payload; else the former payload, in any phase, retired or not.
 pub fn replace(m: &mut [u64; WORDS], id: u64, payload: u64) -> Replaced
-    ensures { λ r. ⌜ replacedAnswer r ≡ answerOf (replace (view (now (m .entry))) id payload) ⌝ ∗ ⌜ now (m .exit) ≡ storedLife (now (m .entry)) (replace (view (now (m .entry))) id payload) ⌝ }
+    ensures { λ r. ⌜ replacedAnswer r ≡ answerOf (replace (view (now (m .entry))) id payload) ⌝ ∗ ⌜ now (m .exit) ≡ replacedIn (now (m .entry)) (replace (view (now (m .entry))) id payload) ⌝ }
 {
     let Place::At(at) = memory::find(m, id) else {
         return Replaced::Refused(refusal::UNKNOWN, payload);
@@ -105,11 +92,18 @@ pub fn replace(m: &mut [u64; WORDS], id: u64, payload: u64) -> Replaced
         return answer;
     };
     let next = change.recipe;
-    living::store(m, at, renewed(life, next));
+    living::renew(m, at, next.revision, next.payload);
     answer
 }
 
-// Whether a count of replacements fits: 1, else yes exactly if no revision passes the last, by a difference that cannot wrap.
+// Whether a count fits behind a revision, by a difference that cannot wrap.
+fn fits_behind(revision: u64, count: u64) -> bool
+    ensures { λ r. ⌜ r ≡ fitsBehind revision count ⌝ }
+{
+    count <= LAST - revision
+}
+
+// Whether a count of replacements fits: 1, else yes exactly if no revision passes the last.
 pub fn fits(m: &[u64; WORDS], id: u64, count: u64) -> Whether
     ensures { λ r. ⌜ whetherAnswer r ≡ answerOf (fits (view (now (m .entry))) id count) ⌝ }
 {
@@ -117,7 +111,7 @@ pub fn fits(m: &[u64; WORDS], id: u64, count: u64) -> Whether
         return Whether::Refused(refusal::UNKNOWN);
     };
     let life = living::load(m, at);
-    if count <= 18446744073709551615 - life.revision {
+    if fits_behind(life.revision, count) {
         return Whether::Yes;
     }
     Whether::No

@@ -39,13 +39,14 @@ fn marked(life: Life) -> Life
     ensures { λ r. ⌜ r ≡ markedLife life ⌝ }
 {
     let phase = life.phase;
+    let generation = life.generation;
     let root = life.root;
     Life {
         revision: life.revision,
         payload: life.payload,
         phase: phase,
         retired: true,
-        generation: life.generation,
+        generation: generation,
         root: root,
     }
 }

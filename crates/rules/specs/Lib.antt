@@ -1,5 +1,6 @@
 pub mod Basics
 pub mod Holds
+pub mod Generations
 pub mod Refusals
 pub mod Outcomes
 pub mod Ports

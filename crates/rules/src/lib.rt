@@ -1,6 +1,7 @@
 // The types of document 01 that the rules and the code share.
 ghost use mathlib.Core.Path.{_≡_};
 ghost use Rattle.rules.specs.Holds.{port, defaultRealm, neverBegun};
+ghost use Rattle.rules.specs.Generations.{generationOf, nextGeneration};
 
 pub mod refusal;
 
@@ -33,16 +34,28 @@ pub struct Generation(pub u64);
 impl Generation {
     pub const NEVER_BEGUN: Generation = Generation(0);
 
+    pub const LAST: Generation = Generation(18446744073709551615);
+
     pub fn never_begun() -> Generation
-        ensures { λ r. ⌜ r .0 ≡ neverBegun ⌝ }
+        ensures { λ r. ⌜ r ≡ generationOf neverBegun ⌝ }
     {
         Generation::NEVER_BEGUN
     }
 
     pub fn of(number: u64) -> Generation
-        ensures { λ r. ⌜ r .0 ≡ number ⌝ }
+        ensures { λ r. ⌜ r ≡ generationOf number ⌝ }
     {
         Generation(number)
+    }
+
+    // Generation + 1; the last one stays.
+    pub fn next(self) -> Generation
+        ensures { λ r. ⌜ r ≡ nextGeneration self ⌝ }
+    {
+        if self.0 == Generation::LAST.0 {
+            return self;
+        }
+        Generation(self.0 + 1)
     }
 }
 

@@ -20,7 +20,7 @@ use Rattle.memory.specs.Frames.{withLife}
 use Rattle.memory.specs.Known.{at-place, at-id, at-known, none-known}
 use Rattle.memory.specs.declared.Life.{Life}
 use Rattle.memory.specs.declared.Place.the-variants.{At, Nowhere}
-use Rattle.living.specs.Told.{life-found}
+use Rattle.living.specs.Told.{life-found, generation-found}
 use Rattle.stepping.specs.Lives.{movedLife}
 use Rattle.ports.specs.declared.Found.{Found}
 use Rattle.ports.specs.declared.Found.the-variants as found
@@ -109,7 +109,7 @@ module _ (m : List ℕ) (id i : ℕ) (e : findAt m id ≡ At i) (l : Life) (h : 
         unfolding checked pluginAt
         ready-moves k =
             let k′ : lacks (pluginAt m i) ≡ false = sym (ap (λ j. lacks (pluginAt m j)) (at-place m id i e)) ∙ k in
-            ready-found m id i e ∙ rw (← same) (rw (n, f, sym g ∙ y, k′))
+            ready-found m id i e ∙ rw (← same) (rw (n, f, sym g ∙ y, k′, generation-found m id i e l h))
 
   pub finish-stuck : rules.cell (l .phase) rules.Finish ≡ none → rules.finish (view m) id ≡ refuses InvalidState []
   unfolding checked pluginAt

@@ -32,12 +32,13 @@ fn is_spent(life: Life) -> bool
 fn at_rest(life: Life, phase: Phase) -> Life
     ensures { λ r. ⌜ r ≡ restedLife life phase ⌝ }
 {
+    let generation = life.generation;
     Life {
         revision: life.revision,
         payload: life.payload,
         phase: phase,
         retired: life.retired,
-        generation: life.generation,
+        generation: generation,
         root: Root::Unissued,
     }
 }

@@ -9,6 +9,7 @@ use lib.Dec.{eqb}
 use borrow.Author.Tests.{eq-eqb, ne-eqb}
 use Rattle.rules.specs.Basics.{all, last}
 use Rattle.rules.specs.Holds.{Plugin, withGeneration, withRoot}
+use Rattle.rules.specs.Generations.{nextGeneration}
 use Rattle.rules.specs.declared.Root.the-variants.{Unissued}
 use Rattle.rules.specs.declared.Phase.{Phase}
 use Rattle.rules.specs.Refusals.{Unknown, Retired, InvalidState, Exhausted, Unavailable, InUse}
@@ -22,7 +23,7 @@ use Rattle.memory.specs.Frames.{withLife}
 use Rattle.memory.specs.Known.{at-place, at-known, none-known}
 use Rattle.memory.specs.declared.Life.{Life}
 use Rattle.memory.specs.declared.Place.the-variants.{At, Nowhere}
-use Rattle.living.specs.Told.{Told, life-found, told-stored}
+use Rattle.living.specs.Told.{Told, life-found, generation-found, told-stored}
 use Rattle.stepping.specs.Lives.{movedLife, begunLife}
 
 -- the outcomes, once the plugin is found
@@ -101,6 +102,9 @@ module _ (m : List ℕ) (id i : ℕ) (e : findAt m id ≡ At i) (l : Life) (h : 
     unfolding checked pluginAt
     unload-moves n = unload-found m id i e ∙ rw (at-phase rules.Unload (some p) f, used ∙ n) (rw same)
 
+  of-generation : pluginAt m i .generation ≡ l .generation .0
+  of-generation = generation-found m id i e l h
+
   pub begin-retired : l .retired ≡ true → rules.begin (view m) id ≡ refuses Retired []
   unfolding checked pluginAt
   begin-retired t = begin-found m id i e ∙ rw (← same) (rw t)
@@ -111,24 +115,27 @@ module _ (m : List ℕ) (id i : ℕ) (e : findAt m id ≡ At i) (l : Life) (h : 
     begin-stuck f = begin-found m id i e ∙ rw (← same) (rw (n, f))
 
     module _ (p : Phase) (f : rules.cell (l .phase) rules.Begin ≡ some p) where
-      pub begin-last : l .generation ≡ last → rules.begin (view m) id ≡ refuses Exhausted []
+      pub begin-last : l .generation .0 ≡ last → rules.begin (view m) id ≡ refuses Exhausted []
       unfolding checked pluginAt
-      begin-last g = begin-found m id i e ∙ rw (← same) (rw (n, f, eq-eqb _ _ g))
+      begin-last g = begin-found m id i e ∙ rw (← same) (rw (n, f, eq-eqb (pluginAt m i .generation) last (of-generation ∙ g)))
 
-      module _ (g : l .generation ≢ last) (ws : List ℕ) (d : ws ≡ depPart m (i % 32)) (b : Bool) (u : b ≡ all (rules.available (view m)) (pairs ws)) where
+      module _ (g : l .generation .0 ≢ last) (ws : List ℕ) (d : ws ≡ depPart m (i % 32)) (b : Bool) (u : b ≡ all (rules.available (view m)) (pairs ws)) where
+        not-last : eqb (pluginAt m i .generation) last ≡ false
+        not-last = ne-eqb (pluginAt m i .generation) last (λ z. g (sym of-generation ∙ z))
+
         ready-for : all (rules.available (view m)) (pairs (depPart m i)) ≡ b
         ready-for = sym (u ∙ ap (λ x. all (rules.available (view m)) (pairs x)) (d ∙ ap (depPart m) (at-place m id i e)))
 
         pub begin-lacks : b ≡ false → rules.begin (view m) id ≡ refuses Unavailable []
         unfolding checked pluginAt
-        begin-lacks z = begin-found m id i e ∙ rw (← same) (rw (n, f, ne-eqb _ _ g, ready-for ∙ z))
+        begin-lacks z = begin-found m id i e ∙ rw (← same) (rw (n, f, not-last, ready-for ∙ z))
 
-        pub begin-moves : b ≡ true → rules.begin (view m) id ≡ stores (withLife (pluginAt m i) (begunLife l p)) (word m 0 ∷ id ∷ (l .generation + 1) ∷ 1 ∷ [])
+        pub begin-moves : b ≡ true → rules.begin (view m) id ≡ stores (withLife (pluginAt m i) (begunLife l p)) (word m 0 ∷ id ∷ nextGeneration (l .generation) .0 ∷ 1 ∷ [])
         unfolding checked pluginAt view
-        begin-moves y = begin-found m id i e ∙ rw (← same) (rw (n, f, ne-eqb _ _ g, ready-for ∙ y))
+        begin-moves y = begin-found m id i e ∙ rw (← same) (rw (n, f, not-last, ready-for ∙ y, of-generation, ne-eqb (l .generation .0) last g))
 
         pub begin-told : b ≡ true → (dm : ℕ) → dm ≡ word m 0 → (l′ : Life) → l′ ≡ begunLife l p → (m′ : List ℕ) → m′ ≡ putLife m (i % 32) l′
-            → Told (rules.begin (view m) id) m (Accepted (dm ∷ id ∷ l′ .generation ∷ 1 ∷ [])) m′
+            → Told (rules.begin (view m) id) m (Accepted (dm ∷ id ∷ l′ .generation .0 ∷ 1 ∷ [])) m′
         begin-told y dm w l′ k m′ s =
             let t = told-stored (rules.begin (view m) id) m id i _ (begunLife l p) m′ e (begin-moves y) (s ∙ ap (putLife m (i % 32)) k) in
-            ((λ j. Accepted (w j ∷ id ∷ k j .generation ∷ 1 ∷ [])) ∙ t .0, t .1)
+            ((λ j. Accepted (w j ∷ id ∷ k j .generation .0 ∷ 1 ∷ [])) ∙ t .0, t .1)

@@ -1,7 +1,8 @@
 -- What a step makes of a life, and what beginning answers in document 01's numbers.
-use Prim.Native.Nat.{ℕ, _+_}
+use Prim.Native.Nat.{ℕ}
 use mathlib.Core.Path.{_≡_, ap}
 use mathlib.Core.List.{[], _∷_}
+use Rattle.rules.specs.Generations.{nextGeneration}
 use Rattle.rules.specs.declared.Phase.{Phase}
 use Rattle.rules.specs.declared.Root.the-variants.{Unissued}
 use Rattle.rules.specs.Outcomes.{Answer, Refused, Accepted}
@@ -30,6 +31,6 @@ begunLife l p = record {
   payload = l .payload;
   phase = p;
   retired = l .retired;
-  generation = l .generation + 1;
+  generation = nextGeneration (l .generation);
   root = Unissued;
 }

@@ -1,23 +1,25 @@
 -- Of dense words, the registry after a step is the rules', and the words are dense again.
-use Prim.Native.Nat.{ℕ}
+use Prim.Native.Nat.{ℕ, _+_}
 use mathlib.Core.Path.{_≡_, refl}
 use mathlib.Core.Bool.{true, false, not}
 use mathlib.Core.List.{List, [], _∷_}
 use mathlib.Core.Option.{Option, none, some}
 use lib.Dec.{eqb}
 use Rattle.rules.specs.Basics.{all, isNone, orElse, last}
+use Rattle.rules.specs.Holds.{withGeneration, withRoot}
+use Rattle.rules.specs.declared.Root.the-variants.{Unissued}
 use Rattle.rules.specs.Refusals.{Unknown, Retired, InvalidState, Exhausted, Unavailable, InUse}
 use Rattle.rules.specs.Outcomes.{Outcome, stores, _⇒_}
 use Rattle.rules.specs.Phases as rules
 use Rattle.rules.specs.Laws.Tests.{checked-elim}
 use Rattle.memory.specs.View.{lifeAt, pluginAt, view}
 use Rattle.memory.specs.Writes.{findAt}
-use Rattle.memory.specs.Known.{storedLife}
+use Rattle.memory.specs.Known.{lifeOf, storedLife}
 use Rattle.memory.specs.declared.Place.{Place}
 use Rattle.memory.specs.declared.Place.the-variants.{At, Nowhere}
 use Rattle.blocks.specs.Dense.{Dense, Refines}
 use Rattle.blocks.specs.Stored.{Stored, stored-refused, stored-life}
-use Rattle.stepping.specs.Lives.{movedLife, begunLife}
+use Rattle.stepping.specs.Lives.{movedLife}
 use Rattle.stepping.specs.Laws.{fail-none, fail-found, unload-none, unload-found, begin-none, begin-found}
 
 module _ (m : List ℕ) (d : Dense m) where
@@ -60,7 +62,8 @@ module _ (m : List ℕ) (d : Dense m) where
           (checked-elim (Stored m d)
           ((l .retired ⇒ Retired)
           ∷ (rules.stuck rules.Begin (pluginAt m i) ⇒ InvalidState)
-          ∷ (eqb (l .generation) last ⇒ Exhausted)
+          ∷ (eqb (l .generation .0) last ⇒ Exhausted)
           ∷ (not (all (rules.available (view m)) (pluginAt m i .dependencies)) ⇒ Unavailable)
           ∷ [])
-          _ (λ x. stored-refused m d x []) (λ h. stored-life m d id i e (begunLife l (orElse (rules.cell (l .phase) rules.Begin) (l .phase))) _))
+          _ (λ x. stored-refused m d x []) (λ h. stored-life m d id i e
+          (lifeOf (rules.moved rules.Begin (withGeneration (l .generation .0 + 1) (withRoot Unissued (pluginAt m i))))) _))

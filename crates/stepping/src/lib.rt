@@ -1,6 +1,5 @@
 // Document 01, "Phases": each step looks the id up once, and the table of phases and steps says where it leads.
 ghost use mathlib.Core.Path.{_≡_};
-ghost use mathlib.Core.Logic.{_≢_};
 ghost use Rattle.rules.specs.Outcomes.{answerOf};
 ghost use Rattle.rules.specs.Phases.{begin, fail, unload};
 ghost use Rattle.memory.specs.View.{view};
@@ -13,6 +12,7 @@ use memory::Place;
 use memory::WORDS;
 use phases::Cell;
 use phases::Step;
+use rules::Generation;
 use rules::Phase;
 use rules::Root;
 use rules::refusal;
@@ -26,19 +26,19 @@ pub enum Begun {
 pub fn with_phase(life: Life, phase: Phase) -> Life
     ensures { λ r. ⌜ r ≡ movedLife life phase ⌝ }
 {
+    let generation = life.generation;
     let root = life.root;
     Life {
         revision: life.revision,
         payload: life.payload,
         phase: phase,
         retired: life.retired,
-        generation: life.generation,
+        generation: generation,
         root: root,
     }
 }
 
 fn with_begun(life: Life, phase: Phase) -> Life
-    requires { ⌜ life .generation ≢ 18446744073709551615 ⌝ }
     ensures { λ r. ⌜ r ≡ begunLife life phase ⌝ }
 {
     Life {
@@ -46,7 +46,7 @@ fn with_begun(life: Life, phase: Phase) -> Life
         payload: life.payload,
         phase: phase,
         retired: life.retired,
-        generation: life.generation + 1,
+        generation: life.generation.next(),
         root: Root::Unissued,
     }
 }
@@ -66,14 +66,14 @@ pub fn begin(m: &mut [u64; WORDS], id: u64) -> Begun
     let Cell::To(next) = phases::next(phase, Step::Begin) else {
         return Begun::Refused(refusal::INVALID_STATE);
     };
-    if life.generation == 18446744073709551615 {
+    if life.generation.0 == Generation::LAST.0 {
         return Begun::Refused(refusal::EXHAUSTED);
     }
     if needing::all_available(m, rows::dependency_words(m, at)) {
         let domain = memory::domain(m);
         let new = with_begun(life, next);
         living::store(m, at, new);
-        return Begun::Ticket(domain, id, new.generation, phases::SETUP);
+        return Begun::Ticket(domain, id, new.generation.0, phases::SETUP);
     }
     Begun::Refused(refusal::UNAVAILABLE)
 }

@@ -25,7 +25,7 @@ load-requires c κs = search needs
 returns-2 : tie.Need-returns-2
 returns-2 c =
     let e = sym (c .before .before .before .before .find .ensures) ∙ c .before .before .at .given .1 in
-    life-answer _ _ _ e Generation (λ l. l .generation ∷ []) (λ p. refl) _ (c .load .ensures)
+    life-answer _ _ _ e Generation (λ l. l .generation .0 ∷ []) (λ p. refl) _ (c .load .ensures)
 
 pub generation-spec : {M : Type 1} → statement M
 generation-spec =

@@ -16,10 +16,13 @@ phase-of-requires c κs = search needs
 root-of-requires : tie.Need-root-of-requires
 root-of-requires c κs = search needs
 
+of-requires : tie.Need-of-requires
+of-requires c κs = search needs
+
 -- src/lib.rt:180:1
 returns : tie.Need-returns
 unfolding decoded
-returns c = simp (c .before .before .phase-of .ensures, c .before .root-of .ensures)
+returns c = simp (c .before .before .before .phase-of .ensures, c .before .before .root-of .ensures, c .of .ensures)
 
 pub decode-spec : {M : Type 1} → statement M
-decode-spec = tie.close (tie.spec phase-of-requires root-of-requires returns)
+decode-spec = tie.close (tie.spec phase-of-requires root-of-requires of-requires returns)

@@ -21,20 +21,22 @@ returns c = fits-none _ _ _ (sym (c .before .before .find .ensures) ∙ c .enum-
 load-requires : tie.Need-load-requires
 load-requires c κs = search needs
 
-sub-if1 : tie.Need-sub-if1
-sub-if1 c = search needs
+fits-behind-requires : tie.Need-fits-behind-requires
+fits-behind-requires c κs = search needs
 
 returns-2 : tie.Need-returns-2
 returns-2 c =
-    let l = c .before .before in
+    let b = c .before in
+    let l = b .before in
     let e = sym (l .before .before .before .before .find .ensures) ∙ l .before .before .at .given .1 in
-    fits-yes _ _ _ _ _ e (l .load .ensures) (omega arith)
+    fits-yes _ _ _ _ _ e (l .load .ensures) _ (omega arith) (b .fits-behind .ensures) (c .if1 .taken)
 
 returns-3 : tie.Need-returns-3
 returns-3 c =
-    let l = c .before .before in
+    let b = c .before in
+    let l = b .before in
     let e = sym (l .before .before .before .before .find .ensures) ∙ l .before .before .at .given .1 in
-    fits-no _ _ _ _ _ e (l .load .ensures) (omega arith)
+    fits-no _ _ _ _ _ e (l .load .ensures) _ (omega arith) (b .fits-behind .ensures) (c .if1 .left)
 
 pub fits-spec : {M : Type 1} → statement M
 fits-spec =
@@ -45,6 +47,6 @@ fits-spec =
     enum-told
     returns
     load-requires
-    sub-if1
+    fits-behind-requires
     returns-2
     returns-3)

@@ -2,7 +2,7 @@
 use mathlib.Core.Path.{sym, _∙_}
 use mathlib.Core.List.{[], _∷_}
 use Rattle.rules.specs.Refusals.{Unknown}
-use Rattle.living.specs.Told.{told-refused}
+use Rattle.replacing.specs.Words.{replaced-refused}
 use Rattle.replacing.specs.Laws.{replace-none, told-back, told-replaced}
 use borrow.Author.Needs.{needs}
 use Rattle.replacing.proofs.replace.Statement.{statement}
@@ -18,7 +18,7 @@ enum-told : tie.Need-enum-told
 enum-told c = search needs
 
 returns : tie.Need-returns
-returns c = told-refused _ _ Unknown (_ ∷ []) (replace-none _ _ _ (sym (c .before .before .find .ensures) ∙ c .enum-told .given .1))
+returns c = replaced-refused _ _ Unknown (_ ∷ []) (replace-none _ _ _ (sym (c .before .before .find .ensures) ∙ c .enum-told .given .1))
 
 load-requires : tie.Need-load-requires
 load-requires c κs = search needs
@@ -39,19 +39,16 @@ returns-2 c =
     let e = sym (l .before .before .before .before .before .find .ensures) ∙ l .before .before .before .at .given .1 in
     told-back _ _ _ _ e _ _ (l .load .ensures) (b .by-lending .ensures) _ _ (c .enum-told3 .given .1)
 
-renewed-requires : tie.Need-renewed-requires
-renewed-requires c κs = search needs
-
-store-requires : tie.Need-store-requires
-store-requires c κs = search needs
+renew-requires : tie.Need-renew-requires
+renew-requires c κs = search needs
 
 returns-3 : tie.Need-returns-3
 returns-3 c =
-    let t = c .before .before .before .before in
+    let t = c .before .before .before in
     let b = t .before .before in
     let l = b .before in
     let e = sym (l .before .before .before .before .before .find .ensures) ∙ l .before .before .before .at .given .1 in
-    told-replaced _ _ _ _ e _ _ (l .load .ensures) (b .by-lending .ensures) _ _ _ (t .enum-told2 .given .1) (c .before .renewed .ensures) (c .store .ensures)
+    told-replaced _ _ _ _ e _ _ (l .load .ensures) (b .by-lending .ensures) _ _ (t .enum-told2 .given .1) (c .renew .ensures)
 
 pub replace-spec : {M : Type 1} → statement M
 replace-spec =
@@ -66,6 +63,5 @@ replace-spec =
     enum-told-2
     enum-told-3
     returns-2
-    renewed-requires
-    store-requires
+    renew-requires
     returns-3)

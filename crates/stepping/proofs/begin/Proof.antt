@@ -52,7 +52,7 @@ returns-3 c =
 
 returns-4 : tie.Need-returns-4
 returns-4 c =
-    let k = c .before .before .before in
+    let k = c .before .before .before .before in
     let n = k .before .before in
     let r = n .before in
     let l = r .before in
@@ -71,7 +71,7 @@ domain-requires : tie.Need-domain-requires
 domain-requires c κs = search needs
 
 with-begun-requires : tie.Need-with-begun-requires
-with-begun-requires c κs = c .before .before .before .before .before .before .if2 .left
+with-begun-requires c κs = search needs
 
 store-requires : tie.Need-store-requires
 store-requires c κs = search needs
@@ -84,7 +84,7 @@ returns-5 c =
     let v = y .before in
     let d = v .before in
     let g = d .before .before in
-    let k = g .before .before .before in
+    let k = g .before .before .before .before in
     let n = k .before .before in
     let r = n .before in
     let l = r .before in
@@ -98,7 +98,7 @@ returns-6 c =
     let v = c .before in
     let d = v .before in
     let g = d .before .before in
-    let k = g .before .before .before in
+    let k = g .before .before .before .before in
     let n = k .before .before in
     let r = n .before in
     let l = r .before in
