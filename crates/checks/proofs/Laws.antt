@@ -1,157 +1,166 @@
 -- The verdicts, check by check.
-use Prim.Native.Nat.{ℕ, suc, _+_, _-_, _<_, _≤_, _%_}
-use native.Mathlib.Omega.{arith}
-use native.Mathlib.Nat.{suc-ne-zero}
+use Prim.Native.Nat.{ℕ, _+_, _<_, _≤_, _%_}
 use mathlib.Core.Path.{_≡_, refl, sym, ap, _∙_}
-use mathlib.Core.Logic.{_≢_}
-use mathlib.Core.Bool.{Bool, true, false, _&&_, _||_}
-use mathlib.Core.List.{List, [], _∷_, _++_, map}
-use mathlib.Core.Option.{Option, none, some}
+use mathlib.Core.Bool.{Bool, true, false}
+use mathlib.Core.List.{List, [], _∷_, _++_}
 use lib.Dec.{eqb, ltb, leb}
 use lib.ListN.{length}
 use borrow.Author.Tests.{eq-eqb, ne-eqb, le-leb, lt-leb, lt-ltb, le-ltb}
 use Rattle.rules.specs.Basics.{pick, any, isSome, last}
-use Rattle.rules.specs.Holds.{Plugin, Registry, lookup, provider, count, isUnloading}
+use Rattle.rules.specs.Holds.{Registry, provider, count, isUnloading}
 use Rattle.rules.specs.Refusals.{DuplicateDependency}
 use Rattle.rules.specs.Outcomes.{Check, _⇒_}
-use Rattle.memory.specs.Layout.{word}
 use Rattle.rules.specs.declared.Port.{Port}
-use Rattle.rules.specs.declared.Phase.{Phase}
-use Rattle.rules.specs.Ports.{badRealms, realmsOf, resolve}
-use Rattle.rules.specs.Registration.{parentOf, repeats}
-use Rattle.rules.specs.Laws.Tests.{by-test}
+use Rattle.rules.specs.Ports.{badRealms, realmsOf}
+use Rattle.rules.specs.Registration.{Definition, resolved, repeats, parentChecks, askedChecks, claimChecks, roomChecks}
+use Rattle.memory.specs.Layout.{word}
 use Rattle.memory.specs.View.{pluginAt, lifeAt, view}
 use Rattle.memory.specs.Writes.{findAt, parentId}
+use Rattle.memory.specs.Known.{at-place, at-lookup, none-lookup}
+use Rattle.memory.specs.declared.Life.{Life}
 use Rattle.memory.specs.declared.Parent.{Parent}
 use Rattle.memory.specs.declared.Parent.the-variants.{Of, Nobody}
-use Rattle.memory.specs.Known.{at-place, at-lookup, none-lookup, life-of}
-use Rattle.memory.specs.declared.Life.{Life}
+use Rattle.memory.specs.declared.Place.{Place}
 use Rattle.memory.specs.declared.Place.the-variants.{At, Nowhere}
 use Rattle.claiming.specs.Blocks.{keysRepeat}
 use Rattle.claiming.specs.Answers.{keys-repeat-in}
-use Rattle.checks.specs.Runs.{verdict-first, verdict-then}
-use Rattle.checks.specs.Verdicts.{standingOf, parentChecks, earlyChecks, claimChecks, lateChecks, verdict}
+use Rattle.checks.specs.declared.Checked.{Checked}
+use Rattle.checks.specs.declared.Checked.the-variants.{Passed, Refused}
+use Rattle.checks.specs.declared.Early.{Early}
+use Rattle.checks.specs.declared.Early.the-variants as early
+use Rattle.checks.specs.Verdicts.{verdict, under, placeAbove}
+use Rattle.checks.specs.Runs.{under-passed, under-refused, verdict-first, verdict-then}
 
 -- 9, 10, 11, 12
-module _ (r : Registry) (u d c : ℕ) where
-  pub late-9 : r .next ≡ last → 9 ≡ verdict (lateChecks r u d c)
-  unfolding verdict
-  late-9 e = rw (eq-eqb _ _ e)
-
-  module _ (n : r .next ≢ last) where
-    pub late-10 : 32 ≤ count r → 10 ≡ verdict (lateChecks r u d c)
-    unfolding verdict
-    late-10 h = rw (ne-eqb _ _ n, le-leb _ _ h)
-
-    module _ (h : count r < 32) where
-      pub late-11 : 48 < d → 11 ≡ verdict (lateChecks r u d c)
-      unfolding verdict
-      late-11 k = rw (ne-eqb _ _ n, lt-leb _ _ h, lt-ltb _ _ k)
-
-      pub late-12 : d ≤ 48 → 1024 < u + (d + c) → 12 ≡ verdict (lateChecks r u d c)
-      unfolding verdict
-      late-12 k o = rw (ne-eqb _ _ n, lt-leb _ _ h, le-ltb _ _ k, lt-ltb _ _ o)
-
-      pub late-0 : d ≤ 48 → u + (d + c) ≤ 1024 → 0 ≡ verdict (lateChecks r u d c)
-      unfolding verdict
-      late-0 k o = rw (ne-eqb _ _ n, lt-leb _ _ h, le-ltb _ _ k, le-ltb _ _ o)
-
 next-of : (m : List ℕ) (n : ℕ) → n ≡ word m 2 → n ≡ view m .next
 unfolding view
 next-of m n e = e
 
 module _ (m : List ℕ) (u d c n : ℕ) (e : n ≡ word m 2) where
-  pub late-no-id : n ≡ last → 9 ≡ verdict (lateChecks (view m) u d c)
-  late-no-id f = late-9 (view m) u d c (sym (next-of m n e) ∙ f)
+  abbrev room : Checked
+  room = verdict (roomChecks (view m) d (u + (d + c)))
+
+  pub late-no-id : n ≡ last → Refused 9 ≡ room
+  unfolding verdict
+  late-no-id f = rw (eq-eqb (view m .next) last (sym (next-of m n e) ∙ f))
 
   module _ (a : n ≡ last → ⊥) (k : ℕ) (g : k ≡ count (view m)) where
-    other : view m .next ≢ last
-    other f = a (next-of m n e ∙ f)
+    some-id : eqb (view m .next) last ≡ false
+    some-id = ne-eqb _ _ (λ f. a (next-of m n e ∙ f))
 
-    pub late-full : 32 ≤ k → 10 ≡ verdict (lateChecks (view m) u d c)
-    late-full h = late-10 (view m) u d c other (rw (← g) h)
+    pub late-full : 32 ≤ k → Refused 10 ≡ room
+    unfolding verdict
+    late-full h = rw (some-id, le-leb 32 (count (view m)) (rw (← g) h))
 
     module _ (h : k < 32) where
-      fewer : count (view m) < 32
-      fewer = rw (← g) h
+      some-place : leb 32 (count (view m)) ≡ false
+      some-place = lt-leb 32 (count (view m)) (rw (← g) h)
 
-      pub late-long : 48 < d → 11 ≡ verdict (lateChecks (view m) u d c)
-      late-long l = late-11 (view m) u d c other fewer l
+      pub late-long : 48 < d → Refused 11 ≡ room
+      unfolding verdict
+      late-long l = rw (some-id, some-place, lt-ltb 48 d l)
 
       module _ (l : d ≤ 48) where
-        pub late-rows : 1024 < u + (d + c) → 12 ≡ verdict (lateChecks (view m) u d c)
-        late-rows o = late-12 (view m) u d c other fewer l o
+        pub late-rows : 1024 < u + (d + c) → Refused 12 ≡ room
+        unfolding verdict
+        late-rows o = rw (some-id, some-place, le-ltb 48 d l, lt-ltb 1024 (u + (d + c)) o)
 
-        pub late-pass : u + (d + c) ≤ 1024 → 0 ≡ verdict (lateChecks (view m) u d c)
-        late-pass o = late-0 (view m) u d c other fewer l o
+        pub late-pass : u + (d + c) ≤ 1024 → Passed ≡ room
+        unfolding verdict
+        late-pass o = rw (some-id, some-place, le-ltb 48 d l, le-ltb 1024 (u + (d + c)) o)
 
 -- The parent's checks.
 module _ (m : List ℕ) (p : Parent) where
-  pub parent-none : p ≡ Nobody → 0 ≡ verdict (parentChecks (view m) (parentId p))
+  abbrev pub of-parent : Early
+  of-parent = under (placeAbove m p) (verdict (parentChecks (view m) (parentId p)))
+
+  pub parent-none : p ≡ Nobody → early.Passed Nowhere ≡ of-parent
   unfolding verdict
   parent-none f = rw f refl
 
   module _ (id : ℕ) (f : p ≡ Of id) where
-    pub parent-unknown : findAt m id ≡ Nowhere → 1 ≡ verdict (parentChecks (view m) (parentId p))
+    pub parent-unknown : findAt m id ≡ Nowhere → early.Refused 1 ≡ of-parent
     unfolding verdict
     parent-unknown e = rw f (rw (none-lookup m id e))
 
-    pub parent-standing : (i : ℕ) → findAt m id ≡ At i → (l : Life) → l ≡ lifeAt m (i % 32) → (n : ℕ) → n ≡ standingOf l → n ≡ verdict (parentChecks (view m) (parentId p))
-    unfolding verdict pluginAt
-    parent-standing i e l g n h =
-        let same : l ≡ lifeAt m i = g ∙ ap (lifeAt m) (at-place m id i e) in
-        h ∙ rw f (rw (at-lookup m id i e) (rw same refl))
+    -- by the mark and the phase of a found parent
+    module _ (i : ℕ) (e : findAt m id ≡ At i) (l : Life) (g : l ≡ lifeAt m (i % 32)) where
+      known : of-parent ≡ under (At i) (pick (l .retired) (Refused 2) (pick (isUnloading (l .phase)) (Refused 3) Passed))
+      unfolding verdict pluginAt
+      known =
+          let same : l ≡ lifeAt m i = g ∙ ap (lifeAt m) (at-place m id i e) in
+          rw f (rw (at-lookup m id i e, e) (rw same refl))
+
+      pub parent-retired : l .retired ≡ true → early.Refused 2 ≡ of-parent
+      parent-retired t = sym (known ∙ rw t)
+
+      pub parent-stands : l .retired ≡ false → isUnloading (l .phase) ≡ false → early.Passed (At i) ≡ of-parent
+      parent-stands t u = sym (known ∙ rw (t, u))
+
+      pub parent-unloading : l .retired ≡ false → isUnloading (l .phase) ≡ true → early.Refused 3 ≡ of-parent
+      parent-unloading t u = sym (known ∙ rw (t, u))
 
 -- 4, 5, the parent's, 6
-module _ (r : Registry) (p : Option ℕ) (zs ds vs : List ℕ) where
-  pub early-4 : badRealms zs ≡ true → 4 ≡ verdict (earlyChecks r p zs ds vs)
+module _ (r : Registry) (d : Definition) (at : Place) where
+  abbrev asks : Early
+  asks = under at (verdict (askedChecks r d))
+
+  pub early-4 : badRealms (d .realms) ≡ true → early.Refused 4 ≡ asks
   unfolding verdict
   early-4 e = rw e
 
-  module _ (e : badRealms zs ≡ false) where
-    pub early-5-dependencies : 16 < length ds → 5 ≡ verdict (earlyChecks r p zs ds vs)
+  module _ (e : badRealms (d .realms) ≡ false) where
+    pub early-5-dependencies : 16 < length (d .dependencies) → early.Refused 5 ≡ asks
     unfolding verdict
-    early-5-dependencies h = rw (e, lt-ltb _ _ h)
+    early-5-dependencies h = rw (e, lt-ltb 16 (length (d .dependencies)) h)
 
-    module _ (h : length ds ≤ 16) where
-      pub early-5-provisions : 15 < length vs → 5 ≡ verdict (earlyChecks r p zs ds vs)
+    module _ (h : length (d .dependencies) ≤ 16) where
+      pub early-5-provisions : 15 < length (d .provisions) → early.Refused 5 ≡ asks
       unfolding verdict
-      early-5-provisions k = rw (e, le-ltb _ _ h, lt-ltb _ _ k)
+      early-5-provisions k = rw (e, le-ltb 16 (length (d .dependencies)) h, lt-ltb 15 (length (d .provisions)) k)
 
-      module _ (k : length vs ≤ 15) where
-        rest : verdict (earlyChecks r p zs ds vs) ≡ verdict (parentChecks r p ++ (repeats (map (resolve (realmsOf zs)) ds) ⇒ DuplicateDependency) ∷ [])
+      module _ (k : length (d .provisions) ≤ 15) (p : Early) (f : p ≡ under at (verdict (parentChecks r (d .parent)))) where
+        abbrev six : List Check
+        six = (repeats (resolved d (d .dependencies)) ⇒ DuplicateDependency) ∷ []
+
+        rest : verdict (askedChecks r d) ≡ verdict (parentChecks r (d .parent) ++ six)
         unfolding verdict
-        rest = rw (e, le-ltb _ _ h, le-ltb _ _ k)
+        rest = rw (e, le-ltb 16 (length (d .dependencies)) h, le-ltb 15 (length (d .provisions)) k)
 
-        pub early-parent : (n : ℕ) → n ≡ verdict (parentChecks r p) → (n ≡ 0 → ⊥) → n ≡ verdict (earlyChecks r p zs ds vs)
-        early-parent n f z =
-            let cs : List Check = (repeats (map (resolve (realmsOf zs)) ds) ⇒ DuplicateDependency) ∷ [] in
-            verdict-first (parentChecks r p) cs n f z ∙ sym rest
+        pub early-parent : (n : ℕ) → p ≡ early.Refused n → p ≡ asks
+        early-parent n z =
+            let v = verdict-first (parentChecks r (d .parent)) six n (under-refused at _ n (sym f ∙ z)) in
+            z ∙ sym (ap (under at) (rest ∙ v))
 
-        module _ (n : ℕ) (f : n ≡ verdict (parentChecks r p)) (z : n ≡ 0) where
-          last-check : verdict (earlyChecks r p zs ds vs) ≡ pick (keysRepeat ds) 6 0
+        module _ (q : Place) (z : p ≡ early.Passed q) where
+          passed : verdict (parentChecks r (d .parent)) ≡ Passed
+          passed = under-passed at _ q (sym f ∙ z) .0
+
+          last-check : verdict (askedChecks r d) ≡ pick (keysRepeat (d .dependencies)) (Refused 6) Passed
           unfolding verdict
-          last-check =
-              let cs : List Check = (repeats (map (resolve (realmsOf zs)) ds) ⇒ DuplicateDependency) ∷ [] in
-              rest ∙ verdict-then (parentChecks r p) cs (sym z ∙ f) ∙ rw (keys-repeat-in (realmsOf zs) ds)
+          last-check = rest ∙ verdict-then (parentChecks r (d .parent)) six passed ∙ rw (keys-repeat-in (realmsOf (d .realms)) (d .dependencies))
 
-          pub early-6 : keysRepeat ds ≡ true → 6 ≡ verdict (earlyChecks r p zs ds vs)
-          early-6 t = sym (last-check ∙ rw t)
+          pub early-6 : keysRepeat (d .dependencies) ≡ true → early.Refused 6 ≡ asks
+          early-6 t =
+              let v : verdict (askedChecks r d) ≡ Refused 6 = last-check ∙ rw t in
+              sym (ap (under at) v)
 
-          pub early-0 : keysRepeat ds ≡ false → 0 ≡ verdict (earlyChecks r p zs ds vs)
-          early-0 t = sym (last-check ∙ rw t)
+          pub early-pass : keysRepeat (d .dependencies) ≡ false → p ≡ asks
+          early-pass t =
+              let v : verdict (askedChecks r d) ≡ Passed = last-check ∙ rw t in
+              f ∙ ap (under at) (passed ∙ sym v)
 
 -- 7, 8
 module _ (r : Registry) (ports : List Port) (b : Bool) (e : b ≡ repeats ports) where
-  pub claim-7 : b ≡ true → 7 ≡ verdict (claimChecks r ports)
+  pub claim-7 : b ≡ true → Refused 7 ≡ verdict (claimChecks r ports)
   unfolding verdict
   claim-7 t = rw (sym e ∙ t)
 
   module _ (t : b ≡ false) (d : Bool) (f : d ≡ any (λ q. isSome (provider r q)) ports) where
-    pub claim-8 : d ≡ true → 8 ≡ verdict (claimChecks r ports)
+    pub claim-8 : d ≡ true → Refused 8 ≡ verdict (claimChecks r ports)
     unfolding verdict
     claim-8 u = rw (sym e ∙ t, sym f ∙ u)
 
-    pub claim-0 : d ≡ false → 0 ≡ verdict (claimChecks r ports)
+    pub claim-pass : d ≡ false → Passed ≡ verdict (claimChecks r ports)
     unfolding verdict
-    claim-0 u = rw (sym e ∙ t, sym f ∙ u)
+    claim-pass u = rw (sym e ∙ t, sym f ∙ u)

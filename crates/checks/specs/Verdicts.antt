@@ -1,54 +1,43 @@
--- The checks of a registration in three runs, and the number of the first that refuses; 0 where all pass.
-use Prim.Native.Nat.{ℕ, _+_}
-use mathlib.Core.Bool.{Bool, true, false, _&&_, _||_}
-use mathlib.Core.List.{List, [], _∷_, _++_, map}
-use mathlib.Core.Option.{Option, none, some}
-use lib.Dec.{eqb, ltb, leb}
-use lib.ListN.{length}
-use Rattle.rules.specs.Basics.{pick, any, isSome, isNone, holds, last}
-use Rattle.rules.specs.Holds.{Plugin, Registry, provider, count, isUnloading}
-use Rattle.rules.specs.Refusals.{Refusal, number, Unknown, Retired, InvalidState, BadRealms, TooManyKeys, DuplicateDependency, DuplicateProvision, Taken, NoId, Full, TooLong, NoRows}
-use Rattle.rules.specs.Outcomes.{Check, _⇒_}
-use Rattle.rules.specs.declared.Port.{Port}
-use Rattle.rules.specs.Ports.{badRealms, realmsOf, resolve}
-use Rattle.rules.specs.Registration.{parentOf, repeats}
-use Rattle.memory.specs.declared.Life.{Life}
+-- What a run of the rule's checks comes to, in this crate's enums.
+use Prim.Native.Nat.{ℕ}
+use mathlib.Core.List.{List, [], _∷_}
+use Rattle.rules.specs.Basics.{pick}
+use Rattle.rules.specs.Holds.{port}
+use Rattle.rules.specs.Refusals.{number}
+use Rattle.rules.specs.Outcomes.{Check}
+use Rattle.rules.specs.Registration.{Definition}
+use Rattle.memory.specs.Writes.{parentId, findAt}
+use Rattle.memory.specs.declared.Parent.{Parent}
+use Rattle.memory.specs.declared.Parent.the-variants.{Of, Nobody}
+use Rattle.memory.specs.declared.Place.{Place}
+use Rattle.memory.specs.declared.Place.the-variants.{Nowhere}
+use Rattle.checks.specs.declared.Checked.{Checked}
+use Rattle.checks.specs.declared.Checked.the-variants as checked
+use Rattle.checks.specs.declared.Early.{Early}
+use Rattle.checks.specs.declared.Early.the-variants as early
 
--- what a found parent's life says: 2, 3
-abbrev pub standingOf : Life → ℕ
-standingOf l = pick (l .retired) (number Retired) (pick (isUnloading (l .phase)) (number InvalidState) 0)
+-- passed, or the number of the first check that refuses
+unfoldable pub verdict : List Check → Checked
+verdict [] = checked.Passed
+verdict (c ∷ cs) = pick (c .test) (checked.Refused (number (c .refusal))) (verdict cs)
 
--- parent 1, parent 2, parent Unloading 3
-abbrev pub parentChecks : Registry → Option ℕ → List Check
-parentChecks r id =
-    (isSome id && isNone (parentOf r id) ⇒ Unknown)
-    ∷ (holds (λ (p : Plugin). p .retired) (parentOf r id) ⇒ Retired)
-    ∷ (holds (λ (p : Plugin). isUnloading (p .phase)) (parentOf r id) ⇒ InvalidState)
-    ∷ []
+-- the same under a parent at a place
+abbrev pub under : Place → Checked → Early
+under at checked.Passed = early.Passed at
+under at (checked.Refused n) = early.Refused n
 
--- 4, 5, the parent's, 6
-abbrev pub earlyChecks : Registry → Option ℕ → List ℕ → List ℕ → List ℕ → List Check
-earlyChecks r id realms dependencies provisions =
-    (badRealms realms ⇒ BadRealms)
-    ∷ (ltb 16 (length dependencies) || ltb 15 (length provisions) ⇒ TooManyKeys)
-    ∷ parentChecks r id
-    ++ (repeats (map (resolve (realmsOf realms)) dependencies) ⇒ DuplicateDependency)
-    ∷ []
+-- the parent's place; nowhere without a parent
+abbrev pub placeAbove : List ℕ → Parent → Place
+placeAbove m (Of id) = findAt m id
+placeAbove m Nobody = Nowhere
 
--- 7, 8
-abbrev pub claimChecks : Registry → List Port → List Check
-claimChecks r ports = (repeats ports ⇒ DuplicateProvision) ∷ (any (λ q. isSome (provider r q)) ports ⇒ Taken) ∷ []
-
--- 9, 10, 11, 12, of a plugin with these counts of dependencies and of claimed ports, where so many rows are in use
-abbrev pub lateChecks : Registry → ℕ → ℕ → ℕ → List Check
-lateChecks r rows d c =
-    (eqb (r .next) last ⇒ NoId)
-    ∷ (leb 32 (count r) ⇒ Full)
-    ∷ (ltb 48 d ⇒ TooLong)
-    ∷ (ltb 1024 (rows + (d + c)) ⇒ NoRows)
-    ∷ []
-
--- the number of the first check that refuses, or 0
-unfoldable pub verdict : List Check → ℕ
-verdict [] = 0
-verdict (c ∷ cs) = pick (c .test) (number (c .refusal)) (verdict cs)
+-- The definition as the early run is lent it: its checks look at neither anchor nor payload.
+abbrev pub asked : Parent → List ℕ → List ℕ → List ℕ → Definition
+asked parent realms dependencies provisions = record {
+  parent = parentId parent;
+  anchor = port 0 0;
+  realms = realms;
+  dependencies = dependencies;
+  provisions = provisions;
+  payload = 0;
+}

@@ -1,42 +1,49 @@
-// The checks of document 01, "Registration", in its order and in three runs; the number of the first that refuses, or 0.
+// The checks of document 01, "Registration", in its order and in three runs: what is asked for, the claimed ports, the room.
 ghost use mathlib.Core.Path.{_≡_};
-ghost use Prim.Native.Nat.{ℕ};
+ghost use Prim.Native.Nat.{_+_};
 ghost use Rattle.rules.specs.Ports.{pairs};
+ghost use Rattle.rules.specs.Registration.{parentChecks, askedChecks, claimChecks, roomChecks};
 ghost use Rattle.memory.specs.View.{view};
 ghost use Rattle.memory.specs.Writes.{parentId};
-ghost use Rattle.checks.specs.Verdicts.{standingOf, parentChecks, earlyChecks, claimChecks, lateChecks, verdict};
-use memory::Life;
+ghost use Rattle.checks.specs.Verdicts.{verdict, under, placeAbove, asked};
 use memory::Parent;
 use memory::Place;
 use memory::WORDS;
+use rules::Phase;
 use rules::refusal;
 
-// The parent's checks: 1, 2, 3 where it is Unloading; 0 where all pass.
-fn parent_verdict(m: &[u64; WORDS], parent: Parent) -> u64
-    ensures { λ r. ⌜ r ≡ verdict (parentChecks (view (now (m .entry))) (parentId parent)) ⌝ }
-{
-    let Parent::Of(id) = parent else {
-        return 0;
-    };
-    let Place::At(at) = memory::find(m, id) else {
-        return refusal::UNKNOWN;
-    };
-    standing(living::load(m, at))
+// What a run comes to: every check passes, or the first that refuses has this number.
+pub enum Checked {
+    Passed,
+    Refused(u64),
 }
 
-// 2 where it is retired, 3 where it is Unloading.
-fn standing(life: Life) -> u64
-    ensures { λ r. ⌜ r ≡ standingOf life ⌝ }
+// The same of the early run, with the place of the parent; nowhere without one.
+pub enum Early {
+    Passed(Place),
+    Refused(u64),
+}
+
+// The parent's checks: 1, 2, 3 where it is Unloading.
+fn parent_verdict(m: &[u64; WORDS], parent: Parent) -> Early
+    ensures { λ r. ⌜ r ≡ under (placeAbove (now (m .entry)) parent) (verdict (parentChecks (view (now (m .entry))) (parentId parent))) ⌝ }
 {
+    let Parent::Of(id) = parent else {
+        return Early::Passed(Place::Nowhere);
+    };
+    let Place::At(at) = memory::find(m, id) else {
+        return Early::Refused(refusal::UNKNOWN);
+    };
+    let life = living::load(m, at);
     if life.retired {
-        return refusal::RETIRED;
+        return Early::Refused(refusal::RETIRED);
     }
     let phase = life.phase;
     match phase {
-        rules::Phase::Idle => 0,
-        rules::Phase::Loading => 0,
-        rules::Phase::Active => 0,
-        rules::Phase::Unloading => refusal::INVALID_STATE,
+        Phase::Idle => Early::Passed(Place::At(at)),
+        Phase::Loading => Early::Passed(Place::At(at)),
+        Phase::Active => Early::Passed(Place::At(at)),
+        Phase::Unloading => Early::Refused(refusal::INVALID_STATE),
     }
 }
 
@@ -47,62 +54,62 @@ pub fn early_verdict(
     realms: &[u64],
     dependencies: &[u64],
     provisions: &[u64],
-) -> u64
-    ensures { λ r. ⌜ r ≡ verdict (earlyChecks (view (now (m .entry))) (parentId parent) (now (realms .entry)) (now (dependencies .entry)) (now (provisions .entry))) ⌝ }
+) -> Early
+    ensures { λ r. ⌜ r ≡ under (placeAbove (now (m .entry)) parent) (verdict (askedChecks (view (now (m .entry))) (asked parent (now (realms .entry)) (now (dependencies .entry)) (now (provisions .entry))))) ⌝ }
 {
     if ports::bad_realms(realms) {
-        return refusal::BAD_REALMS;
+        return Early::Refused(refusal::BAD_REALMS);
     }
     if 16 < dependencies.len() {
-        return refusal::TOO_MANY_KEYS;
+        return Early::Refused(refusal::TOO_MANY_KEYS);
     }
     if 15 < provisions.len() {
-        return refusal::TOO_MANY_KEYS;
+        return Early::Refused(refusal::TOO_MANY_KEYS);
     }
     let of_parent = parent_verdict(m, parent);
-    if of_parent != 0 {
+    let Early::Passed(_) = of_parent else {
         return of_parent;
-    }
+    };
     if claiming::repeated_key(dependencies) {
-        return refusal::DUPLICATE_DEPENDENCY;
+        return Early::Refused(refusal::DUPLICATE_DEPENDENCY);
     }
-    0
+    of_parent
 }
 
 // 7, 8.
-pub fn claim_verdict(m: &[u64; WORDS], list: &[u64]) -> u64
+pub fn claim_verdict(m: &[u64; WORDS], list: &[u64]) -> Checked
     ensures { λ r. ⌜ r ≡ verdict (claimChecks (view (now (m .entry))) (pairs (now (list .entry)))) ⌝ }
 {
     if ports::repeated(list) {
-        return refusal::DUPLICATE_PROVISION;
+        return Checked::Refused(refusal::DUPLICATE_PROVISION);
     }
     if providing::one_provided(m, list) {
-        return refusal::TAKEN;
+        return Checked::Refused(refusal::TAKEN);
     }
-    0
+    Checked::Passed
 }
 
 // 9, 10, 11, 12, where so many rows are in use.
-pub fn late_verdict(m: &[u64; WORDS], rows: usize, dependencies: usize, claims: usize) -> u64
-    ensures { λ r. ⌜ r ≡ verdict (lateChecks (view (now (m .entry))) rows dependencies claims) ⌝ }
+pub fn late_verdict(m: &[u64; WORDS], rows: usize, dependencies: usize, claims: usize) -> Checked
+    ensures { λ r. ⌜ r ≡ verdict (roomChecks (view (now (m .entry))) dependencies (rows + (dependencies + claims))) ⌝ }
 {
     if memory::next_id(m) == 18446744073709551615 {
-        return refusal::NO_ID;
+        return Checked::Refused(refusal::NO_ID);
     }
     if 32 <= places::registered(m) {
-        return refusal::FULL;
+        return Checked::Refused(refusal::FULL);
     }
     if 48 < dependencies {
-        return refusal::TOO_LONG;
+        return Checked::Refused(refusal::TOO_LONG);
     }
     if 1024 < rows {
-        return refusal::NO_ROWS;
+        return Checked::Refused(refusal::NO_ROWS);
     }
     if 1024 - rows < dependencies {
-        return refusal::NO_ROWS;
+        return Checked::Refused(refusal::NO_ROWS);
     }
     if 1024 - rows - dependencies < claims {
-        return refusal::NO_ROWS;
+        return Checked::Refused(refusal::NO_ROWS);
     }
-    0
+    Checked::Passed
 }

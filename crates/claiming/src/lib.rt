@@ -41,13 +41,11 @@ pub fn claims(realms: &[u64], other: u64, anchor: Port, keys: &[u64]) -> Claimed
         if i == 15 {
             return Claimed { count: 16, ports };
         }
-        let q = ports::resolve(realms, other, keys[i]);
+        let q = ports::resolve(realms, Port::new(keys[i], other));
         ports[i * 2 + 2] = q.key;
         ports[i * 2 + 3] = q.realm;
         i += 1;
     }
-    Claimed {
-        count: i + 1,
-        ports,
-    }
+    let count = i + 1;
+    Claimed { count, ports }
 }

@@ -1,7 +1,7 @@
 -- What callers read off a lookup's answer.
 use Prim.Native.Nat.{ℕ, suc, _+_, _-_, _*_, _/_, _≤_, _<_}
 use native.Mathlib.Omega.{arith}
-use mathlib.Core.Path.{_≡_, refl, _∙_}
+use mathlib.Core.Path.{_≡_, refl, ap, _∙_}
 use mathlib.Core.List.{List, [], _∷_}
 use lib.Dec.{eqb}
 use lib.ListN.{length, getD}
@@ -15,6 +15,10 @@ use Rattle.ports.specs.declared.Found.{Found}
 use Rattle.ports.specs.declared.Found.the-variants.{At, Nothing}
 use Rattle.ports.specs.Answers.{firstFrom}
 use Rattle.ports.specs.Places.{length-pairs, pairs-get}
+
+-- resolved with a fallback that is this port
+pub resolve-with : (rows : List Port) (q p : Port) (k other : ℕ) → q ≡ resolveIn (p .realm) rows (p .key) → p ≡ port k other → q ≡ resolveIn other rows k
+resolve-with rows q p k other e f = e ∙ ap (λ (x : Port). resolveIn (x .realm) rows (x .key)) f
 
 -- a resolved port keeps the key
 pub resolve-key-law : (other : ℕ) (rows : List Port) (k : ℕ) → resolveIn other rows k .key ≡ k

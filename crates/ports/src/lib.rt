@@ -39,28 +39,28 @@ pub fn bad_realms(realms: &[u64]) -> bool
     false
 }
 
-// A key found in the list gets its realm; any other gets the other realm.
-pub fn resolve(realms: &[u64], other: u64, key: u64) -> Port
-    ensures { λ r. ⌜ r ≡ resolveIn other (pairs (now (realms .entry))) key ⌝ }
+// The row of the fallback's key where the list has one, else the fallback itself.
+pub fn resolve(realms: &[u64], fallback: Port) -> Port
+    ensures { λ r. ⌜ r ≡ resolveIn (fallback .realm) (pairs (now (realms .entry))) (fallback .key) ⌝ }
 {
     let mut i: usize = 1;
     while i < realms.len() {
-        if realms[i - 1] == key {
-            return Port::new(key, realms[i]);
+        if realms[i - 1] == fallback.key {
+            return Port::new(fallback.key, realms[i]);
         }
         i += 2;
     }
-    Port::new(key, other)
+    fallback
 }
 
-// A lookup in a list that breaks row 4 answers 4.
+// A key that the list does not have gets the default realm. A lookup in a list that breaks row 4 answers 4.
 pub fn resolve_key(realms: &[u64], key: u64) -> Resolved
     ensures { λ r. ⌜ resolvedAnswer r ≡ answerOf (resolveKey (now (realms .entry)) key) ⌝ }
 {
     if bad_realms(realms) {
         return Resolved::Refused(refusal::BAD_REALMS);
     }
-    Resolved::To(resolve(realms, Port::DEFAULT_REALM, key))
+    Resolved::To(resolve(realms, Port::in_default_realm(key)))
 }
 
 // Whether a port is in the list.

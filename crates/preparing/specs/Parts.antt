@@ -4,9 +4,6 @@ use mathlib.Core.List.{List, []}
 use mathlib.Core.Option.{Option}
 use Rattle.rules.specs.Basics.{orElse, isSome, yesNo}
 use Rattle.memory.specs.Layout.{depPart}
-use Rattle.memory.specs.Writes.{findAt}
-use Rattle.memory.specs.declared.Parent.{Parent}
-use Rattle.memory.specs.declared.Parent.the-variants.{Of, Nobody}
 use Rattle.memory.specs.declared.Place.{Place}
 use Rattle.memory.specs.declared.Place.the-variants.{At, Nowhere}
 
@@ -14,10 +11,6 @@ use Rattle.memory.specs.declared.Place.the-variants.{At, Nowhere}
 abbrev pub dependenciesAt : List ℕ → Place → List ℕ
 dependenciesAt m (At i) = depPart m (i % 32)
 dependenciesAt m Nowhere = []
-
-abbrev pub inheritedWords : List ℕ → Parent → List ℕ
-inheritedWords m (Of id) = dependenciesAt m (findAt m id)
-inheritedWords m Nobody = []
 
 -- a parent or none, in two words
 abbrev pub tagOf : Option ℕ → ℕ

@@ -3,19 +3,16 @@ ghost use mathlib.Core.Path.{_≡_};
 ghost use Prim.Native.Nat.{_*_, _-_};
 ghost use lib.ListN.{take};
 ghost use Rattle.memory.specs.Writes.{parentId};
-ghost use Rattle.preparing.specs.Parts.{inheritedWords, tagOf, wordOf};
+ghost use Rattle.preparing.specs.Parts.{dependenciesAt, tagOf, wordOf};
 use memory::Parent;
 use memory::Place;
 use memory::WORDS;
 
-// The parent's dependency rows; none without a parent.
-pub fn inherited(m: &[u64; WORDS], parent: Parent) -> &[u64]
-    ensures { λ r. ⌜ now r ≡ inheritedWords (now (m .entry)) parent ⌝ }
+// The dependency rows of the parent at this place; none without a parent.
+pub fn inherited(m: &[u64; WORDS], parent: Place) -> &[u64]
+    ensures { λ r. ⌜ now r ≡ dependenciesAt (now (m .entry)) parent ⌝ }
 {
-    let Parent::Of(id) = parent else {
-        return rows::some_words(m, 0, 0);
-    };
-    let Place::At(at) = memory::find(m, id) else {
+    let Place::At(at) = parent else {
         return rows::some_words(m, 0, 0);
     };
     rows::dependency_words(m, at)

@@ -3,14 +3,12 @@ use Prim.Native.Nat.{ℕ, _+_, _-_, _/_}
 use mathlib.Core.Path.{_≡_, refl, ap}
 use mathlib.Core.List.{List, [], _∷_}
 use mathlib.Core.Option.{Option}
-use lib.Dec.{eqb}
 use lib.ListN.{length}
-use Rattle.rules.specs.Basics.{pick}
 use Rattle.rules.specs.Holds.{Plugin, provided, rowsInUse}
 use Rattle.rules.specs.declared.Port.{Port}
 use Rattle.rules.specs.Ports.{flat}
 use Rattle.rules.specs.Outcomes.{Answer, Refused, Accepted, Outcome, refuses, answers, writes, stores, adds, removes}
-use Rattle.rules.specs.Registration.{Definition}
+use Rattle.rules.specs.Registration.{Definition, roomChecks}
 use Rattle.memory.specs.Layout.{word}
 use Rattle.memory.specs.View.{view}
 use Rattle.memory.specs.Writes.{parentId}
@@ -21,7 +19,9 @@ use Rattle.places.specs.Changes.{freeAt}
 use Rattle.filling.specs.Entries.{filledPlace}
 use Rattle.filling.specs.Filled.{filled-size}
 use Rattle.filling.specs.declared.Entry.{Entry}
-use Rattle.checks.specs.Verdicts.{lateChecks, verdict}
+use Rattle.checks.specs.Verdicts.{verdict}
+use Rattle.checks.specs.declared.Checked.{Checked}
+use Rattle.checks.specs.declared.Checked.the-variants as checked
 use Rattle.preparing.specs.Parts.{tagOf, wordOf}
 use Rattle.registering.specs.declared.Registered.{Registered}
 use Rattle.registering.specs.declared.Registered.the-variants as registered
@@ -72,16 +72,24 @@ addedTo m (adds q vs) =
 addedTo m (removes id vs) = m
 
 -- The late checks and what is written where they pass, by a count of dependencies and the lent lists.
-abbrev pub lateVerdict : List ℕ → ℕ → List ℕ → ℕ
-lateVerdict m count claims = verdict (lateChecks (view m) (rowsInUse (view m)) count (length claims / 2))
+abbrev pub lateVerdict : List ℕ → ℕ → List ℕ → Checked
+lateVerdict m count claims = verdict (roomChecks (view m) count (rowsInUse (view m) + (count + length claims / 2)))
+
+abbrev pub answerBy : Checked → ℕ → Answer
+answerBy checked.Passed id = Accepted (id ∷ [])
+answerBy (checked.Refused n) id = Refused n []
+
+abbrev pub leftBy : Checked → List ℕ → List ℕ → List ℕ
+leftBy checked.Passed m new = new
+leftBy (checked.Refused n) m new = m
 
 unfoldable pub settledAnswer : List ℕ → ℕ → List ℕ → Answer
-settledAnswer m count claims = pick (eqb (lateVerdict m count claims) 0) (Accepted (word m 2 ∷ [])) (Refused (lateVerdict m count claims) [])
+settledAnswer m count claims = answerBy (lateVerdict m count claims) (word m 2)
 
 unfoldable pub settledWords : List ℕ → Option ℕ → ℕ → ℕ → List ℕ → List ℕ → List ℕ → List ℕ
-settledWords m parent payload count dependencies claims realms = pick (eqb (lateVerdict m count claims) 0)
+settledWords m parent payload count dependencies claims realms =
+    leftBy (lateVerdict m count claims) m
     (writtenAt m (freeAt m) (newEntry m parent payload count (length claims / 2 - 1) (length realms / 2)) dependencies claims realms)
-    m
 
 -- On any words, there are as many after a registration.
 pub added-size : (m : List ℕ) (o : Outcome) → length (addedTo m o) ≡ length m

@@ -8,6 +8,8 @@ ghost use Rattle.memory.specs.Layout.{word};
 ghost use Rattle.memory.specs.View.{view};
 ghost use Rattle.memory.specs.Writes.{parentId};
 ghost use Rattle.registering.specs.Written.{registeredAnswer, definition, newEntry, settledAnswer, settledWords, addedTo};
+use checks::Checked;
+use checks::Early;
 use filling::Entry;
 use memory::Parent;
 use memory::Place;
@@ -62,9 +64,8 @@ fn settle(
 {
     let claimed = claims.len() / 2;
     let rows = places::rows_in_use(m);
-    let refused = checks::late_verdict(m, rows, count, claimed);
-    if refused != 0 {
-        return Registered::Refused(refused);
+    if let Checked::Refused(n) = checks::late_verdict(m, rows, count, claimed) {
+        return Registered::Refused(n);
     }
     let Place::At(at) = places::lowest_free(m) else {
         return Registered::Refused(refusal::FULL);
@@ -94,15 +95,14 @@ pub fn register(
 ) -> Registered
     ensures { λ r. ⌜ registeredAnswer r ≡ answerOf (register (view (now (m .entry))) (definition parent anchor (now (realms .entry)) (now (dependencies .entry)) (now (provisions .entry)) payload)) ⌝ ∗ ⌜ now (m .exit) ≡ addedTo (now (m .entry)) (register (view (now (m .entry))) (definition parent anchor (now (realms .entry)) (now (dependencies .entry)) (now (provisions .entry)) payload)) ⌝ }
 {
-    let early = checks::early_verdict(m, parent, realms, dependencies, provisions);
-    if early != 0 {
-        return Registered::Refused(early);
-    }
+    let above = match checks::early_verdict(m, parent, realms, dependencies, provisions) {
+        Early::Passed(place) => place,
+        Early::Refused(n) => return Registered::Refused(n),
+    };
     let claimed = claiming::claims(realms, Port::DEFAULT_REALM, anchor, provisions);
     let claims = preparing::first_rows(&claimed.ports, claimed.count);
-    let taken = checks::claim_verdict(m, claims);
-    if taken != 0 {
-        return Registered::Refused(taken);
+    if let Checked::Refused(n) = checks::claim_verdict(m, claims) {
+        return Registered::Refused(n);
     }
     let provided = rows::some_words(claims, 2, claims.len());
     let list = inherit::dependency_list(
@@ -110,7 +110,7 @@ pub fn register(
         Port::DEFAULT_REALM,
         provided,
         dependencies,
-        preparing::inherited(m, parent),
+        preparing::inherited(m, above),
     );
     settle(
         m,

@@ -3,6 +3,7 @@ ghost use mathlib.Core.Path.{_≡_};
 ghost use lib.ListN.{length};
 ghost use Rattle.rules.specs.Ports.{pairs};
 ghost use Rattle.resolving.specs.Blocks.{declaredOf, stored, candidateRealm};
+use rules::Port;
 
 // The first 16 declared keys, resolved, in the front of an array that a finished list of 48 ports fits into; their count.
 pub fn declared(realms: &[u64], other: u64, keys: &[u64], ports: &mut [u64; 96]) -> usize
@@ -13,7 +14,7 @@ pub fn declared(realms: &[u64], other: u64, keys: &[u64], ports: &mut [u64; 96])
         if i == 16 {
             return 16;
         }
-        let q = ports::resolve(realms, other, keys[i]);
+        let q = ports::resolve(realms, Port::new(keys[i], other));
         ports[i * 2] = q.key;
         ports[i * 2 + 1] = q.realm;
         i += 1;
@@ -28,6 +29,6 @@ pub fn candidate(realms: &[u64], other: u64, turn: usize, key: u64, realm: u64) 
     if turn == 0 {
         return realm;
     }
-    let q = ports::resolve(realms, other, key);
+    let q = ports::resolve(realms, Port::new(key, other));
     q.realm
 }

@@ -1,7 +1,7 @@
 -- Document 01, "Registration".
 use Prim.Native.Nat.{ℕ, _+_}
 use mathlib.Core.Bool.{Bool, false, _&&_, _||_}
-use mathlib.Core.List.{List, [], _∷_, map}
+use mathlib.Core.List.{List, [], _∷_, _++_, map}
 use mathlib.Core.Option.{Option, none, some}
 use lib.Dec.{eqb, ltb, leb}
 use lib.ListN.{length}
@@ -68,23 +68,46 @@ newPlugin r d = record {
   root = Unissued;
 }
 
+-- parent 1, parent 2, parent Unloading 3
+abbrev pub parentChecks : Registry → Option ℕ → List Check
+parentChecks r id =
+    let parent = parentOf r id in
+    (isSome id && isNone parent ⇒ Unknown)
+    ∷ (holds (λ (p : Plugin). p .retired) parent ⇒ Retired)
+    ∷ (holds (λ (p : Plugin). isUnloading (p .phase)) parent ⇒ InvalidState)
+    ∷ []
+
+-- what is asked for: 4, 5, the parent's, 6
+abbrev pub askedChecks : Registry → Definition → List Check
+askedChecks r d =
+    (badRealms (d .realms) ⇒ BadRealms)
+    ∷ (ltb 16 (length (d .dependencies)) || ltb 15 (length (d .provisions)) ⇒ TooManyKeys)
+    ∷ parentChecks r (d .parent)
+    ++ (repeats (resolved d (d .dependencies)) ⇒ DuplicateDependency)
+    ∷ []
+
+-- the claimed ports: 7, 8
+abbrev pub claimChecks : Registry → List Port → List Check
+claimChecks r ports =
+    (repeats ports ⇒ DuplicateProvision)
+    ∷ (any (λ q. isSome (provider r q)) ports ⇒ Taken)
+    ∷ []
+
+-- room for so many dependencies, and so many rows with those in use: 9, 10, 11, 12
+abbrev pub roomChecks : Registry → ℕ → ℕ → List Check
+roomChecks r dependencies rows =
+    (eqb (r .next) last ⇒ NoId)
+    ∷ (leb 32 (count r) ⇒ Full)
+    ∷ (ltb 48 dependencies ⇒ TooLong)
+    ∷ (ltb 1024 rows ⇒ NoRows)
+    ∷ []
+
 -- 4, 5, parent 1, parent 2, parent Unloading 3, then 6, 7, 8, 9, 10, 11, 12
 abbrev pub registrationChecks : Registry → Definition → List Check
 registrationChecks r d =
-    let parent = parentOf r (d .parent) in
-    (badRealms (d .realms) ⇒ BadRealms)
-    ∷ (ltb 16 (length (d .dependencies)) || ltb 15 (length (d .provisions)) ⇒ TooManyKeys)
-    ∷ (isSome (d .parent) && isNone parent ⇒ Unknown)
-    ∷ (holds (λ (p : Plugin). p .retired) parent ⇒ Retired)
-    ∷ (holds (λ (p : Plugin). isUnloading (p .phase)) parent ⇒ InvalidState)
-    ∷ (repeats (resolved d (d .dependencies)) ⇒ DuplicateDependency)
-    ∷ (repeats (claimed d) ⇒ DuplicateProvision)
-    ∷ (any (λ q. isSome (provider r q)) (claimed d) ⇒ Taken)
-    ∷ (eqb (r .next) last ⇒ NoId)
-    ∷ (leb 32 (count r) ⇒ Full)
-    ∷ (ltb 48 (length (dependenciesOf r d)) ⇒ TooLong)
-    ∷ (ltb 1024 (rowsInUse r + rowsOf (newPlugin r d)) ⇒ NoRows)
-    ∷ []
+    askedChecks r d
+    ++ claimChecks r (claimed d)
+    ++ roomChecks r (length (dependenciesOf r d)) (rowsInUse r + rowsOf (newPlugin r d))
 
 -- Accepted: it answers the new id, which is next id.
 unfoldable pub register : Registry → Definition → Outcome

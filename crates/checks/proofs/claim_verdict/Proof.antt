@@ -2,7 +2,7 @@
 use borrow.Author.Needs.{needs}
 use Rattle.rules.specs.Ports.{pairs}
 use Rattle.memory.specs.View.{view}
-use Rattle.checks.proofs.Laws.{claim-7, claim-8, claim-0}
+use Rattle.checks.proofs.Laws.{claim-7, claim-8, claim-pass}
 use Rattle.checks.proofs.claim_verdict.Statement.{statement}
 use Rattle.checks.proofs.claim_verdict.Tie as tie
 
@@ -27,7 +27,7 @@ returns-3 : tie.Need-returns-3
 returns-3 c =
     let r = c .before .before in
     let a = r .before .before .before .args in
-    claim-0 (view (a .m .now)) (pairs (a .list .now)) _ (r .before .repeated .ensures) (r .if1 .left) _ (c .before .one-provided .ensures) (c .if2 .left)
+    claim-pass (view (a .m .now)) (pairs (a .list .now)) _ (r .before .repeated .ensures) (r .if1 .left) _ (c .before .one-provided .ensures) (c .if2 .left)
 
 pub claim-verdict-spec : {M : Type 1} → statement M
 claim-verdict-spec = tie.close (tie.spec repeated-requires returns one-provided-requires returns-2 returns-3)

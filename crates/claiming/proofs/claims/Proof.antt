@@ -7,6 +7,7 @@ use lib.ListN.{length, take}
 use lib.Seq.{take-all}
 use borrow.Author.Needs.{needs}
 use Rattle.rules.specs.Ports.{pairs, resolveIn}
+use Rattle.ports.specs.Found.{resolve-with}
 use Rattle.claiming.specs.Filled.{Lists, lists-key}
 use Rattle.claiming.proofs.claims.Statement.{statement}
 use Rattle.claiming.proofs.claims.Tie as tie
@@ -32,11 +33,14 @@ returns c =
     let r = rw (c .if1 .taken) at (c .before .before .loop .inv .2) in
     λ k. record { count = r .counted k; ports = r .numbers k }
 
-mul-resolve : tie.Need-mul-resolve Inv-loop μ-loop
-mul-resolve c = search needs
+mul-new : tie.Need-mul-new Inv-loop μ-loop
+mul-new c = search needs
 
-shared-slice-read-resolve : tie.Need-shared-slice-read-resolve Inv-loop μ-loop
-shared-slice-read-resolve c = search needs
+shared-slice-read-new : tie.Need-shared-slice-read-new Inv-loop μ-loop
+shared-slice-read-new c = search needs
+
+new-requires : tie.Need-new-requires Inv-loop μ-loop
+new-requires c κs = search needs
 
 resolve-requires : tie.Need-resolve-requires Inv-loop μ-loop
 resolve-requires c κs = search needs
@@ -73,13 +77,14 @@ loop-less c = search needs
 
 loop-again : tie.Need-loop-again Inv-loop μ-loop
 loop-again c =
-    let at = c .before .before .before .before in
+    let at = c .before .before .before .before .before in
     let a = at .before .before .before .args in
     let f = resolveIn (a .other) (pairs (a .realms .now)) in
-    (omega arith, omega arith, lists-key f (a .anchor ∷ []) (a .keys .now) (at .loop .i) (at .loop .inv .2) (omega arith) (c .resolve .ensures) (omega arith) (omega arith) (omega arith))
+    let e = resolve-with (pairs (a .realms .now)) _ _ _ _ (c .resolve .ensures) (c .before .new .ensures) in
+    (omega arith, omega arith, lists-key f (a .anchor ∷ []) (a .keys .now) (at .loop .i) (at .loop .inv .2) (omega arith) e (omega arith) (omega arith) (omega arith))
 
-add-t23 : tie.Need-add-t23 Inv-loop μ-loop
-add-t23 c = search needs
+add-count : tie.Need-add-count Inv-loop μ-loop
+add-count c = search needs
 
 returns-2 : tie.Need-returns-2 Inv-loop μ-loop
 returns-2 c =
@@ -99,8 +104,9 @@ claims-spec =
     array-write-ports-2
     loop-holds
     returns
-    mul-resolve
-    shared-slice-read-resolve
+    mul-new
+    shared-slice-read-new
+    new-requires
     resolve-requires
     mul-ports
     add-ports
@@ -113,5 +119,5 @@ claims-spec =
     add-i
     loop-less
     loop-again
-    add-t23
+    add-count
     returns-2)

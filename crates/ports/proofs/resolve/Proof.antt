@@ -13,10 +13,12 @@ use Rattle.ports.proofs.resolve.Statement.{statement}
 use Rattle.ports.proofs.resolve.Tie as tie
 
 abbrev Inv-loop : tie.InvT-loop
-Inv-loop realms other key i₀ i = (1 ≤ i) × (resolveIn other (pairs realms) key ≡ resolveIn other (pairs (drop (i - 1) realms)) key)
+Inv-loop realms fallback i₀ i =
+    (1 ≤ i)
+    × (resolveIn (fallback .realm) (pairs realms) (fallback .key) ≡ resolveIn (fallback .realm) (pairs (drop (i - 1) realms)) (fallback .key))
 
 abbrev μ-loop : tie.MeasureT-loop
-μ-loop realms other key i₀ i = length realms - i
+μ-loop realms fallback i₀ i = length realms - i
 
 loop-holds : tie.Need-loop-holds Inv-loop μ-loop
 loop-holds c = search needs
@@ -41,12 +43,12 @@ new-requires c κs = search needs
 
 returns : tie.Need-returns Inv-loop μ-loop
 returns c =
-    let at = c .before .before .before .before .before in
+    let at = c .before .before .before .before .before .before in
     let l = at .before .before .args .realms .now in
     let i = at .loop .i in
-    let k = at .before .before .args .key in
-    let s = pairs-behind l i (at .loop .inv .0) (c .before .before .before .before .loop-test .taken) in
-    let h = resolve-hit s (at .before .before .args .other) k (c .before .before .if1 .taken) in
+    let p = at .before .before .args .fallback in
+    let s = pairs-behind l i (at .loop .inv .0) (c .before .before .before .before .before .loop-test .taken) in
+    let h = resolve-hit s (p .realm) (p .key) (c .before .before .if1 .taken) in
     c .new .ensures ∙ ap (λ (n : ℕ). port n (getD l i 0)) (sym (c .before .before .if1 .taken)) ∙ sym (at .loop .inv .1 ∙ h)
 
 add-i : tie.Need-add-i Inv-loop μ-loop
@@ -57,20 +59,19 @@ loop-less c = search needs
 
 loop-again : tie.Need-loop-again Inv-loop μ-loop
 loop-again c =
-    let at = c .before .before .before in
+    let at = c .before .before .before .before in
     let l = at .before .before .args .realms .now in
-    let s = pairs-behind l (at .loop .i) (at .loop .inv .0) (c .before .before .loop-test .taken) in
-    (omega arith, at .loop .inv .1 ∙ resolve-miss s (at .before .before .args .other) (at .before .before .args .key) (c .if1 .left))
-
-new-requires-2 : tie.Need-new-requires-2 Inv-loop μ-loop
-new-requires-2 c κs = search needs
+    let s = pairs-behind l (at .loop .i) (at .loop .inv .0) (c .before .before .before .loop-test .taken) in
+    let p = at .before .before .args .fallback in
+    (omega arith, at .loop .inv .1 ∙ resolve-miss s (p .realm) (p .key) (c .if1 .left))
 
 returns-2 : tie.Need-returns-2 Inv-loop μ-loop
 returns-2 c =
-    let at = c .before .before in
+    let at = c .before in
     let l = at .before .before .args .realms .now in
+    let p = at .before .before .args .fallback in
     let s = pairs-end l (at .loop .i - 1) (omega arith) in
-    c .new2 .ensures ∙ sym (at .loop .inv .1 ∙ ap (λ (ps : List Port). resolveIn (at .before .before .args .other) ps (at .before .before .args .key)) s)
+    sym (at .loop .inv .1 ∙ ap (λ (ps : List Port). resolveIn (p .realm) ps (p .key)) s)
 
 pub resolve-spec : {M : Type 1} → statement M
 resolve-spec =
@@ -89,5 +90,4 @@ resolve-spec =
     add-i
     loop-less
     loop-again
-    new-requires-2
     returns-2)

@@ -4,8 +4,9 @@ use mathlib.Core.Bool.{true, false}
 use mathlib.Core.List.{[], _∷_}
 use borrow.Author.Needs.{needs}
 use Rattle.rules.specs.declared.Port.{Port}
-use Rattle.rules.specs.Ports.{badRealms, resolve, resolveKey, flat}
+use Rattle.rules.specs.Ports.{badRealms, pairs, resolve, resolveKey, flat}
 use Rattle.rules.specs.Outcomes.{checked, Accepted}
+use Rattle.ports.specs.Found.{resolve-with}
 use Rattle.ports.proofs.resolve_key.Statement.{statement}
 use Rattle.ports.proofs.resolve_key.Tie as tie
 
@@ -19,15 +20,20 @@ returns c =
     let b : badRealms l ≡ true = sym (c .before .bad-realms .ensures) ∙ c .if1 .taken in
     sym (rw b)
 
+in-default-realm-requires : tie.Need-in-default-realm-requires
+in-default-realm-requires c κs = search needs
+
 resolve-requires : tie.Need-resolve-requires
 resolve-requires c κs = search needs
 
 returns-2 : tie.Need-returns-2
 unfolding resolveKey resolve checked
 returns-2 c =
-    let l = c .before .before .before .before .args .realms .now in
-    let b : badRealms l ≡ false = sym (c .before .before .bad-realms .ensures) ∙ c .before .if1 .left in
-    sym (rw b (ap (λ (q : Port). Accepted (flat (q ∷ []))) (sym (c .resolve .ensures))))
+    let v = c .before .before in
+    let l = v .before .before .before .args .realms .now in
+    let b : badRealms l ≡ false = sym (v .before .bad-realms .ensures) ∙ v .if1 .left in
+    let e = resolve-with (pairs l) _ _ _ _ (c .resolve .ensures) (c .before .in-default-realm .ensures) in
+    sym (rw b (ap (λ (q : Port). Accepted (flat (q ∷ []))) (sym e)))
 
 pub resolve-key-spec : {M : Type 1} → statement M
-resolve-key-spec = tie.close (tie.spec bad-realms-requires returns resolve-requires returns-2)
+resolve-key-spec = tie.close (tie.spec bad-realms-requires returns in-default-realm-requires resolve-requires returns-2)

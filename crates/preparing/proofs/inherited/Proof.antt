@@ -1,6 +1,7 @@
-use mathlib.Core.Path.{sym, _∙_}
-use Rattle.preparing.proofs.Laws.{inherits-unknown, inherits-rows}
+-- `inherited` meets its contract: the rows at the parent's place, or none.
+use mathlib.Core.Path.{sym, ap, _∙_}
 use borrow.Author.Needs.{needs}
+use Rattle.preparing.specs.Parts.{dependenciesAt}
 use Rattle.preparing.proofs.inherited.Statement.{statement}
 use Rattle.preparing.proofs.inherited.Tie as tie
 
@@ -16,49 +17,15 @@ some-words-requires c κs = search needs
 returns : tie.Need-returns
 returns c = search needs
 
-find-requires : tie.Need-find-requires
-find-requires c κs = search needs
-
-enum-known-at : tie.Need-enum-known-at
-enum-known-at c = search needs
-
-enum-told-2 : tie.Need-enum-told-2
-enum-told-2 c = search needs
-
-some-words-requires-2 : tie.Need-some-words-requires-2
-some-words-requires-2 c κs = search needs
-
-returns-2 : tie.Need-returns-2
-returns-2 c =
-    let t = c .before .before in
-    let f = t .before .before in
-    let p = f .before .before in
-    let a = p .before .before .args in
-    c .some-words2 .ensures ∙ inherits-unknown (a .m .now) (a .parent) _ (p .parent .given .1) (sym (f .find .ensures) ∙ t .enum-told2 .given .1)
-
 dependency-words-requires : tie.Need-dependency-words-requires
 dependency-words-requires c κs = search needs
 
-returns-3 : tie.Need-returns-3
-returns-3 c =
-    let t = c .before .before in
-    let f = t .before .before in
-    let p = f .before .before in
-    let a = p .before .before .args in
-    c .dependency-words .ensures ∙ inherits-rows (a .m .now) (a .parent) _ (p .parent .given .1) _ (sym (f .find .ensures) ∙ t .at .given .1)
+returns-2 : tie.Need-returns-2
+returns-2 c =
+    let p = c .before .before in
+    c .dependency-words .ensures ∙ sym (ap (dependenciesAt (p .before .before .args .m .now)) (p .parent .given .1))
 
 pub inherited-spec : {M : Type 1} → statement M
 inherited-spec =
     tie.close
-    (tie.spec
-    enum-known-parent
-    enum-told
-    some-words-requires
-    returns
-    find-requires
-    enum-known-at
-    enum-told-2
-    some-words-requires-2
-    returns-2
-    dependency-words-requires
-    returns-3)
+    (tie.spec enum-known-parent enum-told some-words-requires returns dependency-words-requires returns-2)

@@ -1,7 +1,8 @@
+-- `settle` meets its contract: the late checks refuse, or the plugin is written to the lowest free place.
 use mathlib.Core.Path.{sym, _∙_}
+use borrow.Author.Needs.{needs}
 use Rattle.memory.specs.Writes.{parentId}
 use Rattle.registering.proofs.Laws.{settle-refuses, some-free, id-left, settle-writes}
-use borrow.Author.Needs.{needs}
 use Rattle.registering.proofs.settle.Statement.{statement}
 use Rattle.registering.proofs.settle.Tie as tie
 
@@ -11,10 +12,18 @@ rows-in-use-requires c κs = search needs
 late-verdict-requires : tie.Need-late-verdict-requires
 late-verdict-requires c κs = search needs
 
+enum-known-n : tie.Need-enum-known-n
+enum-known-n c = search needs
+
 returns : tie.Need-returns
 returns c =
-    let a = c .before .before .before .before .before .before .before .before .args in
-    settle-refuses (a .m .now) (parentId (a .parent)) (a .payload) (a .count) (a .dependencies .now) (a .claims .now) (a .realms .now) _ (c .before .before .before .rows-in-use .ensures) _ (c .before .late-verdict .ensures) (c .if1 .taken)
+    let v = c .before .before .before in
+    let u = v .before .before in
+    let a = u .before .before .before .before .before .args in
+    settle-refuses (a .m .now) (parentId (a .parent)) (a .payload) (a .count) (a .dependencies .now) (a .claims .now) (a .realms .now) _ (u .rows-in-use .ensures) _ (v .late-verdict .ensures) _ (c .before .n .given .1)
+
+enum-told : tie.Need-enum-told
+enum-told c = search needs
 
 lowest-free-requires : tie.Need-lowest-free-requires
 lowest-free-requires c κs = search needs
@@ -22,26 +31,28 @@ lowest-free-requires c κs = search needs
 enum-known-at : tie.Need-enum-known-at
 enum-known-at c = search needs
 
-enum-told : tie.Need-enum-told
-enum-told c = search needs
+enum-told-2 : tie.Need-enum-told-2
+enum-told-2 c = search needs
 
 returns-2 : tie.Need-returns-2
 returns-2 c =
     let f = c .before .before in
-    let v = f .before .before in
-    let a = v .before .before .before .before .before .before .before .before .args in
-    absurd (some-free (a .m .now) (parentId (a .parent)) (a .payload) (a .count) (a .dependencies .now) (a .claims .now) (a .realms .now) _ (v .before .before .before .rows-in-use .ensures) _ (v .before .late-verdict .ensures) (v .if1 .left) (sym (f .lowest-free .ensures) ∙ c .enum-told .given .1))
+    let t = f .before .before in
+    let v = t .before .before in
+    let u = v .before .before in
+    let a = u .before .before .before .before .before .args in
+    absurd (some-free (a .m .now) (parentId (a .parent)) (a .payload) (a .count) (a .dependencies .now) (a .claims .now) (a .realms .now) _ (u .rows-in-use .ensures) _ (v .late-verdict .ensures) (t .enum-told .given .1) (sym (f .lowest-free .ensures) ∙ c .enum-told2 .given .1))
 
 behind-anchor-requires : tie.Need-behind-anchor-requires
 behind-anchor-requires c κs = search needs
 
 entry-requires : tie.Need-entry-requires
 entry-requires c κs =
-    let t = c .before .before .before in
-    let f = t .before .before in
-    let v = f .before .before in
-    let a = v .before .before .before .before .before .before .before .before .args in
-    (id-left (a .m .now) (parentId (a .parent)) (a .payload) (a .count) (a .dependencies .now) (a .claims .now) (a .realms .now) _ (v .before .before .before .rows-in-use .ensures) _ (v .before .late-verdict .ensures) (v .if1 .left), v .before .before .before .rows-in-use .ensures)
+    let t = c .before .before .before .before .before .before .before in
+    let v = t .before .before in
+    let u = v .before .before in
+    let a = u .before .before .before .before .before .args in
+    (id-left (a .m .now) (parentId (a .parent)) (a .payload) (a .count) (a .dependencies .now) (a .claims .now) (a .realms .now) _ (u .rows-in-use .ensures) _ (v .late-verdict .ensures) (t .enum-told .given .1), u .rows-in-use .ensures)
 
 fill-place-requires : tie.Need-fill-place-requires
 fill-place-requires c κs = search needs
@@ -50,11 +61,13 @@ returns-3 : tie.Need-returns-3
 returns-3 c =
     let n = c .before .before in
     let b = n .before in
-    let t = b .before .before .before in
-    let f = t .before .before in
-    let v = f .before .before in
-    let a = v .before .before .before .before .before .before .before .before .args in
-    settle-writes (a .m .now) (parentId (a .parent)) (a .payload) (a .count) (a .dependencies .now) (a .claims .now) (a .realms .now) _ (v .before .before .before .rows-in-use .ensures) _ (v .before .late-verdict .ensures) (v .if1 .left) _ (sym (f .lowest-free .ensures) ∙ t .at .given .1) _ (b .behind-anchor .ensures) _ (n .entry .ensures) _ (c .fill-place .ensures)
+    let p = b .before .before .before in
+    let f = p .before .before in
+    let t = f .before .before in
+    let v = t .before .before in
+    let u = v .before .before in
+    let a = u .before .before .before .before .before .args in
+    settle-writes (a .m .now) (parentId (a .parent)) (a .payload) (a .count) (a .dependencies .now) (a .claims .now) (a .realms .now) _ (u .rows-in-use .ensures) _ (v .late-verdict .ensures) (t .enum-told .given .1) _ (sym (f .lowest-free .ensures) ∙ p .at .given .1) _ (b .behind-anchor .ensures) _ (n .entry .ensures) _ (c .fill-place .ensures)
 
 pub settle-spec : {M : Type 1} → statement M
 settle-spec =
@@ -62,10 +75,12 @@ settle-spec =
     (tie.spec
     rows-in-use-requires
     late-verdict-requires
+    enum-known-n
     returns
+    enum-told
     lowest-free-requires
     enum-known-at
-    enum-told
+    enum-told-2
     returns-2
     behind-anchor-requires
     entry-requires

@@ -6,6 +6,7 @@ use mathlib.Core.List.{map}
 use lib.ListN.{length, take, drop, length-map, length-take}
 use borrow.Author.Needs.{needs}
 use Rattle.rules.specs.Ports.{pairs, resolveIn}
+use Rattle.ports.specs.Found.{resolve-with}
 use Rattle.resolving.specs.Blocks.{declaredOf, stored}
 use Rattle.resolving.proofs.Laws.{stored-next, stored-end}
 use Rattle.resolving.proofs.declared.Statement.{statement}
@@ -32,11 +33,14 @@ returns c =
     let t = length-take 16 keys in
     (omega (arith, n, t), sym (at .loop .inv .2 ∙ stored-end f keys (at .loop .ports) (at .loop .i) (omega (arith, t))))
 
-mul-resolve : tie.Need-mul-resolve Inv-loop μ-loop
-mul-resolve c = search needs
+mul-new : tie.Need-mul-new Inv-loop μ-loop
+mul-new c = search needs
 
-shared-slice-read-resolve : tie.Need-shared-slice-read-resolve Inv-loop μ-loop
-shared-slice-read-resolve c = search needs
+shared-slice-read-new : tie.Need-shared-slice-read-new Inv-loop μ-loop
+shared-slice-read-new c = search needs
+
+new-requires : tie.Need-new-requires Inv-loop μ-loop
+new-requires c κs = search needs
 
 resolve-requires : tie.Need-resolve-requires Inv-loop μ-loop
 resolve-requires c κs = search needs
@@ -70,10 +74,11 @@ loop-less c = search needs
 
 loop-again : tie.Need-loop-again Inv-loop μ-loop
 loop-again c =
-    let at = c .before .before .before .before in
+    let at = c .before .before .before .before .before in
     let a = at .before .before .before .args in
     let f = resolveIn (a .other) (pairs (a .realms .now)) in
-    (omega arith, omega arith, at .loop .inv .2 ∙ stored-next f (a .keys .now) (at .loop .ports) (at .loop .i) _ (omega arith) (omega arith) (c .resolve .ensures))
+    let e = resolve-with (pairs (a .realms .now)) _ _ _ _ (c .resolve .ensures) (c .before .new .ensures) in
+    (omega arith, omega arith, at .loop .inv .2 ∙ stored-next f (a .keys .now) (at .loop .ports) (at .loop .i) _ (omega arith) (omega arith) e)
 
 returns-2 : tie.Need-returns-2 Inv-loop μ-loop
 returns-2 c =
@@ -93,8 +98,9 @@ declared-spec =
     μ-loop
     loop-holds
     returns
-    mul-resolve
-    shared-slice-read-resolve
+    mul-new
+    shared-slice-read-new
+    new-requires
     resolve-requires
     mul-ports
     mul-ports-2
