@@ -1,7 +1,6 @@
 -- Two answers that say the same are equal, for the answers whose crates do not say so themselves.
 use Prim.Native.Nat.{ℕ}
 use mathlib.Core.Path.{_≡_, refl, ap}
-use Rattle.rules.specs.declared.Generation.{Generation}
 use Rattle.rules.specs.declared.Root.{Root}
 use Rattle.rules.specs.declared.Root.the-variants.{Unissued, Queued, Spent}
 use Rattle.rules.specs.Queries.{rootNumbers}
@@ -96,6 +95,3 @@ held-exact (value.Is v) (value.Is w) e = let j : v ≡ w = cc in ap value.Is j
 held-exact (value.Is v) value.Nothing e = cc
 held-exact value.Nothing (value.Is w) e = cc
 held-exact value.Nothing value.Nothing e = refl
-
-pub generation-exact : (a b : Generation) → a .0 ≡ b .0 → a ≡ b
-generation-exact a b e = λ i. record { 0 = e i }

@@ -11,7 +11,6 @@ use Rattle.resolving.proofs as resolving
 use Rattle.inherit.proofs as inherit
 use Rattle.outcome.specs.One.{One}
 use Rattle.outcome.specs.Equations.{by-equation, by-two, one-outcome, one-with-memory}
-use Rattle.outcome.specs.Answers.{generation-exact}
 
 pub rules-Port-new : One rules.Port.new.ended rules.Port.new.Reads.Learnt
 rules-Port-new κs a r s ms ns p q = by-equation p q
@@ -20,10 +19,13 @@ pub rules-Port-in-default-realm : One rules.Port.«in_default_realm».ended rule
 rules-Port-in-default-realm κs a r s ms ns p q = by-equation p q
 
 pub rules-Generation-never-begun : One rules.Generation.«never_begun».ended rules.Generation.«never_begun».Reads.Learnt
-rules-Generation-never-begun κs a r s ms ns p q = one-outcome generation-exact p q
+rules-Generation-never-begun κs a r s ms ns p q = by-equation p q
 
 pub rules-Generation-of : One rules.Generation.of.ended rules.Generation.of.Reads.Learnt
-rules-Generation-of κs a r s ms ns p q = one-outcome generation-exact p q
+rules-Generation-of κs a r s ms ns p q = by-equation p q
+
+pub rules-Generation-next : One rules.Generation.next.ended rules.Generation.next.Reads.Learnt
+rules-Generation-next κs a r s ms ns p q = by-equation p q
 
 pub slot-Slot-pending : One slot.Slot.pending.ended slot.Slot.pending.Reads.Learnt
 slot-Slot-pending κs a r s ms ns p q = one-outcome slot-exact p q

@@ -92,6 +92,9 @@ living-load κs a r s ms ns p q = by-equation p q
 pub living-store : One living.store.ended living.store.Reads.Learnt
 living-store κs a r s ms ns p q = memory-alone p q
 
+pub living-renew : One living.renew.ended living.renew.Reads.Learnt
+living-renew κs a r s ms ns p q = memory-alone p q
+
 pub phases-next : One phases.next.ended phases.next.Reads.Learnt
 phases-next κs a r s ms ns p q = by-equation p q
 
