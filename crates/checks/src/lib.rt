@@ -93,10 +93,11 @@ pub fn claim_verdict(m: &[u64; WORDS], list: &[u64]) -> Checked
 pub fn late_verdict(m: &[u64; WORDS], rows: usize, dependencies: usize, claims: usize) -> Checked
     ensures { λ r. ⌜ r ≡ verdict (roomChecks (view (now (m .entry))) dependencies (rows + (dependencies + claims))) ⌝ }
 {
+    let registered = places::registered(m);
     if memory::next_id(m) == 18446744073709551615 {
         return Checked::Refused(refusal::NO_ID);
     }
-    if 32 <= places::registered(m) {
+    if 32 <= registered {
         return Checked::Refused(refusal::FULL);
     }
     if 48 < dependencies {

@@ -1,8 +1,8 @@
 -- The parts of a registration: the late checks, and the plugin written.
-use Prim.Native.Nat.{ℕ, _+_, _-_, _*_, _/_, _%_, _<_}
+use Prim.Native.Nat.{ℕ, _+_, _-_, _/_, _%_}
 use native.Mathlib.Omega.{arith}
 use native.Mathlib.Nat.{mod-eq-of-lt}
-use mathlib.Core.Path.{_≡_, refl, sym, ap, _∙_}
+use mathlib.Core.Path.{_≡_, sym, ap, _∙_}
 use mathlib.Core.Logic.{_≢_}
 use mathlib.Core.List.{List, [], _∷_}
 use mathlib.Core.Option.{Option}
@@ -24,7 +24,7 @@ use Rattle.checks.specs.declared.Checked.{Checked}
 use Rattle.checks.specs.declared.Checked.the-variants as checked
 use Rattle.checks.specs.Verdicts.{verdict}
 use Rattle.checks.specs.Runs.{passes}
-use Rattle.registering.specs.Written.{newEntry, writtenAt, lateVerdict, settledAnswer, settledWords}
+use Rattle.registering.specs.Written.{newEntry, lateVerdict, settledAnswer, settledWords}
 
 -- The late checks refuse, or the plugin is written.
 module _ (m : List ℕ) (parent : Option ℕ) (payload count : ℕ) (ds cs zs : List ℕ) (u : ℕ) (i : u ≡ rowsInUse (view m))

@@ -1,23 +1,22 @@
 -- A registration is its three runs of checks over the lent lists, and then the plugin written.
-use Prim.Native.Nat.{ℕ, _+_, _-_, _*_, _/_, _%_, _≤_}
+use Prim.Native.Nat.{ℕ, _+_, _-_, _*_, _/_, _≤_}
 use native.Mathlib.Omega.{arith}
 use mathlib.Core.Path.{_≡_, refl, sym, ap, _∙_}
-use mathlib.Core.Logic.{_≢_}
-use mathlib.Core.Bool.{true, false, _||_}
+use mathlib.Core.Bool.{false}
 use mathlib.Core.List.{List, [], _∷_, map}
-use lib.Dec.{eqb, ltb, leb}
+use lib.Dec.{ltb, leb}
 use lib.ListN.{length, take, drop, length-drop, length-map}
 use lib.Seq.{take-all}
-use borrow.Author.Tests.{eq-eqb, eqb-true, eqb-false, ltb-false, lt-ltb, leb-true, leb-false}
+use borrow.Author.Tests.{ltb-false, lt-ltb, leb-true, leb-false}
 use Rattle.rules.specs.Holds.{Registry, provided, rowsOf, rowsInUse}
 use Rattle.rules.specs.declared.Port.{Port}
-use Rattle.rules.specs.Ports.{pairs, flat, badRealms, realmsWith, realmsOf, resolve, resolveIn}
+use Rattle.rules.specs.Ports.{pairs, flat, badRealms, realmsWith, realmsOf}
 use Rattle.rules.specs.Dependencies.{dependencyList}
-use Rattle.rules.specs.Outcomes.{Refused, Accepted, adds, answerOf}
+use Rattle.rules.specs.Outcomes.{Refused, adds, answerOf}
 use Rattle.rules.specs.Registration.{Definition, parentOf, inheritedFrom, resolved, claimed, unoffered, dependenciesOf, newPlugin, claimChecks, roomChecks, register}
 use Rattle.rules.specs.Laws.Tests.{by-test, neither}
 use Rattle.rules.specs.Kept.New.{new-ports}
-use Rattle.memory.specs.Layout.{word, part, depPart}
+use Rattle.memory.specs.Layout.{part, depPart}
 use Rattle.memory.specs.View.{pluginAt, view}
 use Rattle.memory.specs.Writes.{parentId, findAt}
 use Rattle.memory.specs.Known.{at-place, at-lookup, none-lookup}
@@ -33,7 +32,7 @@ use Rattle.claiming.specs.Filled.{listed-words}
 use Rattle.claiming.specs.Answers.{map-resolve, claims-law}
 use Rattle.inherit.specs.declared.Dependencies.{Dependencies}
 use Rattle.inherit.specs.Blocks.{fitted}
-use Rattle.inherit.specs.Answers.{dependency-law, fitted-law, fitted-long, fitted-count}
+use Rattle.inherit.specs.Answers.{dependency-law, fitted-law, fitted-long}
 use Rattle.checks.specs.declared.Checked.{Checked}
 use Rattle.checks.specs.declared.Checked.the-variants as checked
 use Rattle.checks.specs.declared.Early.{Early}
