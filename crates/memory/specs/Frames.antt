@@ -1,28 +1,26 @@
 -- What a change of the words leaves of what is read at a place.
-use Prim.Native.Nat.{ℕ, zero, suc, _+_, _*_, _-_, _<_, _≤_, min}
+use Prim.Native.Nat.{ℕ, zero, suc, _+_, _*_, _-_, _<_, _≤_}
 use native.Mathlib.Omega.{arith}
 use native.Mathlib.Nat.{le-of-suc-le-suc, not-suc-le-zero}
 use mathlib.Core.Path.{_≡_, refl, sym, ap, _∙_}
 use mathlib.Core.Logic.{_≢_}
 use mathlib.Core.Bool.{Bool, true, false, not}
 use mathlib.Core.List.{List, [], _∷_}
-use lib.Dec.{eqb, ltb, lit<}
-use borrow.Author.Tests.{ltb-true, ltb-false}
-use lib.ListN.{length, getD, set, take, drop, length-set, length-take, length-drop}
+use lib.Dec.{eqb, lit<}
+use lib.ListN.{length, getD, set, drop, length-set, length-take, length-drop}
 use lib.Seq.{getD-set-same, getD-set-other, getD-take, getD-drop, ext-getD}
 use mir.Val.{boolByte}
-use Rattle.rules.specs.Holds.{Plugin, Provision, changed}
+use Rattle.rules.specs.Holds.{Plugin, changed}
 use Rattle.rules.specs.declared.Port.{Port}
 use Rattle.rules.specs.declared.Phase.{Phase}
 use Rattle.rules.specs.declared.Phase.the-variants.{Idle, Loading, Active, Unloading}
 use Rattle.rules.specs.declared.Root.{Root}
 use Rattle.rules.specs.declared.Root.the-variants.{Unissued, Queued, Spent}
 use Rattle.rules.specs.Ports.{pairs}
-use Rattle.memory.specs.Layout.{word, idAt, startAt, depsAt, provsAt, realmsAt, part, rowWord, anchorWord, depPart, provPart, realmPart, taken}
+use Rattle.memory.specs.Layout.{word, part, anchorWord, depPart, provPart, realmPart}
 use Rattle.memory.specs.View.{phaseOf, rootOf, wordsAt, decoded, lifeAt, valueAt, valued, pluginAt}
 use Rattle.memory.specs.Writes.{puts, phaseWord, rootTag, rootRevision, rootArgument, lifeWords, encoded, putLife, renewedAt, renewedLife}
 use Rattle.memory.specs.declared.Life.{Life}
-use Rattle.memory.specs.declared.Words.{Words}
 
 -- A part is read word by word.
 pub part-same : (m m′ : List ℕ) (a b n : ℕ) → a + n ≤ length m′ → b + n ≤ length m → ((k : ℕ) → k < n → word m′ (a + k) ≡ word m (b + k)) → part m′ a n ≡ part m b n
@@ -162,10 +160,6 @@ module _ (m : List ℕ) (i : ℕ) (l : Life) where
   pub life-before : (k : ℕ) → k < i * 72 + 11 → word (putLife m i l) k ≡ word m k
   unfolding putLife
   life-before k h = puts-before (lifeWords (encoded l)) m (i * 72) 11 k h
-
-  pub life-after : (k : ℕ) → i * 72 + 19 ≤ k → word (putLife m i l) k ≡ word m k
-  unfolding putLife
-  life-after k h = puts-after (lifeWords (encoded l)) m (i * 72) 11 k (omega arith)
 
   pub life-only : OnlyLife m (putLife m i l) i
   unfolding putLife

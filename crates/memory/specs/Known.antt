@@ -1,22 +1,21 @@
 -- An operation that looks an id up in the words goes on as its rule does; and what it leaves when it stores a life.
 use Prim.Native.Nat.{ℕ, _%_, _<_}
-use native.Mathlib.Omega.{arith}
 use native.Mathlib.Nat.{mod-eq-of-lt}
-use mathlib.Core.Path.{_≡_, refl, sym, ap, _∙_}
+use mathlib.Core.Path.{_≡_, refl, ap, _∙_}
 use mathlib.Core.Bool.{true}
 use mathlib.Core.List.{List, []}
-use mathlib.Core.Option.{Option, none, some}
+use mathlib.Core.Option.{none, some}
 use lib.ListN.{length}
 use borrow.Author.Tests.{eqb-true}
 use Rattle.rules.specs.Holds.{Plugin, lookup}
 use Rattle.rules.specs.Generations.{generationOf}
 use Rattle.rules.specs.Refusals.{Unknown}
 use Rattle.rules.specs.Outcomes.{Outcome, refuses, answers, writes, stores, adds, removes, found, known, after}
-use Rattle.memory.specs.Layout.{taken, idAt}
+use Rattle.memory.specs.Layout.{taken}
 use Rattle.memory.specs.View.{lifeAt, pluginAt, view}
 use Rattle.memory.specs.Writes.{findAt, putLife}
 use Rattle.memory.specs.Frames.{withLife, life-length}
-use Rattle.memory.specs.Lookups.{placed, lookup-view, Found, find-found}
+use Rattle.memory.specs.Lookups.{placed, lookup-view, find-found}
 use Rattle.memory.specs.Stores.{Alone, store-view}
 use Rattle.memory.specs.declared.Life.{Life}
 use Rattle.memory.specs.declared.Place.{Place}

@@ -3,13 +3,13 @@ use Prim.Native.Nat.{ℕ, zero, suc, _+_, _<_}
 use native.Mathlib.Omega.{arith}
 use mathlib.Core.Path.{_≡_, refl, sym, ap, _∙_}
 use mathlib.Core.Bool.{Bool, true, false, _&&_}
-use mathlib.Core.List.{List, [], _∷_}
+use mathlib.Core.List.{List}
 use mathlib.Core.Option.{Option, none, some}
 use lib.Dec.{eqb}
 use Rattle.rules.specs.Basics.{pick, first}
 use Rattle.rules.specs.Holds.{Plugin, held, lookup}
 use Rattle.rules.specs.Laws.Tests.{by-test, both}
-use Rattle.memory.specs.Layout.{taken, idAt}
+use Rattle.memory.specs.Layout.{taken}
 use Rattle.memory.specs.View.{pluginAt, placeAt, placesFrom, view}
 use Rattle.memory.specs.Writes.{namesAt, findFrom, findAt}
 use Rattle.memory.specs.declared.Place.{Place}

@@ -3,16 +3,15 @@ use Prim.Native.Nat.{ℕ, zero, suc, _+_, _*_, _<_, _≤_, min}
 use native.Mathlib.Omega.{arith}
 use mathlib.Core.Path.{_≡_, refl, sym, ap, _∙_, subst}
 use mathlib.Core.Logic.{_≢_}
-use mathlib.Core.Bool.{Bool, true, false, _&&_}
-use mathlib.Core.List.{List, [], _∷_, map}
-use mathlib.Core.Option.{Option, none, some}
+use mathlib.Core.Bool.{true}
+use mathlib.Core.List.{List, map}
 use lib.Dec.{eqb}
 use lib.ListN.{length}
 use borrow.Author.Tests.{eq-eqb, ne-eqb, eqb-true, eqb-false}
-use Rattle.rules.specs.Holds.{Plugin, Places, Registry}
+use Rattle.rules.specs.Holds.{Plugin}
 use Rattle.rules.specs.Outcomes.{stores, after, storedAt}
 use Rattle.rules.specs.Laws.Tests.{by-test}
-use Rattle.memory.specs.Layout.{word, part, taken, idAt, startAt, depsAt, provsAt, realmsAt, rowWord, anchorWord, depPart, provPart, realmPart}
+use Rattle.memory.specs.Layout.{word, part, taken, idAt, startAt, depsAt, provsAt, realmsAt, rowWord, anchorWord}
 use Rattle.memory.specs.View.{lifeAt, pluginAt, placeAt, placesFrom, view}
 use Rattle.memory.specs.Writes.{putLife, renewedAt, renewedLife}
 use Rattle.memory.specs.Frames.{part-same, Kept, withLife, plugin-kept, OnlyLife, life-other, life-only, life-put, renewed-only, life-renewed}

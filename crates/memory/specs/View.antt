@@ -1,11 +1,11 @@
 -- The words as document 01's registry, place by place.
 use Prim.Native.Nat.{ℕ, zero, suc, _+_, _*_, _/_, _%_, _^_}
-use mathlib.Core.Bool.{Bool, not}
+use mathlib.Core.Bool.{not}
 use mathlib.Core.List.{List, [], _∷_}
 use mathlib.Core.Option.{Option, none, some}
 use lib.Dec.{eqb}
 use Rattle.rules.specs.Basics.{pick}
-use Rattle.rules.specs.Holds.{port, Realms, Provision, Plugin, Places, Registry, defaultRealm}
+use Rattle.rules.specs.Holds.{port, Provision, Plugin, Places, Registry, defaultRealm}
 use Rattle.rules.specs.Generations.{generationOf}
 use Rattle.rules.specs.declared.Port.{Port}
 use Rattle.rules.specs.declared.Phase.{Phase}

@@ -1,5 +1,5 @@
 -- What a replacement and the question of a count answer in document 01's numbers: yes is 1, no is 0.
-use mathlib.Core.Path.{_≡_, refl, ap}
+use mathlib.Core.Path.{_≡_, ap}
 use mathlib.Core.List.{[], _∷_}
 use Rattle.rules.specs.Outcomes.{Answer, Refused, Accepted}
 use Rattle.replacing.specs.declared.Replaced.{Replaced}

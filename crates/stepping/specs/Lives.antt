@@ -1,6 +1,4 @@
 -- What a step makes of a life, and what beginning answers in document 01's numbers.
-use Prim.Native.Nat.{ℕ}
-use mathlib.Core.Path.{_≡_, ap}
 use mathlib.Core.List.{[], _∷_}
 use Rattle.rules.specs.Generations.{nextGeneration}
 use Rattle.rules.specs.declared.Phase.{Phase}

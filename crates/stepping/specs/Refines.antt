@@ -1,15 +1,14 @@
 -- Of dense words, the registry after a step is the rules', and the words are dense again.
 use Prim.Native.Nat.{ℕ, _+_}
 use mathlib.Core.Path.{_≡_, refl}
-use mathlib.Core.Bool.{true, false, not}
+use mathlib.Core.Bool.{not}
 use mathlib.Core.List.{List, [], _∷_}
-use mathlib.Core.Option.{Option, none, some}
 use lib.Dec.{eqb}
-use Rattle.rules.specs.Basics.{all, isNone, orElse, last}
+use Rattle.rules.specs.Basics.{all, orElse, last}
 use Rattle.rules.specs.Holds.{withGeneration, withRoot}
 use Rattle.rules.specs.declared.Root.the-variants.{Unissued}
 use Rattle.rules.specs.Refusals.{Unknown, Retired, InvalidState, Exhausted, Unavailable, InUse}
-use Rattle.rules.specs.Outcomes.{Outcome, stores, _⇒_}
+use Rattle.rules.specs.Outcomes.{stores, _⇒_}
 use Rattle.rules.specs.Phases as rules
 use Rattle.rules.specs.Laws.Tests.{checked-elim}
 use Rattle.memory.specs.View.{lifeAt, pluginAt, view}
