@@ -33,7 +33,7 @@ loop-less c = search needs
 loop-again : tie.Need-loop-again Inv-loop μ-loop
 loop-again c =
     id-lower _ _ _ _ (c .before .before .before .before .before .loop-test .taken) (c .before .before .before .before .before .before .loop .inv) _ _
-    (sym (c .before .before .before .before .is-taken .ensures) ∙ c .before .before .before .if1 .taken) (c .before .before .id .ensures) (c .before .if2 .taken) (c .lower .ensures)
+    (sym (c .before .before .before .before .is-taken .ensures) ∙ c .before .before .before .if1 .taken) (c .before .before .id .ensures) (omega (arith, c .before .if2 .taken)) (c .lower .ensures)
 
 loop-less-2 : tie.Need-loop-less-2 Inv-loop μ-loop
 loop-less-2 c = search needs
@@ -41,7 +41,7 @@ loop-less-2 c = search needs
 loop-again-2 : tie.Need-loop-again-2 Inv-loop μ-loop
 loop-again-2 c =
     id-not _ _ _ _ (c .before .before .before .before .loop-test .taken) (c .before .before .before .before .before .loop .inv) _
-    (sym (c .before .before .before .is-taken .ensures) ∙ c .before .before .if1 .taken) (c .before .id .ensures) (c .if2 .left)
+    (sym (c .before .before .before .is-taken .ensures) ∙ c .before .before .if1 .taken) (c .before .id .ensures) (omega (arith, c .if2 .left))
 
 loop-less-3 : tie.Need-loop-less-3 Inv-loop μ-loop
 loop-less-3 c = search needs
