@@ -10,11 +10,11 @@ use Rattle.rules.specs.Steps.{Op, step, answerTo, lent, lentAfterStep}
 use Rattle.rules.specs.Demand1.{refusal-changes-nothing}
 use Rattle.memory.specs.View.{view}
 use Rattle.memory.specs.Known.{storedLife}
-use Rattle.freeing.specs.Words.{removedFrom}
-use Rattle.registering.specs.Written.{addedTo}
-use Rattle.replacing.specs.Words.{replacedIn}
-use Rattle.settling.specs.Finished.{finishedTo}
-use Rattle.offering.specs.Words.{offeredTo}
+use Rattle.registry_remove.specs.Words.{removedFrom}
+use Rattle.registry_register.specs.Written.{addedTo}
+use Rattle.registry_replace.specs.Words.{replacedIn}
+use Rattle.registry_ready_finish.specs.Finished.{finishedTo}
+use Rattle.registry_offer.specs.Words.{offeredTo}
 use Rattle.demands.specs.Leaves.{Way, wayOf, leftBy, leaves}
 use Rattle.demands.specs.Leaves.Way.{asks, adds, stores, replaces, finishes, removes, offers}
 

@@ -20,15 +20,15 @@ use Rattle.rules.specs.Built.{Built}
 use Rattle.rules.specs.Kept.{step-built}
 use Rattle.rules.specs.Laws.Tests.{checked-elim, found-elim}
 use Rattle.memory.specs.View.{view}
-use Rattle.blocks.specs.Dense.{Refines}
-use Rattle.freeing.specs.Refines.{remove-refines}
-use Rattle.registering.specs.Refines.{built-fresh, register-refines}
-use Rattle.retiring.specs.Refines.{retire-refines, retire-child-refines}
-use Rattle.stepping.specs.Refines.{begin-refines, fail-refines, unload-refines}
-use Rattle.settling.specs.Refines.{ready-refines, finish-refines}
-use Rattle.replacing.specs.Refines.{replace-refines}
-use Rattle.admitting.specs.Refines.{admit-refines, call-refines}
-use Rattle.offering.specs.Refines.{offer-refines}
+use Rattle.memory_rows.specs.Dense.{Refines}
+use Rattle.registry_remove.specs.Refines.{remove-refines}
+use Rattle.registry_register.specs.Refines.{built-fresh, register-refines}
+use Rattle.registry_retire.specs.Refines.{retire-refines, retire-child-refines}
+use Rattle.registry_steps.specs.Refines.{begin-refines, fail-refines, unload-refines}
+use Rattle.registry_ready_finish.specs.Refines.{ready-refines, finish-refines}
+use Rattle.registry_replace.specs.Refines.{replace-refines}
+use Rattle.registry_admit.specs.Refines.{admit-refines, call-refines}
+use Rattle.registry_offer.specs.Refines.{offer-refines}
 use Rattle.demands.specs.Leaves.{leaves}
 use Rattle.demands.specs.Starts.{Sound, Begun, begun-start}
 

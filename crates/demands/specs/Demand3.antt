@@ -11,7 +11,7 @@ use Rattle.rules.specs.Steps.{Op, Event, event, answerTo, Run, goOnWith, run, C
 use Rattle.rules.specs.History.{story, Demand3}
 use Rattle.rules.specs.Demand3 as rules
 use Rattle.memory.specs.View.{view}
-use Rattle.freeing.specs.Refines.{open-refines}
+use Rattle.registry_remove.specs.Refines.{open-refines}
 use Rattle.demands.specs.Leaves.{leaves}
 use Rattle.demands.specs.Starts as starts
 use Rattle.demands.specs.Starts.{Sound, Start, start-view, blank, begun-start}

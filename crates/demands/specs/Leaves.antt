@@ -8,11 +8,11 @@ use Rattle.rules.specs.Outcomes.{Outcome}
 use Rattle.rules.specs.Steps.{Op, step, ResolveKey, DependencyPort, Register, Begin, Ready, Fail, Unload, Finish, Replace, Fits, Admit, Admits, Call, Retire, RetireChild, ChildIdentity, Remove, Offer, Read, Visible, Own, FirstMissing, Matching, Declares, Listed, AskPlugin, AskRegistry, IdFrom}
 use Rattle.memory.specs.View.{view}
 use Rattle.memory.specs.Known.{storedLife, stored-size}
-use Rattle.freeing.specs.Words.{removedFrom, removed-size}
-use Rattle.registering.specs.Written.{addedTo, added-size}
-use Rattle.replacing.specs.Words.{replacedIn, replaced-size}
-use Rattle.settling.specs.Finished.{finishedTo, finished-size}
-use Rattle.offering.specs.Words.{offeredTo, offered-size}
+use Rattle.registry_remove.specs.Words.{removedFrom, removed-size}
+use Rattle.registry_register.specs.Written.{addedTo, added-size}
+use Rattle.registry_replace.specs.Words.{replacedIn, replaced-size}
+use Rattle.registry_ready_finish.specs.Finished.{finishedTo, finished-size}
+use Rattle.registry_offer.specs.Words.{offeredTo, offered-size}
 
 -- the ways in which an operation changes the words, or does not
 pub data Way : Type 0 where

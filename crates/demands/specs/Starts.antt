@@ -14,8 +14,8 @@ use Rattle.rules.specs.Built.{Built}
 use Rattle.rules.specs.Kept.{opened-built, built-start}
 use Rattle.memory.specs.View.{view}
 use Rattle.memory.specs.Writes.{puts}
-use Rattle.blocks.specs.Dense.{Dense}
-use Rattle.freeing.specs.Refines.{open-refines, open-dense}
+use Rattle.memory_rows.specs.Dense.{Dense}
+use Rattle.registry_remove.specs.Refines.{open-refines, open-dense}
 
 -- Dense words that say a built registry.
 pub record Sound (m : List ℕ) : Type 0 where

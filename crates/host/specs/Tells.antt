@@ -5,7 +5,7 @@ use mathlib.Core.List.{List}
 use Rattle.rules.specs.Outcomes.{Answer}
 use Rattle.rules.specs.Steps.{Op, answerTo}
 use Rattle.memory.specs.View.{view}
-use Rattle.telling.specs.Told.{statusOf, Tells, told}
+use Rattle.host_answers.specs.Told.{statusOf, Tells, told}
 
 abbrev pub answer : List ℕ → Op → Answer
 answer m o = answerTo (view m) o

@@ -1,11 +1,11 @@
 // Admission and call.
 ghost use mathlib.Core.Path.{_≡_};
 ghost use Rattle.rules.specs.Steps.{Admit, Admits, Call};
-ghost use Rattle.telling.specs.Told.{Tells};
+ghost use Rattle.host_answers.specs.Told.{Tells};
 ghost use Rattle.demands.specs.Leaves.{leaves};
 ghost use Rattle.host.specs.Tells.{answer};
+use host_answers::ANSWER;
 use memory::WORDS;
-use telling::ANSWER;
 
 // It answers an invocation: domain, id, generation, revision, argument.
 #[no_mangle]
@@ -20,8 +20,8 @@ pub extern "C" fn vaskelbi_admit(
 ) -> u64
     ensures { λ r. ⌜ Tells (answer (now (m .entry)) (Admit (record { domain = domain; id = id; generation = generation; kind = kind }) argument)) (now (out .entry)) r (now (out .exit)) ⌝ ∗ ⌜ now (m .exit) ≡ leaves (now (m .entry)) (Admit (record { domain = domain; id = id; generation = generation; kind = kind }) argument) ⌝ }
 {
-    telling::admitted(
-        admitting::admit(m, domain, id, generation, kind, argument),
+    host_answers::admitted(
+        registry_admit::admit(m, domain, id, generation, kind, argument),
         out,
     )
 }
@@ -38,7 +38,7 @@ pub extern "C" fn vaskelbi_admits(
 ) -> u64
     ensures { λ r. ⌜ Tells (answer (now (m .entry)) (Admits (record { domain = domain; id = id; generation = generation; kind = kind }))) (now (out .entry)) r (now (out .exit)) ⌝ }
 {
-    telling::yes_or_no(admitting::admits(m, domain, id, generation, kind), out)
+    host_answers::yes_or_no(registry_admit::admits(m, domain, id, generation, kind), out)
 }
 
 // It answers a receipt: domain, id, generation, request, payload, argument.
@@ -54,8 +54,8 @@ pub extern "C" fn vaskelbi_call(
 ) -> u64
     ensures { λ r. ⌜ Tells (answer (now (m .entry)) (Call (record { domain = domain; id = id; generation = generation; revision = revision; argument = argument }))) (now (out .entry)) r (now (out .exit)) ⌝ ∗ ⌜ now (m .exit) ≡ leaves (now (m .entry)) (Call (record { domain = domain; id = id; generation = generation; revision = revision; argument = argument })) ⌝ }
 {
-    telling::called(
-        admitting::call(m, domain, id, generation, revision, argument),
+    host_answers::called(
+        registry_admit::call(m, domain, id, generation, revision, argument),
         out,
     )
 }

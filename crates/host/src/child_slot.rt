@@ -2,11 +2,11 @@
 ghost use mathlib.Core.Path.{_≡_};
 ghost use Rattle.rules.specs.Slot as rules;
 ghost use Rattle.slot.specs.Slots.{slotOf};
-ghost use Rattle.slots.specs.Words.{slotAt, putSlot, slotAfter};
-ghost use Rattle.telling.specs.Told.{statusOf};
+ghost use Rattle.slot_words.specs.Words.{slotAt, putSlot, slotAfter};
+ghost use Rattle.host_answers.specs.Told.{statusOf};
 use slot::Identity;
 use slot::Slot;
-use slots::SLOT;
+use slot_words::SLOT;
 
 // A child slot is eight words of the host's: domain, parent, 1 with a generation or 0, generation, decision (0 Pending,
 // 1 Assigned, 2 Failed, 3 Cancelled), and the assigned domain, parent and id.
@@ -19,7 +19,7 @@ pub extern "C" fn vaskelbi_slot_pending(
 )
     ensures { λ _. ⌜ now (slot .exit) ≡ putSlot (now (slot .entry)) (rules.pending domain parent generation) ⌝ }
 {
-    slots::store(slot, Slot::pending(domain, parent, generation))
+    slot_words::store(slot, Slot::pending(domain, parent, generation))
 }
 
 // A slot made Assigned has no generation.
@@ -27,7 +27,7 @@ pub extern "C" fn vaskelbi_slot_pending(
 pub extern "C" fn vaskelbi_slot_assigned(slot: &mut [u64; SLOT], domain: u64, parent: u64, id: u64)
     ensures { λ _. ⌜ now (slot .exit) ≡ putSlot (now (slot .entry)) (rules.assigned (record { domain = domain; parent = parent; id = id })) ⌝ }
 {
-    slots::store(
+    slot_words::store(
         slot,
         Slot::assigned(Identity {
             domain: domain,
@@ -46,7 +46,7 @@ pub extern "C" fn vaskelbi_slot_assign(
 ) -> u64
     ensures { λ r. ⌜ r ≡ statusOf (rules.assign (slotOf (slotAt (now (slot .entry)))) (record { domain = domain; parent = parent; id = id }) .answer) ⌝ ∗ ⌜ now (slot .exit) ≡ slotAfter (now (slot .entry)) (rules.assign (slotOf (slotAt (now (slot .entry)))) (record { domain = domain; parent = parent; id = id })) ⌝ }
 {
-    telling::verdict(slots::assign(
+    host_answers::verdict(slot_words::assign(
         slot,
         Identity {
             domain: domain,
@@ -60,12 +60,12 @@ pub extern "C" fn vaskelbi_slot_assign(
 pub extern "C" fn vaskelbi_slot_reject(slot: &mut [u64; SLOT]) -> u64
     ensures { λ r. ⌜ r ≡ statusOf (rules.reject (slotOf (slotAt (now (slot .entry)))) .answer) ⌝ ∗ ⌜ now (slot .exit) ≡ slotAfter (now (slot .entry)) (rules.reject (slotOf (slotAt (now (slot .entry))))) ⌝ }
 {
-    telling::verdict(slots::reject(slot))
+    host_answers::verdict(slot_words::reject(slot))
 }
 
 #[no_mangle]
 pub extern "C" fn vaskelbi_slot_cancel(slot: &mut [u64; SLOT]) -> u64
     ensures { λ r. ⌜ r ≡ statusOf (rules.cancel (slotOf (slotAt (now (slot .entry)))) .answer) ⌝ ∗ ⌜ now (slot .exit) ≡ slotAfter (now (slot .entry)) (rules.cancel (slotOf (slotAt (now (slot .entry))))) ⌝ }
 {
-    telling::verdict(slots::cancel(slot))
+    host_answers::verdict(slot_words::cancel(slot))
 }

@@ -2,17 +2,17 @@
 ghost use Rattle.rules.specs.Outcomes.{answerOf};
 ghost use Rattle.rules.specs.Ports.{resolveKey};
 ghost use Rattle.rules.specs.Steps.{DependencyPort};
-ghost use Rattle.telling.specs.Told.{Tells};
+ghost use Rattle.host_answers.specs.Told.{Tells};
 ghost use Rattle.host.specs.Tells.{answer};
+use host_answers::ANSWER;
 use memory::WORDS;
-use telling::ANSWER;
 
 // A key resolved in a realm list of the host's.
 #[no_mangle]
 pub extern "C" fn vaskelbi_resolve(realms: &[u64], key: u64, out: &mut [u64; ANSWER]) -> u64
     ensures { λ r. ⌜ Tells (answerOf (resolveKey (now (realms .entry)) key)) (now (out .entry)) r (now (out .exit)) ⌝ }
 {
-    telling::resolved(ports::resolve_key(realms, key), out)
+    host_answers::resolved(ports::resolve_key(realms, key), out)
 }
 
 // The first dependency with the key, or no number.
@@ -25,5 +25,5 @@ pub extern "C" fn vaskelbi_lookup(
 ) -> u64
     ensures { λ r. ⌜ Tells (answer (now (m .entry)) (DependencyPort id key)) (now (out .entry)) r (now (out .exit)) ⌝ }
 {
-    telling::port(asking::dependency_port(m, id, key), out)
+    host_answers::port(registry_queries::dependency_port(m, id, key), out)
 }

@@ -69,5 +69,5 @@ pub use value::vaskelbi_visible;
 pub extern "C" fn vaskelbi_open(m: &mut [u64; WORDS], domain: u64, first: u64)
     ensures { λ _. ⌜ now (m .exit) ≡ blank (now (m .entry)) domain first ⌝ }
 {
-    freeing::open(m, domain, first)
+    registry_remove::open(m, domain, first)
 }

@@ -3,10 +3,10 @@ ghost use mathlib.Core.Path.{_≡_};
 ghost use Rattle.rules.specs.Lists.{Dependencies, Provisions, RealmRows};
 ghost use Rattle.rules.specs.Steps.{lentAfterStep, Listed};
 ghost use Rattle.memory.specs.View.{view};
-ghost use Rattle.telling.specs.Told.{Tells};
+ghost use Rattle.host_answers.specs.Told.{Tells};
 ghost use Rattle.host.specs.Tells.{answer};
+use host_answers::ANSWER;
 use memory::WORDS;
-use telling::ANSWER;
 
 // It answers how many pairs were listed into the buffer from the place.
 #[no_mangle]
@@ -19,7 +19,10 @@ pub extern "C" fn vaskelbi_list_dependencies(
 ) -> u64
     ensures { λ r. ⌜ Tells (answer (now (m .entry)) (Listed Dependencies id place (now (buffer .entry)))) (now (out .entry)) r (now (out .exit)) ⌝ ∗ ⌜ now (buffer .exit) ≡ lentAfterStep (view (now (m .entry))) (Listed Dependencies id place (now (buffer .entry))) ⌝ }
 {
-    telling::listed(asking::list_dependencies(m, id, place, buffer), out)
+    host_answers::listed(
+        registry_queries::list_dependencies(m, id, place, buffer),
+        out,
+    )
 }
 
 #[no_mangle]
@@ -32,7 +35,7 @@ pub extern "C" fn vaskelbi_list_provisions(
 ) -> u64
     ensures { λ r. ⌜ Tells (answer (now (m .entry)) (Listed Provisions id place (now (buffer .entry)))) (now (out .entry)) r (now (out .exit)) ⌝ ∗ ⌜ now (buffer .exit) ≡ lentAfterStep (view (now (m .entry))) (Listed Provisions id place (now (buffer .entry))) ⌝ }
 {
-    telling::listed(asking::list_provisions(m, id, place, buffer), out)
+    host_answers::listed(registry_queries::list_provisions(m, id, place, buffer), out)
 }
 
 #[no_mangle]
@@ -45,5 +48,5 @@ pub extern "C" fn vaskelbi_list_realms(
 ) -> u64
     ensures { λ r. ⌜ Tells (answer (now (m .entry)) (Listed RealmRows id place (now (buffer .entry)))) (now (out .entry)) r (now (out .exit)) ⌝ ∗ ⌜ now (buffer .exit) ≡ lentAfterStep (view (now (m .entry))) (Listed RealmRows id place (now (buffer .entry))) ⌝ }
 {
-    telling::listed(asking::list_realms(m, id, place, buffer), out)
+    host_answers::listed(registry_queries::list_realms(m, id, place, buffer), out)
 }

@@ -4,24 +4,24 @@ ghost use mathlib.Core.List.{[], _∷_};
 ghost use Rattle.rules.specs.Outcomes.{Accepted};
 ghost use Rattle.rules.specs.Queries.{Parent, Anchor, PhaseOf, RetiredMark, Generation, Revision, Payload, RootOf, Domain, FirstId, NextId, Registered, RowsInUse};
 ghost use Rattle.rules.specs.Steps.{AskPlugin, AskRegistry, IdFrom};
-ghost use Rattle.telling.specs.Told.{Tells};
+ghost use Rattle.host_answers.specs.Told.{Tells};
 ghost use Rattle.host.specs.Tells.{answer};
+use host_answers::ANSWER;
 use memory::WORDS;
-use telling::ANSWER;
 
 // The parent's id, or no number.
 #[no_mangle]
 pub extern "C" fn vaskelbi_parent(m: &[u64; WORDS], id: u64, out: &mut [u64; ANSWER]) -> u64
     ensures { λ r. ⌜ Tells (answer (now (m .entry)) (AskPlugin Parent id)) (now (out .entry)) r (now (out .exit)) ⌝ }
 {
-    telling::perhaps(asking::parent(m, id), out)
+    host_answers::perhaps(registry_queries::parent(m, id), out)
 }
 
 #[no_mangle]
 pub extern "C" fn vaskelbi_anchor(m: &[u64; WORDS], id: u64, out: &mut [u64; ANSWER]) -> u64
     ensures { λ r. ⌜ Tells (answer (now (m .entry)) (AskPlugin Anchor id)) (now (out .entry)) r (now (out .exit)) ⌝ }
 {
-    telling::port(asking::anchor(m, id), out)
+    host_answers::port(registry_queries::anchor(m, id), out)
 }
 
 // 0 Idle, 1 Loading, 2 Active, 3 Unloading.
@@ -29,7 +29,7 @@ pub extern "C" fn vaskelbi_anchor(m: &[u64; WORDS], id: u64, out: &mut [u64; ANS
 pub extern "C" fn vaskelbi_phase(m: &[u64; WORDS], id: u64, out: &mut [u64; ANSWER]) -> u64
     ensures { λ r. ⌜ Tells (answer (now (m .entry)) (AskPlugin PhaseOf id)) (now (out .entry)) r (now (out .exit)) ⌝ }
 {
-    telling::number(asking::phase(m, id), out)
+    host_answers::number(registry_queries::phase(m, id), out)
 }
 
 // 1 where the plugin is retired, else 0.
@@ -37,28 +37,28 @@ pub extern "C" fn vaskelbi_phase(m: &[u64; WORDS], id: u64, out: &mut [u64; ANSW
 pub extern "C" fn vaskelbi_retired(m: &[u64; WORDS], id: u64, out: &mut [u64; ANSWER]) -> u64
     ensures { λ r. ⌜ Tells (answer (now (m .entry)) (AskPlugin RetiredMark id)) (now (out .entry)) r (now (out .exit)) ⌝ }
 {
-    telling::number(asking::retired(m, id), out)
+    host_answers::number(registry_queries::retired(m, id), out)
 }
 
 #[no_mangle]
 pub extern "C" fn vaskelbi_generation(m: &[u64; WORDS], id: u64, out: &mut [u64; ANSWER]) -> u64
     ensures { λ r. ⌜ Tells (answer (now (m .entry)) (AskPlugin Generation id)) (now (out .entry)) r (now (out .exit)) ⌝ }
 {
-    telling::number(asking::generation(m, id), out)
+    host_answers::number(registry_queries::generation(m, id), out)
 }
 
 #[no_mangle]
 pub extern "C" fn vaskelbi_revision(m: &[u64; WORDS], id: u64, out: &mut [u64; ANSWER]) -> u64
     ensures { λ r. ⌜ Tells (answer (now (m .entry)) (AskPlugin Revision id)) (now (out .entry)) r (now (out .exit)) ⌝ }
 {
-    telling::number(asking::revision(m, id), out)
+    host_answers::number(registry_queries::revision(m, id), out)
 }
 
 #[no_mangle]
 pub extern "C" fn vaskelbi_payload(m: &[u64; WORDS], id: u64, out: &mut [u64; ANSWER]) -> u64
     ensures { λ r. ⌜ Tells (answer (now (m .entry)) (AskPlugin Payload id)) (now (out .entry)) r (now (out .exit)) ⌝ }
 {
-    telling::number(asking::payload(m, id), out)
+    host_answers::number(registry_queries::payload(m, id), out)
 }
 
 // 0 Unissued; 1 Queued, with revision and argument; 2 Spent.
@@ -66,7 +66,7 @@ pub extern "C" fn vaskelbi_payload(m: &[u64; WORDS], id: u64, out: &mut [u64; AN
 pub extern "C" fn vaskelbi_root(m: &[u64; WORDS], id: u64, out: &mut [u64; ANSWER]) -> u64
     ensures { λ r. ⌜ Tells (answer (now (m .entry)) (AskPlugin RootOf id)) (now (out .entry)) r (now (out .exit)) ⌝ }
 {
-    telling::root(asking::root(m, id), out)
+    host_answers::root(registry_queries::root(m, id), out)
 }
 
 // The lowest registered id at or above a number, or no number.
@@ -74,7 +74,7 @@ pub extern "C" fn vaskelbi_root(m: &[u64; WORDS], id: u64, out: &mut [u64; ANSWE
 pub extern "C" fn vaskelbi_id_from(m: &[u64; WORDS], number: u64, out: &mut [u64; ANSWER]) -> u64
     ensures { λ r. ⌜ Tells (answer (now (m .entry)) (IdFrom number)) (now (out .entry)) r (now (out .exit)) ⌝ }
 {
-    telling::above(places::id_from(m, number), out)
+    host_answers::above(memory_places::id_from(m, number), out)
 }
 
 #[no_mangle]
@@ -102,12 +102,12 @@ pub extern "C" fn vaskelbi_next(m: &[u64; WORDS]) -> u64
 pub extern "C" fn vaskelbi_count(m: &[u64; WORDS]) -> u64
     ensures { λ r. ⌜ answer (now (m .entry)) (AskRegistry Registered) ≡ Accepted (r ∷ []) ⌝ }
 {
-    places::registered(m)
+    memory_places::registered(m)
 }
 
 #[no_mangle]
 pub extern "C" fn vaskelbi_rows(m: &[u64; WORDS]) -> u64
     ensures { λ r. ⌜ answer (now (m .entry)) (AskRegistry RowsInUse) ≡ Accepted (r ∷ []) ⌝ }
 {
-    places::rows_in_use(m) as u64
+    memory_places::rows_in_use(m) as u64
 }

@@ -3,13 +3,13 @@ ghost use mathlib.Core.Path.{_≡_};
 ghost use Rattle.rules.specs.Holds.{port};
 ghost use Rattle.rules.specs.Steps.{Register};
 ghost use Rattle.memory.specs.declared.Parent.the-variants.{Of, Nobody};
-ghost use Rattle.registering.specs.Written.{definition};
-ghost use Rattle.telling.specs.Told.{Tells};
+ghost use Rattle.registry_register.specs.Written.{definition};
+ghost use Rattle.host_answers.specs.Told.{Tells};
 ghost use Rattle.demands.specs.Leaves.{leaves};
 ghost use Rattle.host.specs.Tells.{answer};
+use host_answers::ANSWER;
 use memory::WORDS;
 use rules::Port;
-use telling::ANSWER;
 
 // Registration without a parent: anchor, payload, realm list (key, realm, key, realm), dependency keys, provision keys. It answers the new id.
 #[no_mangle]
@@ -25,8 +25,8 @@ pub extern "C" fn vaskelbi_register(
 ) -> u64
     ensures { λ r. ⌜ Tells (answer (now (m .entry)) (Register (definition Nobody (port key realm) (now (realms .entry)) (now (dependencies .entry)) (now (provisions .entry)) payload))) (now (out .entry)) r (now (out .exit)) ⌝ ∗ ⌜ now (m .exit) ≡ leaves (now (m .entry)) (Register (definition Nobody (port key realm) (now (realms .entry)) (now (dependencies .entry)) (now (provisions .entry)) payload)) ⌝ }
 {
-    telling::registered(
-        registering::register(
+    host_answers::registered(
+        registry_register::register(
             m,
             memory::Parent::Nobody,
             Port {
@@ -57,8 +57,8 @@ pub extern "C" fn vaskelbi_register_child(
 ) -> u64
     ensures { λ r. ⌜ Tells (answer (now (m .entry)) (Register (definition (Of parent) (port key realm) (now (realms .entry)) (now (dependencies .entry)) (now (provisions .entry)) payload))) (now (out .entry)) r (now (out .exit)) ⌝ ∗ ⌜ now (m .exit) ≡ leaves (now (m .entry)) (Register (definition (Of parent) (port key realm) (now (realms .entry)) (now (dependencies .entry)) (now (provisions .entry)) payload)) ⌝ }
 {
-    telling::registered(
-        registering::register(
+    host_answers::registered(
+        registry_register::register(
             m,
             memory::Parent::Of(parent),
             Port {

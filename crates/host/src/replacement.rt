@@ -1,11 +1,11 @@
 // Replacement of a payload, and whether a count of replacements fits.
 ghost use mathlib.Core.Path.{_≡_};
 ghost use Rattle.rules.specs.Steps.{Replace, Fits};
-ghost use Rattle.telling.specs.Told.{Tells};
+ghost use Rattle.host_answers.specs.Told.{Tells};
 ghost use Rattle.demands.specs.Leaves.{leaves};
 ghost use Rattle.host.specs.Tells.{answer};
+use host_answers::ANSWER;
 use memory::WORDS;
-use telling::ANSWER;
 
 // It answers the former payload; a refusal answers the offered one.
 #[no_mangle]
@@ -17,7 +17,7 @@ pub extern "C" fn vaskelbi_replace(
 ) -> u64
     ensures { λ r. ⌜ Tells (answer (now (m .entry)) (Replace id payload)) (now (out .entry)) r (now (out .exit)) ⌝ ∗ ⌜ now (m .exit) ≡ leaves (now (m .entry)) (Replace id payload) ⌝ }
 {
-    telling::replaced(replacing::replace(m, id, payload), out)
+    host_answers::replaced(registry_replace::replace(m, id, payload), out)
 }
 
 // Whether a count of replacements fits: 1 for yes, 0 for no.
@@ -30,5 +30,5 @@ pub extern "C" fn vaskelbi_fits(
 ) -> u64
     ensures { λ r. ⌜ Tells (answer (now (m .entry)) (Fits id count)) (now (out .entry)) r (now (out .exit)) ⌝ }
 {
-    telling::whether(replacing::fits(m, id, count), out)
+    host_answers::whether(registry_replace::fits(m, id, count), out)
 }

@@ -2,11 +2,11 @@
 ghost use mathlib.Core.Path.{_≡_};
 ghost use Rattle.rules.specs.Holds.{port};
 ghost use Rattle.rules.specs.Steps.{Offer, Read, Visible, Own, FirstMissing, Matching, Declares};
-ghost use Rattle.telling.specs.Told.{statusOf, Tells};
+ghost use Rattle.host_answers.specs.Told.{statusOf, Tells};
 ghost use Rattle.demands.specs.Leaves.{leaves};
 ghost use Rattle.host.specs.Tells.{answer};
+use host_answers::ANSWER;
 use memory::WORDS;
-use telling::ANSWER;
 
 #[no_mangle]
 pub extern "C" fn vaskelbi_offer(
@@ -18,7 +18,7 @@ pub extern "C" fn vaskelbi_offer(
 ) -> u64
     ensures { λ r. ⌜ r ≡ statusOf (answer (now (m .entry)) (Offer id (port key realm) value)) ⌝ ∗ ⌜ now (m .exit) ≡ leaves (now (m .entry)) (Offer id (port key realm) value) ⌝ }
 {
-    telling::done(offering::offer(m, id, key, realm, value))
+    host_answers::done(registry_offer::offer(m, id, key, realm, value))
 }
 
 // It answers the value and its provider's id.
@@ -32,7 +32,7 @@ pub extern "C" fn vaskelbi_read(
 ) -> u64
     ensures { λ r. ⌜ Tells (answer (now (m .entry)) (Read id (port key realm))) (now (out .entry)) r (now (out .exit)) ⌝ }
 {
-    telling::reading(values::read(m, id, key, realm), out)
+    host_answers::reading(registry_values::read(m, id, key, realm), out)
 }
 
 // The Active provider's value, or no number.
@@ -45,7 +45,7 @@ pub extern "C" fn vaskelbi_visible(
 ) -> u64
     ensures { λ r. ⌜ Tells (answer (now (m .entry)) (Visible (port key realm))) (now (out .entry)) r (now (out .exit)) ⌝ }
 {
-    telling::value(values::visible(m, key, realm), out)
+    host_answers::value(registry_values::visible(m, key, realm), out)
 }
 
 // A plugin's own value of a provision, or no number.
@@ -59,7 +59,7 @@ pub extern "C" fn vaskelbi_own(
 ) -> u64
     ensures { λ r. ⌜ Tells (answer (now (m .entry)) (Own id (port key realm))) (now (out .entry)) r (now (out .exit)) ⌝ }
 {
-    telling::perhaps(values::own(m, id, key, realm), out)
+    host_answers::perhaps(registry_values::own(m, id, key, realm), out)
 }
 
 // The first provision without a value, or no number.
@@ -67,7 +67,7 @@ pub extern "C" fn vaskelbi_own(
 pub extern "C" fn vaskelbi_missing(m: &[u64; WORDS], id: u64, out: &mut [u64; ANSWER]) -> u64
     ensures { λ r. ⌜ Tells (answer (now (m .entry)) (FirstMissing id)) (now (out .entry)) r (now (out .exit)) ⌝ }
 {
-    telling::port(values::missing(m, id), out)
+    host_answers::port(registry_values::missing(m, id), out)
 }
 
 // Whether a list of key, realm pairs is the plugin's provision list.
@@ -80,7 +80,7 @@ pub extern "C" fn vaskelbi_matches(
 ) -> u64
     ensures { λ r. ⌜ Tells (answer (now (m .entry)) (Matching id (now (list .entry)))) (now (out .entry)) r (now (out .exit)) ⌝ }
 {
-    telling::whether(values::matches(m, id, list), out)
+    host_answers::whether(registry_values::matches(m, id, list), out)
 }
 
 #[no_mangle]
@@ -93,5 +93,5 @@ pub extern "C" fn vaskelbi_declares(
 ) -> u64
     ensures { λ r. ⌜ Tells (answer (now (m .entry)) (Declares id (port key realm))) (now (out .entry)) r (now (out .exit)) ⌝ }
 {
-    telling::whether(values::declares(m, id, key, realm), out)
+    host_answers::whether(registry_values::declares(m, id, key, realm), out)
 }

@@ -4,26 +4,26 @@ use mathlib.Core.Path.{_≡_, refl, ap}
 use Rattle.rules.specs.declared.Root.{Root}
 use Rattle.rules.specs.declared.Root.the-variants.{Unissued, Queued, Spent}
 use Rattle.rules.specs.Queries.{rootNumbers}
-use Rattle.asking.specs.Answers.{numberAnswer, rootAnswer}
-use Rattle.asking.specs.declared.Number.{Number}
-use Rattle.asking.specs.declared.Number.the-variants as number
-use Rattle.asking.specs.declared.ARoot.{ARoot}
-use Rattle.asking.specs.declared.ARoot.the-variants as root
+use Rattle.registry_queries.specs.Answers.{numberAnswer, rootAnswer}
+use Rattle.registry_queries.specs.declared.Number.{Number}
+use Rattle.registry_queries.specs.declared.Number.the-variants as number
+use Rattle.registry_queries.specs.declared.ARoot.{ARoot}
+use Rattle.registry_queries.specs.declared.ARoot.the-variants as root
 use Rattle.memory.specs.Writes.{parentId}
 use Rattle.memory.specs.declared.Parent.{Parent}
 use Rattle.memory.specs.declared.Parent.the-variants as parent
-use Rattle.places.specs.Changes.{aboveAnswer}
-use Rattle.places.specs.declared.Above.{Above}
-use Rattle.places.specs.declared.Above.the-variants as above
-use Rattle.retiring.specs.Answers.{childAnswer}
-use Rattle.retiring.specs.declared.Child.{Child}
-use Rattle.retiring.specs.declared.Child.the-variants as child
-use Rattle.stepping.specs.Lives.{begunAnswer}
-use Rattle.stepping.specs.declared.Begun.{Begun}
-use Rattle.stepping.specs.declared.Begun.the-variants as begun
-use Rattle.valuing.specs.Values.{valueOf}
-use Rattle.valuing.specs.declared.Value.{Value}
-use Rattle.valuing.specs.declared.Value.the-variants as value
+use Rattle.memory_places.specs.Changes.{aboveAnswer}
+use Rattle.memory_places.specs.declared.Above.{Above}
+use Rattle.memory_places.specs.declared.Above.the-variants as above
+use Rattle.registry_retire.specs.Answers.{childAnswer}
+use Rattle.registry_retire.specs.declared.Child.{Child}
+use Rattle.registry_retire.specs.declared.Child.the-variants as child
+use Rattle.registry_steps.specs.Lives.{begunAnswer}
+use Rattle.registry_steps.specs.declared.Begun.{Begun}
+use Rattle.registry_steps.specs.declared.Begun.the-variants as begun
+use Rattle.memory_values.specs.Values.{valueOf}
+use Rattle.memory_values.specs.declared.Value.{Value}
+use Rattle.memory_values.specs.declared.Value.the-variants as value
 
 pub number-exact : (a b : Number) → numberAnswer a ≡ numberAnswer b → a ≡ b
 number-exact (number.Is n) (number.Is k) e = let j : n ≡ k = cc in ap number.Is j

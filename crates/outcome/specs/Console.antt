@@ -1,110 +1,110 @@
 -- Each promise of these crates allows one outcome: the console.
 use denote.Ref.{now}
-use Rattle.decimal.specs.Numbers.{read-exact}
-use Rattle.turning.specs.Exact.{turn-exact}
-use Rattle.decimal.proofs as decimal
-use Rattle.line.proofs as line
-use Rattle.speaking.proofs as speaking
-use Rattle.naming.proofs as naming
-use Rattle.drafting.proofs as drafting
-use Rattle.turning.proofs as turning
-use Rattle.showing.proofs as showing
-use Rattle.carrying.proofs as carrying
-use Rattle.enrolling.proofs as enrolling
-use Rattle.answering.proofs as answering
+use Rattle.text_decimal.specs.Numbers.{read-exact}
+use Rattle.console_slot.specs.Exact.{turn-exact}
+use Rattle.text_decimal.proofs as text_decimal
+use Rattle.console_words.proofs as console_words
+use Rattle.console_answer.proofs as console_answer
+use Rattle.console_names.proofs as console_names
+use Rattle.console_definition.proofs as console_definition
+use Rattle.console_slot.proofs as console_slot
+use Rattle.console_show.proofs as console_show
+use Rattle.console_operations.proofs as console_operations
+use Rattle.console_register.proofs as console_register
+use Rattle.console_line.proofs as console_line
 use Rattle.outcome.specs.One.{One, OneSeen}
 use Rattle.outcome.specs.Equations.{by-equation, by-three, one-outcome}
 use Rattle.outcome.specs.Records.{gathered-one, leaves-one, numbered-one, page-one, spanned-one, three-one, turns-one, written-one}
 
-pub decimal-write-decimal : One decimal.«write_decimal».ended decimal.«write_decimal».Reads.Learnt
-decimal-write-decimal κs a r s ms ns p q = written-one p q
+pub text-decimal-write-decimal : One text_decimal.«write_decimal».ended text_decimal.«write_decimal».Reads.Learnt
+text-decimal-write-decimal κs a r s ms ns p q = written-one p q
 
-pub decimal-read-decimal : One decimal.«read_decimal».ended decimal.«read_decimal».Reads.Learnt
-decimal-read-decimal κs a r s ms ns p q = one-outcome read-exact p q
+pub text-decimal-read-decimal : One text_decimal.«read_decimal».ended text_decimal.«read_decimal».Reads.Learnt
+text-decimal-read-decimal κs a r s ms ns p q = one-outcome read-exact p q
 
-pub line-next-word : One line.«next_word».ended line.«next_word».Reads.Learnt
-line-next-word κs a r s ms ns p q = spanned-one p q
+pub console-words-next-word : One console_words.«next_word».ended console_words.«next_word».Reads.Learnt
+console-words-next-word κs a r s ms ns p q = spanned-one p q
 
-pub line-is-word : One line.«is_word».ended line.«is_word».Reads.Learnt
-line-is-word κs a r s ms ns p q = by-equation p q
+pub console-words-is-word : One console_words.«is_word».ended console_words.«is_word».Reads.Learnt
+console-words-is-word κs a r s ms ns p q = by-equation p q
 
-pub line-numbers : One line.numbers.ended line.numbers.Reads.Learnt
-line-numbers κs a r s ms ns p q = gathered-one p q
+pub console-words-numbers : One console_words.numbers.ended console_words.numbers.Reads.Learnt
+console-words-numbers κs a r s ms ns p q = gathered-one p q
 
-pub speaking-put : One speaking.put.ended speaking.put.Reads.Learnt
-speaking-put κs a r s ms ns p q = page-one p q
+pub console-answer-put : One console_answer.put.ended console_answer.put.Reads.Learnt
+console-answer-put κs a r s ms ns p q = page-one p q
 
-pub speaking-number : One speaking.number.ended speaking.number.Reads.Learnt
-speaking-number κs a r s ms ns p q = page-one p q
+pub console-answer-number : One console_answer.number.ended console_answer.number.Reads.Learnt
+console-answer-number κs a r s ms ns p q = page-one p q
 
-pub speaking-numbers : One speaking.numbers.ended speaking.numbers.Reads.Learnt
-speaking-numbers κs a r s ms ns p q = page-one p q
+pub console-answer-numbers : One console_answer.numbers.ended console_answer.numbers.Reads.Learnt
+console-answer-numbers κs a r s ms ns p q = page-one p q
 
-pub speaking-answer : One speaking.answer.ended speaking.answer.Reads.Learnt
-speaking-answer κs a r s ms ns p q = page-one p q
+pub console-answer-answer : One console_answer.answer.ended console_answer.answer.Reads.Learnt
+console-answer-answer κs a r s ms ns p q = page-one p q
 
-pub speaking-answer-or-none : One speaking.«answer_or_none».ended speaking.«answer_or_none».Reads.Learnt
-speaking-answer-or-none κs a r s ms ns p q = page-one p q
+pub console-answer-answer-or-none : One console_answer.«answer_or_none».ended console_answer.«answer_or_none».Reads.Learnt
+console-answer-answer-or-none κs a r s ms ns p q = page-one p q
 
-pub speaking-told : One speaking.told.ended speaking.told.Reads.Learnt
-speaking-told κs a r s ms ns p q = page-one p q
+pub console-answer-told : One console_answer.told.ended console_answer.told.Reads.Learnt
+console-answer-told κs a r s ms ns p q = page-one p q
 
-pub speaking-or-none : One speaking.«or_none».ended speaking.«or_none».Reads.Learnt
-speaking-or-none κs a r s ms ns p q = page-one p q
+pub console-answer-or-none : One console_answer.«or_none».ended console_answer.«or_none».Reads.Learnt
+console-answer-or-none κs a r s ms ns p q = page-one p q
 
-pub speaking-yes-no : One speaking.«yes_no».ended speaking.«yes_no».Reads.Learnt
-speaking-yes-no κs a r s ms ns p q = page-one p q
+pub console-answer-yes-no : One console_answer.«yes_no».ended console_answer.«yes_no».Reads.Learnt
+console-answer-yes-no κs a r s ms ns p q = page-one p q
 
-pub speaking-front : OneSeen speaking.front.ended (λ κs r. now r) speaking.front.Reads.Learnt
-speaking-front κs a r s ms ns p q = by-equation p q
+pub console-answer-front : OneSeen console_answer.front.ended (λ κs r. now r) console_answer.front.Reads.Learnt
+console-answer-front κs a r s ms ns p q = by-equation p q
 
-pub speaking-shown : One speaking.shown.ended speaking.shown.Reads.Learnt
-speaking-shown κs a r s ms ns p q = page-one p q
+pub console-answer-shown : One console_answer.shown.ended console_answer.shown.Reads.Learnt
+console-answer-shown κs a r s ms ns p q = page-one p q
 
-pub naming-which : One naming.which.ended naming.which.Reads.Learnt
-naming-which κs a r s ms ns p q = by-equation p q
+pub console-names-which : One console_names.which.ended console_names.which.Reads.Learnt
+console-names-which κs a r s ms ns p q = by-equation p q
 
-pub naming-operation : One naming.operation.ended naming.operation.Reads.Learnt
-naming-operation κs a r s ms ns p q = by-equation p q
+pub console-names-operation : One console_names.operation.ended console_names.operation.Reads.Learnt
+console-names-operation κs a r s ms ns p q = by-equation p q
 
-pub naming-numbers : One naming.numbers.ended naming.numbers.Reads.Learnt
-naming-numbers κs a r s ms ns p q = numbered-one p q
+pub console-names-numbers : One console_names.numbers.ended console_names.numbers.Reads.Learnt
+console-names-numbers κs a r s ms ns p q = numbered-one p q
 
-pub drafting-read-parent : One drafting.«read_parent».ended drafting.«read_parent».Reads.Learnt
-drafting-read-parent κs a r s ms ns p q = by-equation p q
+pub console-definition-read-parent : One console_definition.«read_parent».ended console_definition.«read_parent».Reads.Learnt
+console-definition-read-parent κs a r s ms ns p q = by-equation p q
 
-pub drafting-read-head : One drafting.«read_head».ended drafting.«read_head».Reads.Learnt
-drafting-read-head κs a r s ms ns p q = by-equation p q
+pub console-definition-read-head : One console_definition.«read_head».ended console_definition.«read_head».Reads.Learnt
+console-definition-read-head κs a r s ms ns p q = by-equation p q
 
-pub drafting-three-lists : One drafting.«three_lists».ended drafting.«three_lists».Reads.Learnt
-drafting-three-lists κs a r s ms ns p q = three-one p q
+pub console-definition-three-lists : One console_definition.«three_lists».ended console_definition.«three_lists».Reads.Learnt
+console-definition-three-lists κs a r s ms ns p q = three-one p q
 
-pub turning-turned : One turning.turned.ended turning.turned.Reads.Learnt
-turning-turned κs a r s ms ns p q = one-outcome turn-exact p q
+pub console-slot-turned : One console_slot.turned.ended console_slot.turned.Reads.Learnt
+console-slot-turned κs a r s ms ns p q = one-outcome turn-exact p q
 
-pub turning-slot-line : One turning.«slot_line».ended turning.«slot_line».Reads.Learnt
-turning-slot-line κs a r s ms ns p q = turns-one p q
+pub console-slot-slot-line : One console_slot.«slot_line».ended console_slot.«slot_line».Reads.Learnt
+console-slot-slot-line κs a r s ms ns p q = turns-one p q
 
-pub showing-spoken : One showing.spoken.ended showing.spoken.Reads.Learnt
-showing-spoken κs a r s ms ns p q = page-one p q
+pub console-show-spoken : One console_show.spoken.ended console_show.spoken.Reads.Learnt
+console-show-spoken κs a r s ms ns p q = page-one p q
 
-pub showing-buffered : One showing.buffered.ended showing.buffered.Reads.Learnt
-showing-buffered κs a r s ms ns p q = page-one p q
+pub console-show-buffered : One console_show.buffered.ended console_show.buffered.Reads.Learnt
+console-show-buffered κs a r s ms ns p q = page-one p q
 
-pub showing-shown : One showing.shown.ended showing.shown.Reads.Learnt
-showing-shown κs a r s ms ns p q = page-one p q
+pub console-show-shown : One console_show.shown.ended console_show.shown.Reads.Learnt
+console-show-shown κs a r s ms ns p q = page-one p q
 
-pub carrying-carried-out : One carrying.«carried_out».ended carrying.«carried_out».Reads.Learnt
-carrying-carried-out κs a r s ms ns p q = by-three p q
+pub console-operations-carried-out : One console_operations.«carried_out».ended console_operations.«carried_out».Reads.Learnt
+console-operations-carried-out κs a r s ms ns p q = by-three p q
 
-pub carrying-listed : One carrying.listed.ended carrying.listed.Reads.Learnt
-carrying-listed κs a r s ms ns p q = by-three p q
+pub console-operations-listed : One console_operations.listed.ended console_operations.listed.Reads.Learnt
+console-operations-listed κs a r s ms ns p q = by-three p q
 
-pub enrolling-enrolled : One enrolling.enrolled.ended enrolling.enrolled.Reads.Learnt
-enrolling-enrolled κs a r s ms ns p q = by-three p q
+pub console-register-enrolled : One console_register.enrolled.ended console_register.enrolled.Reads.Learnt
+console-register-enrolled κs a r s ms ns p q = by-three p q
 
-pub answering-answered : One answering.answered.ended answering.answered.Reads.Learnt
-answering-answered κs a r s ms ns p q = leaves-one p q
+pub console-line-answered : One console_line.answered.ended console_line.answered.Reads.Learnt
+console-line-answered κs a r s ms ns p q = leaves-one p q
 
-pub answering-ended : One answering.ended.ended answering.ended.Reads.Learnt
-answering-ended κs a r s ms ns p q = leaves-one p q
+pub console-line-ended : One console_line.ended.ended console_line.ended.Reads.Learnt
+console-line-ended κs a r s ms ns p q = leaves-one p q

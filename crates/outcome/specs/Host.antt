@@ -1,65 +1,65 @@
 -- Each promise of these crates allows one outcome: what a host is told, and what it calls.
-use Rattle.telling.proofs as telling
+use Rattle.host_answers.proofs as host_answers
 use Rattle.host.proofs as host
 use Rattle.outcome.specs.One.{One}
 use Rattle.outcome.specs.Equations.{by-equation, by-three, by-two, memory-alone, one-number}
 
-pub telling-done : One telling.done.ended telling.done.Reads.Learnt
-telling-done κs a r s ms ns p q = by-equation p q
+pub host-answers-done : One host_answers.done.ended host_answers.done.Reads.Learnt
+host-answers-done κs a r s ms ns p q = by-equation p q
 
-pub telling-verdict : One telling.verdict.ended telling.verdict.Reads.Learnt
-telling-verdict κs a r s ms ns p q = by-equation p q
+pub host-answers-verdict : One host_answers.verdict.ended host_answers.verdict.Reads.Learnt
+host-answers-verdict κs a r s ms ns p q = by-equation p q
 
-pub telling-whether : One telling.whether.ended telling.whether.Reads.Learnt
-telling-whether κs a r s ms ns p q = by-two p q
+pub host-answers-whether : One host_answers.whether.ended host_answers.whether.Reads.Learnt
+host-answers-whether κs a r s ms ns p q = by-two p q
 
-pub telling-number : One telling.number.ended telling.number.Reads.Learnt
-telling-number κs a r s ms ns p q = by-two p q
+pub host-answers-number : One host_answers.number.ended host_answers.number.Reads.Learnt
+host-answers-number κs a r s ms ns p q = by-two p q
 
-pub telling-perhaps : One telling.perhaps.ended telling.perhaps.Reads.Learnt
-telling-perhaps κs a r s ms ns p q = by-two p q
+pub host-answers-perhaps : One host_answers.perhaps.ended host_answers.perhaps.Reads.Learnt
+host-answers-perhaps κs a r s ms ns p q = by-two p q
 
-pub telling-port : One telling.port.ended telling.port.Reads.Learnt
-telling-port κs a r s ms ns p q = by-two p q
+pub host-answers-port : One host_answers.port.ended host_answers.port.Reads.Learnt
+host-answers-port κs a r s ms ns p q = by-two p q
 
-pub telling-root : One telling.root.ended telling.root.Reads.Learnt
-telling-root κs a r s ms ns p q = by-two p q
+pub host-answers-root : One host_answers.root.ended host_answers.root.Reads.Learnt
+host-answers-root κs a r s ms ns p q = by-two p q
 
-pub telling-resolved : One telling.resolved.ended telling.resolved.Reads.Learnt
-telling-resolved κs a r s ms ns p q = by-two p q
+pub host-answers-resolved : One host_answers.resolved.ended host_answers.resolved.Reads.Learnt
+host-answers-resolved κs a r s ms ns p q = by-two p q
 
-pub telling-listed : One telling.listed.ended telling.listed.Reads.Learnt
-telling-listed κs a r s ms ns p q = by-two p q
+pub host-answers-listed : One host_answers.listed.ended host_answers.listed.Reads.Learnt
+host-answers-listed κs a r s ms ns p q = by-two p q
 
-pub telling-above : One telling.above.ended telling.above.Reads.Learnt
-telling-above κs a r s ms ns p q = by-two p q
+pub host-answers-above : One host_answers.above.ended host_answers.above.Reads.Learnt
+host-answers-above κs a r s ms ns p q = by-two p q
 
-pub telling-registered : One telling.registered.ended telling.registered.Reads.Learnt
-telling-registered κs a r s ms ns p q = by-two p q
+pub host-answers-registered : One host_answers.registered.ended host_answers.registered.Reads.Learnt
+host-answers-registered κs a r s ms ns p q = by-two p q
 
-pub telling-begun : One telling.begun.ended telling.begun.Reads.Learnt
-telling-begun κs a r s ms ns p q = by-two p q
+pub host-answers-begun : One host_answers.begun.ended host_answers.begun.Reads.Learnt
+host-answers-begun κs a r s ms ns p q = by-two p q
 
-pub telling-replaced : One telling.replaced.ended telling.replaced.Reads.Learnt
-telling-replaced κs a r s ms ns p q = by-two p q
+pub host-answers-replaced : One host_answers.replaced.ended host_answers.replaced.Reads.Learnt
+host-answers-replaced κs a r s ms ns p q = by-two p q
 
-pub telling-admitted : One telling.admitted.ended telling.admitted.Reads.Learnt
-telling-admitted κs a r s ms ns p q = by-two p q
+pub host-answers-admitted : One host_answers.admitted.ended host_answers.admitted.Reads.Learnt
+host-answers-admitted κs a r s ms ns p q = by-two p q
 
-pub telling-called : One telling.called.ended telling.called.Reads.Learnt
-telling-called κs a r s ms ns p q = by-two p q
+pub host-answers-called : One host_answers.called.ended host_answers.called.Reads.Learnt
+host-answers-called κs a r s ms ns p q = by-two p q
 
-pub telling-child : One telling.child.ended telling.child.Reads.Learnt
-telling-child κs a r s ms ns p q = by-two p q
+pub host-answers-child : One host_answers.child.ended host_answers.child.Reads.Learnt
+host-answers-child κs a r s ms ns p q = by-two p q
 
-pub telling-reading : One telling.reading.ended telling.reading.Reads.Learnt
-telling-reading κs a r s ms ns p q = by-two p q
+pub host-answers-reading : One host_answers.reading.ended host_answers.reading.Reads.Learnt
+host-answers-reading κs a r s ms ns p q = by-two p q
 
-pub telling-value : One telling.value.ended telling.value.Reads.Learnt
-telling-value κs a r s ms ns p q = by-two p q
+pub host-answers-value : One host_answers.value.ended host_answers.value.Reads.Learnt
+host-answers-value κs a r s ms ns p q = by-two p q
 
-pub telling-yes-or-no : One telling.«yes_or_no».ended telling.«yes_or_no».Reads.Learnt
-telling-yes-or-no κs a r s ms ns p q = by-two p q
+pub host-answers-yes-or-no : One host_answers.«yes_or_no».ended host_answers.«yes_or_no».Reads.Learnt
+host-answers-yes-or-no κs a r s ms ns p q = by-two p q
 
 pub host-vaskelbi-admit : One host.«vaskelbi_admit».ended host.«vaskelbi_admit».Reads.Learnt
 host-vaskelbi-admit κs a r s ms ns p q = by-three p q

@@ -1,14 +1,14 @@
 -- Each promise of these crates allows one outcome: the forms that the rules and the code share, and lists of keys and ports.
-use Rattle.listing.specs.Answers.{answer-exact}
+use Rattle.ports_listed.specs.Answers.{answer-exact}
 use Rattle.ports.specs.Answers.{resolved-exact}
 use Rattle.slot.specs.Exact.{decided-exact, slot-exact}
 use Rattle.rules.proofs as rules
 use Rattle.slot.proofs as slot
-use Rattle.listing.proofs as listing
+use Rattle.ports_listed.proofs as ports_listed
 use Rattle.ports.proofs as ports
-use Rattle.claiming.proofs as claiming
-use Rattle.resolving.proofs as resolving
-use Rattle.inherit.proofs as inherit
+use Rattle.ports_claimed.proofs as ports_claimed
+use Rattle.ports_resolved.proofs as ports_resolved
+use Rattle.ports_inherited.proofs as ports_inherited
 use Rattle.outcome.specs.One.{One}
 use Rattle.outcome.specs.Equations.{by-equation, by-two, one-outcome, one-with-memory}
 
@@ -42,8 +42,8 @@ slot-Slot-reject κs a r s ms ns p q = one-outcome decided-exact p q
 pub slot-Slot-cancel : One slot.Slot.cancel.ended slot.Slot.cancel.Reads.Learnt
 slot-Slot-cancel κs a r s ms ns p q = one-outcome decided-exact p q
 
-pub listing-list-ports : One listing.«list_ports».ended listing.«list_ports».Reads.Learnt
-listing-list-ports κs a r s ms ns p q = one-with-memory answer-exact p q
+pub ports-listed-list-ports : One ports_listed.«list_ports».ended ports_listed.«list_ports».Reads.Learnt
+ports-listed-list-ports κs a r s ms ns p q = one-with-memory answer-exact p q
 
 pub ports-bad-realms : One ports.«bad_realms».ended ports.«bad_realms».Reads.Learnt
 ports-bad-realms κs a r s ms ns p q = by-equation p q
@@ -66,17 +66,17 @@ ports-same-ports κs a r s ms ns p q = by-equation p q
 pub ports-repeated : One ports.repeated.ended ports.repeated.Reads.Learnt
 ports-repeated κs a r s ms ns p q = by-equation p q
 
-pub claiming-repeated-key : One claiming.«repeated_key».ended claiming.«repeated_key».Reads.Learnt
-claiming-repeated-key κs a r s ms ns p q = by-equation p q
+pub ports-claimed-repeated-key : One ports_claimed.«repeated_key».ended ports_claimed.«repeated_key».Reads.Learnt
+ports-claimed-repeated-key κs a r s ms ns p q = by-equation p q
 
-pub claiming-claims : One claiming.claims.ended claiming.claims.Reads.Learnt
-claiming-claims κs a r s ms ns p q = by-equation p q
+pub ports-claimed-claims : One ports_claimed.claims.ended ports_claimed.claims.Reads.Learnt
+ports-claimed-claims κs a r s ms ns p q = by-equation p q
 
-pub resolving-declared : One resolving.declared.ended resolving.declared.Reads.Learnt
-resolving-declared κs a r s ms ns p q = by-two p q
+pub ports-resolved-declared : One ports_resolved.declared.ended ports_resolved.declared.Reads.Learnt
+ports-resolved-declared κs a r s ms ns p q = by-two p q
 
-pub resolving-candidate : One resolving.candidate.ended resolving.candidate.Reads.Learnt
-resolving-candidate κs a r s ms ns p q = by-equation p q
+pub ports-resolved-candidate : One ports_resolved.candidate.ended ports_resolved.candidate.Reads.Learnt
+ports-resolved-candidate κs a r s ms ns p q = by-equation p q
 
-pub inherit-dependency-list : One inherit.«dependency_list».ended inherit.«dependency_list».Reads.Learnt
-inherit-dependency-list κs a r s ms ns p q = by-equation p q
+pub ports-inherited-dependency-list : One ports_inherited.«dependency_list».ended ports_inherited.«dependency_list».Reads.Learnt
+ports-inherited-dependency-list κs a r s ms ns p q = by-equation p q

@@ -4,21 +4,21 @@ use mathlib.Core.Path.{_≡_, ap}
 use mathlib.Core.List.{List}
 use Rattle.slot.specs.Slots.{slotOf}
 use Rattle.slot.specs.Exact.{slot-exact}
-use Rattle.decimal.specs.Digits.{Written}
-use Rattle.line.specs.Words.{Spanned}
-use Rattle.line.specs.Runs.{Gathered}
-use Rattle.line.specs.Fronts.{Front}
-use Rattle.line.specs.declared.Span.{Span}
-use Rattle.line.specs.declared.Run.{Run}
-use Rattle.naming.specs.Behind.{Numbered}
-use Rattle.naming.specs.declared.Behind.{Behind}
-use Rattle.drafting.specs.Draft.{ThreeLists}
-use Rattle.drafting.specs.Found.{Three}
-use Rattle.drafting.specs.declared.Lists.{Lists}
-use Rattle.speaking.specs.Pages.{Page, upTo}
-use Rattle.turning.specs.Lines.{Turned, Turns}
-use Rattle.turning.specs.declared.Said.{Said}
-use Rattle.answering.specs.Console.{After, Leaves}
+use Rattle.text_decimal.specs.Digits.{Written}
+use Rattle.console_words.specs.Words.{Spanned}
+use Rattle.console_words.specs.Runs.{Gathered}
+use Rattle.console_words.specs.Fronts.{Front}
+use Rattle.console_words.specs.declared.Span.{Span}
+use Rattle.console_words.specs.declared.Run.{Run}
+use Rattle.console_names.specs.Behind.{Numbered}
+use Rattle.console_names.specs.declared.Behind.{Behind}
+use Rattle.console_definition.specs.Draft.{ThreeLists}
+use Rattle.console_definition.specs.Found.{Three}
+use Rattle.console_definition.specs.declared.Lists.{Lists}
+use Rattle.console_answer.specs.Pages.{Page, upTo}
+use Rattle.console_slot.specs.Lines.{Turned, Turns}
+use Rattle.console_slot.specs.declared.Said.{Said}
+use Rattle.console_line.specs.Console.{After, Leaves}
 use Rattle.outcome.specs.Equations.{by-equation}
 
 -- Digits, and their count.

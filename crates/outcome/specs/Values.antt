@@ -1,88 +1,88 @@
 -- Each promise of these crates allows one outcome: values, settling, offers and registration.
 use denote.Ref.{now}
-use Rattle.asking.specs.Answers.{perhaps-exact, port-exact}
-use Rattle.living.specs.Told.{done-exact, whether-exact}
-use Rattle.registering.specs.Written.{registered-exact}
-use Rattle.values.specs.Answers.{reading-exact, value-exact}
-use Rattle.valuing.proofs as valuing
-use Rattle.settling.proofs as settling
-use Rattle.values.proofs as values
-use Rattle.offering.proofs as offering
-use Rattle.checks.proofs as checks
-use Rattle.preparing.proofs as preparing
-use Rattle.registering.proofs as registering
+use Rattle.registry_queries.specs.Answers.{perhaps-exact, port-exact}
+use Rattle.memory_life.specs.Told.{done-exact, whether-exact}
+use Rattle.registry_register.specs.Written.{registered-exact}
+use Rattle.registry_values.specs.Answers.{reading-exact, value-exact}
+use Rattle.memory_values.proofs as memory_values
+use Rattle.registry_ready_finish.proofs as registry_ready_finish
+use Rattle.registry_values.proofs as registry_values
+use Rattle.registry_offer.proofs as registry_offer
+use Rattle.registry_checks.proofs as registry_checks
+use Rattle.registry_prepare.proofs as registry_prepare
+use Rattle.registry_register.proofs as registry_register
 use Rattle.outcome.specs.One.{One, OneSeen}
 use Rattle.outcome.specs.Equations.{by-equation, memory-alone, one-outcome, one-with-memory}
 use Rattle.outcome.specs.Answers.{held-exact}
 
-pub valuing-value-at : One valuing.«value_at».ended valuing.«value_at».Reads.Learnt
-valuing-value-at κs a r s ms ns p q = one-outcome held-exact p q
+pub memory-values-value-at : One memory_values.«value_at».ended memory_values.«value_at».Reads.Learnt
+memory-values-value-at κs a r s ms ns p q = one-outcome held-exact p q
 
-pub valuing-place-of : One valuing.«place_of».ended valuing.«place_of».Reads.Learnt
-valuing-place-of κs a r s ms ns p q = by-equation p q
+pub memory-values-place-of : One memory_values.«place_of».ended memory_values.«place_of».Reads.Learnt
+memory-values-place-of κs a r s ms ns p q = by-equation p q
 
-pub valuing-value-of : One valuing.«value_of».ended valuing.«value_of».Reads.Learnt
-valuing-value-of κs a r s ms ns p q = one-outcome held-exact p q
+pub memory-values-value-of : One memory_values.«value_of».ended memory_values.«value_of».Reads.Learnt
+memory-values-value-of κs a r s ms ns p q = one-outcome held-exact p q
 
-pub valuing-first-lacking : One valuing.«first_lacking».ended valuing.«first_lacking».Reads.Learnt
-valuing-first-lacking κs a r s ms ns p q = by-equation p q
+pub memory-values-first-lacking : One memory_values.«first_lacking».ended memory_values.«first_lacking».Reads.Learnt
+memory-values-first-lacking κs a r s ms ns p q = by-equation p q
 
-pub valuing-set-value : One valuing.«set_value».ended valuing.«set_value».Reads.Learnt
-valuing-set-value κs a r s ms ns p q = memory-alone p q
+pub memory-values-set-value : One memory_values.«set_value».ended memory_values.«set_value».Reads.Learnt
+memory-values-set-value κs a r s ms ns p q = memory-alone p q
 
-pub valuing-drop-values : One valuing.«drop_values».ended valuing.«drop_values».Reads.Learnt
-valuing-drop-values κs a r s ms ns p q = memory-alone p q
+pub memory-values-drop-values : One memory_values.«drop_values».ended memory_values.«drop_values».Reads.Learnt
+memory-values-drop-values κs a r s ms ns p q = memory-alone p q
 
-pub settling-ready : One settling.ready.ended settling.ready.Reads.Learnt
-settling-ready κs a r s ms ns p q = one-with-memory done-exact p q
+pub registry-ready-finish-ready : One registry_ready_finish.ready.ended registry_ready_finish.ready.Reads.Learnt
+registry-ready-finish-ready κs a r s ms ns p q = one-with-memory done-exact p q
 
-pub settling-finish : One settling.finish.ended settling.finish.Reads.Learnt
-settling-finish κs a r s ms ns p q = one-with-memory done-exact p q
+pub registry-ready-finish-finish : One registry_ready_finish.finish.ended registry_ready_finish.finish.Reads.Learnt
+registry-ready-finish-finish κs a r s ms ns p q = one-with-memory done-exact p q
 
-pub values-read : One values.read.ended values.read.Reads.Learnt
-values-read κs a r s ms ns p q = one-outcome reading-exact p q
+pub registry-values-read : One registry_values.read.ended registry_values.read.Reads.Learnt
+registry-values-read κs a r s ms ns p q = one-outcome reading-exact p q
 
-pub values-visible : One values.visible.ended values.visible.Reads.Learnt
-values-visible κs a r s ms ns p q = one-outcome value-exact p q
+pub registry-values-visible : One registry_values.visible.ended registry_values.visible.Reads.Learnt
+registry-values-visible κs a r s ms ns p q = one-outcome value-exact p q
 
-pub values-own : One values.own.ended values.own.Reads.Learnt
-values-own κs a r s ms ns p q = one-outcome perhaps-exact p q
+pub registry-values-own : One registry_values.own.ended registry_values.own.Reads.Learnt
+registry-values-own κs a r s ms ns p q = one-outcome perhaps-exact p q
 
-pub values-missing : One values.missing.ended values.missing.Reads.Learnt
-values-missing κs a r s ms ns p q = one-outcome port-exact p q
+pub registry-values-missing : One registry_values.missing.ended registry_values.missing.Reads.Learnt
+registry-values-missing κs a r s ms ns p q = one-outcome port-exact p q
 
-pub values-matches : One values.matches.ended values.matches.Reads.Learnt
-values-matches κs a r s ms ns p q = one-outcome whether-exact p q
+pub registry-values-matches : One registry_values.matches.ended registry_values.matches.Reads.Learnt
+registry-values-matches κs a r s ms ns p q = one-outcome whether-exact p q
 
-pub values-declares : One values.declares.ended values.declares.Reads.Learnt
-values-declares κs a r s ms ns p q = one-outcome whether-exact p q
+pub registry-values-declares : One registry_values.declares.ended registry_values.declares.Reads.Learnt
+registry-values-declares κs a r s ms ns p q = one-outcome whether-exact p q
 
-pub offering-offer : One offering.offer.ended offering.offer.Reads.Learnt
-offering-offer κs a r s ms ns p q = one-with-memory done-exact p q
+pub registry-offer-offer : One registry_offer.offer.ended registry_offer.offer.Reads.Learnt
+registry-offer-offer κs a r s ms ns p q = one-with-memory done-exact p q
 
-pub checks-early-verdict : One checks.«early_verdict».ended checks.«early_verdict».Reads.Learnt
-checks-early-verdict κs a r s ms ns p q = by-equation p q
+pub registry-checks-early-verdict : One registry_checks.«early_verdict».ended registry_checks.«early_verdict».Reads.Learnt
+registry-checks-early-verdict κs a r s ms ns p q = by-equation p q
 
-pub checks-claim-verdict : One checks.«claim_verdict».ended checks.«claim_verdict».Reads.Learnt
-checks-claim-verdict κs a r s ms ns p q = by-equation p q
+pub registry-checks-claim-verdict : One registry_checks.«claim_verdict».ended registry_checks.«claim_verdict».Reads.Learnt
+registry-checks-claim-verdict κs a r s ms ns p q = by-equation p q
 
-pub checks-late-verdict : One checks.«late_verdict».ended checks.«late_verdict».Reads.Learnt
-checks-late-verdict κs a r s ms ns p q = by-equation p q
+pub registry-checks-late-verdict : One registry_checks.«late_verdict».ended registry_checks.«late_verdict».Reads.Learnt
+registry-checks-late-verdict κs a r s ms ns p q = by-equation p q
 
-pub preparing-inherited : OneSeen preparing.inherited.ended (λ κs r. now r) preparing.inherited.Reads.Learnt
-preparing-inherited κs a r s ms ns p q = by-equation p q
+pub registry-prepare-inherited : OneSeen registry_prepare.inherited.ended (λ κs r. now r) registry_prepare.inherited.Reads.Learnt
+registry-prepare-inherited κs a r s ms ns p q = by-equation p q
 
-pub preparing-first-rows : OneSeen preparing.«first_rows».ended (λ κs r. now r) preparing.«first_rows».Reads.Learnt
-preparing-first-rows κs a r s ms ns p q = by-equation p q
+pub registry-prepare-first-rows : OneSeen registry_prepare.«first_rows».ended (λ κs r. now r) registry_prepare.«first_rows».Reads.Learnt
+registry-prepare-first-rows κs a r s ms ns p q = by-equation p q
 
-pub preparing-behind-anchor : One preparing.«behind_anchor».ended preparing.«behind_anchor».Reads.Learnt
-preparing-behind-anchor κs a r s ms ns p q = by-equation p q
+pub registry-prepare-behind-anchor : One registry_prepare.«behind_anchor».ended registry_prepare.«behind_anchor».Reads.Learnt
+registry-prepare-behind-anchor κs a r s ms ns p q = by-equation p q
 
-pub preparing-parent-tag : One preparing.«parent_tag».ended preparing.«parent_tag».Reads.Learnt
-preparing-parent-tag κs a r s ms ns p q = by-equation p q
+pub registry-prepare-parent-tag : One registry_prepare.«parent_tag».ended registry_prepare.«parent_tag».Reads.Learnt
+registry-prepare-parent-tag κs a r s ms ns p q = by-equation p q
 
-pub preparing-parent-word : One preparing.«parent_word».ended preparing.«parent_word».Reads.Learnt
-preparing-parent-word κs a r s ms ns p q = by-equation p q
+pub registry-prepare-parent-word : One registry_prepare.«parent_word».ended registry_prepare.«parent_word».Reads.Learnt
+registry-prepare-parent-word κs a r s ms ns p q = by-equation p q
 
-pub registering-register : One registering.register.ended registering.register.Reads.Learnt
-registering-register κs a r s ms ns p q = one-with-memory registered-exact p q
+pub registry-register-register : One registry_register.register.ended registry_register.register.Reads.Learnt
+registry-register-register κs a r s ms ns p q = one-with-memory registered-exact p q

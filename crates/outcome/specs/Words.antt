@@ -2,14 +2,14 @@
 use denote.Ref.{now}
 use Rattle.slot.specs.Exact.{verdict-exact}
 use Rattle.memory.proofs as memory
-use Rattle.rows.proofs as rows
-use Rattle.slots.proofs as slots
-use Rattle.living.proofs as living
-use Rattle.phases.proofs as phases
-use Rattle.places.proofs as places
-use Rattle.blocks.proofs as blocks
-use Rattle.filling.proofs as filling
-use Rattle.providing.proofs as providing
+use Rattle.memory_lists.proofs as memory_lists
+use Rattle.slot_words.proofs as slot_words
+use Rattle.memory_life.proofs as memory_life
+use Rattle.registry_table.proofs as registry_table
+use Rattle.memory_places.proofs as memory_places
+use Rattle.memory_rows.proofs as memory_rows
+use Rattle.memory_entry.proofs as memory_entry
+use Rattle.memory_providers.proofs as memory_providers
 use Rattle.outcome.specs.One.{One, OneSeen}
 use Rattle.outcome.specs.Equations.{by-equation, memory-alone, one-outcome, one-with-memory}
 use Rattle.outcome.specs.Answers.{above-exact, parent-exact}
@@ -41,92 +41,92 @@ memory-parent-of κs a r s ms ns p q = one-outcome parent-exact p q
 pub memory-is-child-of : One memory.«is_child_of».ended memory.«is_child_of».Reads.Learnt
 memory-is-child-of κs a r s ms ns p q = by-equation p q
 
-pub rows-some-words : OneSeen rows.«some_words».ended (λ κs r. now r) rows.«some_words».Reads.Learnt
-rows-some-words κs a r s ms ns p q = by-equation p q
+pub memory-lists-some-words : OneSeen memory_lists.«some_words».ended (λ κs r. now r) memory_lists.«some_words».Reads.Learnt
+memory-lists-some-words κs a r s ms ns p q = by-equation p q
 
-pub rows-start : One rows.start.ended rows.start.Reads.Learnt
-rows-start κs a r s ms ns p q = by-equation p q
+pub memory-lists-start : One memory_lists.start.ended memory_lists.start.Reads.Learnt
+memory-lists-start κs a r s ms ns p q = by-equation p q
 
-pub rows-dependencies : One rows.dependencies.ended rows.dependencies.Reads.Learnt
-rows-dependencies κs a r s ms ns p q = by-equation p q
+pub memory-lists-dependencies : One memory_lists.dependencies.ended memory_lists.dependencies.Reads.Learnt
+memory-lists-dependencies κs a r s ms ns p q = by-equation p q
 
-pub rows-provisions : One rows.provisions.ended rows.provisions.Reads.Learnt
-rows-provisions κs a r s ms ns p q = by-equation p q
+pub memory-lists-provisions : One memory_lists.provisions.ended memory_lists.provisions.Reads.Learnt
+memory-lists-provisions κs a r s ms ns p q = by-equation p q
 
-pub rows-realm-rows : One rows.«realm_rows».ended rows.«realm_rows».Reads.Learnt
-rows-realm-rows κs a r s ms ns p q = by-equation p q
+pub memory-lists-realm-rows : One memory_lists.«realm_rows».ended memory_lists.«realm_rows».Reads.Learnt
+memory-lists-realm-rows κs a r s ms ns p q = by-equation p q
 
-pub rows-dependency-words : OneSeen rows.«dependency_words».ended (λ κs r. now r) rows.«dependency_words».Reads.Learnt
-rows-dependency-words κs a r s ms ns p q = by-equation p q
+pub memory-lists-dependency-words : OneSeen memory_lists.«dependency_words».ended (λ κs r. now r) memory_lists.«dependency_words».Reads.Learnt
+memory-lists-dependency-words κs a r s ms ns p q = by-equation p q
 
-pub rows-provision-words : OneSeen rows.«provision_words».ended (λ κs r. now r) rows.«provision_words».Reads.Learnt
-rows-provision-words κs a r s ms ns p q = by-equation p q
+pub memory-lists-provision-words : OneSeen memory_lists.«provision_words».ended (λ κs r. now r) memory_lists.«provision_words».Reads.Learnt
+memory-lists-provision-words κs a r s ms ns p q = by-equation p q
 
-pub rows-realm-words : OneSeen rows.«realm_words».ended (λ κs r. now r) rows.«realm_words».Reads.Learnt
-rows-realm-words κs a r s ms ns p q = by-equation p q
+pub memory-lists-realm-words : OneSeen memory_lists.«realm_words».ended (λ κs r. now r) memory_lists.«realm_words».Reads.Learnt
+memory-lists-realm-words κs a r s ms ns p q = by-equation p q
 
-pub rows-anchor : One rows.anchor.ended rows.anchor.Reads.Learnt
-rows-anchor κs a r s ms ns p q = by-equation p q
+pub memory-lists-anchor : One memory_lists.anchor.ended memory_lists.anchor.Reads.Learnt
+memory-lists-anchor κs a r s ms ns p q = by-equation p q
 
-pub slots-load : One slots.load.ended slots.load.Reads.Learnt
-slots-load κs a r s ms ns p q = by-equation p q
+pub slot-words-load : One slot_words.load.ended slot_words.load.Reads.Learnt
+slot-words-load κs a r s ms ns p q = by-equation p q
 
-pub slots-store : One slots.store.ended slots.store.Reads.Learnt
-slots-store κs a r s ms ns p q = memory-alone p q
+pub slot-words-store : One slot_words.store.ended slot_words.store.Reads.Learnt
+slot-words-store κs a r s ms ns p q = memory-alone p q
 
-pub slots-assign : One slots.assign.ended slots.assign.Reads.Learnt
-slots-assign κs a r s ms ns p q = one-with-memory verdict-exact p q
+pub slot-words-assign : One slot_words.assign.ended slot_words.assign.Reads.Learnt
+slot-words-assign κs a r s ms ns p q = one-with-memory verdict-exact p q
 
-pub slots-reject : One slots.reject.ended slots.reject.Reads.Learnt
-slots-reject κs a r s ms ns p q = one-with-memory verdict-exact p q
+pub slot-words-reject : One slot_words.reject.ended slot_words.reject.Reads.Learnt
+slot-words-reject κs a r s ms ns p q = one-with-memory verdict-exact p q
 
-pub slots-cancel : One slots.cancel.ended slots.cancel.Reads.Learnt
-slots-cancel κs a r s ms ns p q = one-with-memory verdict-exact p q
+pub slot-words-cancel : One slot_words.cancel.ended slot_words.cancel.Reads.Learnt
+slot-words-cancel κs a r s ms ns p q = one-with-memory verdict-exact p q
 
-pub living-phase-of : One living.«phase_of».ended living.«phase_of».Reads.Learnt
-living-phase-of κs a r s ms ns p q = by-equation p q
+pub memory-life-phase-of : One memory_life.«phase_of».ended memory_life.«phase_of».Reads.Learnt
+memory-life-phase-of κs a r s ms ns p q = by-equation p q
 
-pub living-load : One living.load.ended living.load.Reads.Learnt
-living-load κs a r s ms ns p q = by-equation p q
+pub memory-life-load : One memory_life.load.ended memory_life.load.Reads.Learnt
+memory-life-load κs a r s ms ns p q = by-equation p q
 
-pub living-store : One living.store.ended living.store.Reads.Learnt
-living-store κs a r s ms ns p q = memory-alone p q
+pub memory-life-store : One memory_life.store.ended memory_life.store.Reads.Learnt
+memory-life-store κs a r s ms ns p q = memory-alone p q
 
-pub living-renew : One living.renew.ended living.renew.Reads.Learnt
-living-renew κs a r s ms ns p q = memory-alone p q
+pub memory-life-renew : One memory_life.renew.ended memory_life.renew.Reads.Learnt
+memory-life-renew κs a r s ms ns p q = memory-alone p q
 
-pub phases-next : One phases.next.ended phases.next.Reads.Learnt
-phases-next κs a r s ms ns p q = by-equation p q
+pub registry-table-next : One registry_table.next.ended registry_table.next.Reads.Learnt
+registry-table-next κs a r s ms ns p q = by-equation p q
 
-pub places-registered : One places.registered.ended places.registered.Reads.Learnt
-places-registered κs a r s ms ns p q = by-equation p q
+pub memory-places-registered : One memory_places.registered.ended memory_places.registered.Reads.Learnt
+memory-places-registered κs a r s ms ns p q = by-equation p q
 
-pub places-lowest-free : One places.«lowest_free».ended places.«lowest_free».Reads.Learnt
-places-lowest-free κs a r s ms ns p q = by-equation p q
+pub memory-places-lowest-free : One memory_places.«lowest_free».ended memory_places.«lowest_free».Reads.Learnt
+memory-places-lowest-free κs a r s ms ns p q = by-equation p q
 
-pub places-occupy : One places.occupy.ended places.occupy.Reads.Learnt
-places-occupy κs a r s ms ns p q = memory-alone p q
+pub memory-places-occupy : One memory_places.occupy.ended memory_places.occupy.Reads.Learnt
+memory-places-occupy κs a r s ms ns p q = memory-alone p q
 
-pub places-vacate : One places.vacate.ended places.vacate.Reads.Learnt
-places-vacate κs a r s ms ns p q = memory-alone p q
+pub memory-places-vacate : One memory_places.vacate.ended memory_places.vacate.Reads.Learnt
+memory-places-vacate κs a r s ms ns p q = memory-alone p q
 
-pub places-rows-in-use : One places.«rows_in_use».ended places.«rows_in_use».Reads.Learnt
-places-rows-in-use κs a r s ms ns p q = by-equation p q
+pub memory-places-rows-in-use : One memory_places.«rows_in_use».ended memory_places.«rows_in_use».Reads.Learnt
+memory-places-rows-in-use κs a r s ms ns p q = by-equation p q
 
-pub places-id-from : One places.«id_from».ended places.«id_from».Reads.Learnt
-places-id-from κs a r s ms ns p q = one-outcome above-exact p q
+pub memory-places-id-from : One memory_places.«id_from».ended memory_places.«id_from».Reads.Learnt
+memory-places-id-from κs a r s ms ns p q = one-outcome above-exact p q
 
-pub blocks-free-place : One blocks.«free_place».ended blocks.«free_place».Reads.Learnt
-blocks-free-place κs a r s ms ns p q = memory-alone p q
+pub memory-rows-free-place : One memory_rows.«free_place».ended memory_rows.«free_place».Reads.Learnt
+memory-rows-free-place κs a r s ms ns p q = memory-alone p q
 
-pub filling-fill-place : One filling.«fill_place».ended filling.«fill_place».Reads.Learnt
-filling-fill-place κs a r s ms ns p q = memory-alone p q
+pub memory-entry-fill-place : One memory_entry.«fill_place».ended memory_entry.«fill_place».Reads.Learnt
+memory-entry-fill-place κs a r s ms ns p q = memory-alone p q
 
-pub providing-provides : One providing.provides.ended providing.provides.Reads.Learnt
-providing-provides κs a r s ms ns p q = by-equation p q
+pub memory-providers-provides : One memory_providers.provides.ended memory_providers.provides.Reads.Learnt
+memory-providers-provides κs a r s ms ns p q = by-equation p q
 
-pub providing-provider : One providing.provider.ended providing.provider.Reads.Learnt
-providing-provider κs a r s ms ns p q = by-equation p q
+pub memory-providers-provider : One memory_providers.provider.ended memory_providers.provider.Reads.Learnt
+memory-providers-provider κs a r s ms ns p q = by-equation p q
 
-pub providing-one-provided : One providing.«one_provided».ended providing.«one_provided».Reads.Learnt
-providing-one-provided κs a r s ms ns p q = by-equation p q
+pub memory-providers-one-provided : One memory_providers.«one_provided».ended memory_providers.«one_provided».Reads.Learnt
+memory-providers-one-provided κs a r s ms ns p q = by-equation p q

@@ -7,7 +7,7 @@ use lib.ListN.{length, getD, set, drop, drop-of-length-le}
 use lib.Seq.{drop-cons}
 use borrow.Author.Tests.{eq-eqb, ne-eqb, lt-ltb, le-ltb}
 use Rattle.rules.specs.Slot.{Slot}
-use Rattle.answering.specs.Console.{After}
+use Rattle.console_line.specs.Console.{After}
 use Rattle.replay.specs.Fed.{Kept, kept, left, endLine, longerBytes, longerCount, byteFed, fed}
 
 module _ (filled : ℕ) where

@@ -5,8 +5,8 @@ use lib.Dec.{eqb, ltb}
 use lib.ListN.{set, replicate}
 use Rattle.rules.specs.Basics.{pick}
 use Rattle.rules.specs.Slot.{Slot}
-use Rattle.speaking.specs.Pages.{upTo}
-use Rattle.answering.specs.Console.{After, lineEnded}
+use Rattle.console_answer.specs.Pages.{upTo}
+use Rattle.console_line.specs.Console.{After, lineEnded}
 
 -- The registry's words, the buffer, the slot, and of the line that has not ended its bytes and how many came.
 pub record Kept : Type 0 where

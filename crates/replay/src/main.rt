@@ -2,11 +2,11 @@
 ghost use mathlib.Core.Path.{_≡_};
 ghost use Rattle.slot.specs.Slots.{slotOf};
 ghost use Rattle.replay.specs.Fed.{kept, endLine, longerBytes, longerCount, byteFed, fed};
-use answering::LINE;
+use console_answer::ROOM;
+use console_line::LINE;
+use console_names::BUFFER_ROOM;
 use memory::WORDS;
-use naming::BUFFER_ROOM;
 use slot::Slot;
-use speaking::ROOM;
 
 // What a line leaves to the next part of the input: how many bytes of it came, and the slot.
 struct State {
@@ -17,7 +17,7 @@ struct State {
 // The whole answer, in one piece; none to a line that is passed over.
 fn say(text: &[u8; ROOM], stop: usize) {
     if 0 < stop {
-        io::write_all(1, speaking::front(text, stop));
+        io::write_all(1, console_answer::front(text, stop));
     }
 }
 
@@ -32,7 +32,7 @@ fn written(
 {
     let slot = state.slot;
     let mut text = [0u8; ROOM];
-    let said = answering::ended(m, buffer, slot, line, state.filled, &mut text);
+    let said = console_line::ended(m, buffer, slot, line, state.filled, &mut text);
     let left = said.slot;
     say(&text, said.stop);
     left

@@ -1,7 +1,7 @@
 use lib.ListN.{replicate}
 use Rattle.slot.specs.Slots.{slotOf}
-use Rattle.speaking.specs.Pages.{upTo}
-use Rattle.answering.specs.Console.{lineEnded}
+use Rattle.console_answer.specs.Pages.{upTo}
+use Rattle.console_line.specs.Console.{lineEnded}
 use Rattle.replay.proofs.Laws.{kept-left}
 use borrow.Author.Needs.{needs}
 use Rattle.replay.proofs.written.Statement.{statement}

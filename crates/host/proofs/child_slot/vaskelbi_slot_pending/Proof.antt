@@ -1,6 +1,6 @@
 -- `vaskelbi_slot_pending` meets its contract. Assumes nothing.
 use mathlib.Core.Path.{_∙_, ap}
-use Rattle.slots.specs.Words.{putSlot}
+use Rattle.slot_words.specs.Words.{putSlot}
 use borrow.Author.Needs.{needs}
 use Rattle.host.proofs.child_slot.vaskelbi_slot_pending.Statement.{statement}
 use Rattle.host.proofs.child_slot.vaskelbi_slot_pending.Tie as tie

@@ -1,0 +1,36 @@
+use borrow.Author.Needs.{needs}
+use Rattle.console_answer.proofs.episode.Statement.{statement}
+use Rattle.console_answer.proofs.episode.Tie as tie
+
+enum-known-generation : tie.Need-enum-known-generation
+enum-known-generation c = search needs
+
+number-requires : tie.Need-number-requires
+number-requires c κs = search needs
+
+enum-told : tie.Need-enum-told
+enum-told c = search needs
+
+slice-aggregate-put : tie.Need-slice-aggregate-put
+slice-aggregate-put c = search needs
+
+put-requires : tie.Need-put-requires
+put-requires c κs = search needs
+
+returns : tie.Need-returns
+returns c = rw (c .before .before .before .generation .given .1) (c .number .ensures)
+
+returns-2 : tie.Need-returns-2
+returns-2 c = rw (c .before .before .before .enum-told .given .1) (c .put .ensures)
+
+pub episode-spec : {M : Type 1} → statement M
+episode-spec =
+    tie.close
+    (tie.spec
+    enum-known-generation
+    number-requires
+    enum-told
+    slice-aggregate-put
+    put-requires
+    returns
+    returns-2)

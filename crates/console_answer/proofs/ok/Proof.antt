@@ -1,0 +1,38 @@
+use Rattle.console_answer.specs.Slots.{slotOn}
+use borrow.Author.Needs.{needs}
+use Rattle.console_answer.proofs.ok.Statement.{statement}
+use Rattle.console_answer.proofs.ok.Tie as tie
+
+slice-aggregate-put : tie.Need-slice-aggregate-put
+slice-aggregate-put c = search needs
+
+put-requires : tie.Need-put-requires
+put-requires c κs = search needs
+
+number-requires : tie.Need-number-requires
+number-requires c κs = search needs
+
+number-requires-2 : tie.Need-number-requires-2
+number-requires-2 c κs = search needs
+
+episode-requires : tie.Need-episode-requires
+episode-requires c κs = search needs
+
+decision-requires : tie.Need-decision-requires
+decision-requires c κs = search needs
+
+returns : tie.Need-returns
+unfolding slotOn
+returns c = cc
+
+pub ok-spec : {M : Type 1} → statement M
+ok-spec =
+    tie.close
+    (tie.spec
+    slice-aggregate-put
+    put-requires
+    number-requires
+    number-requires-2
+    episode-requires
+    decision-requires
+    returns)

@@ -1,0 +1,31 @@
+-- A page: the text's bytes, and the place up to which they are written. All that is said is put there, byte by byte.
+use Prim.Native.Nat.{ℕ, _+_}
+use mathlib.Core.List.{List, [], _∷_}
+use lib.Dec.{ltb}
+use lib.ListN.{length}
+use Rattle.rules.specs.Basics.{pick}
+use Rattle.rules.specs.Outcomes.{written}
+use Rattle.text_decimal.specs.Digits.{decimalOf}
+
+pub record Page : Type 0 where
+  pub text : List ℕ
+  pub place : ℕ
+
+abbrev pub upTo : List ℕ → ℕ → Page
+upTo text place = record { text = text; place = place }
+
+-- How many bytes the text has.
+abbrev pub room : ℕ
+room = 2103
+
+-- Bytes at the page's place, if they fit the room; if they do not, all stays.
+unfoldable pub putOn : Page → List ℕ → Page
+putOn p l = pick (ltb room (p .place + length l)) p (upTo (written (p .text) (p .place) l) (p .place + length l))
+
+-- A number behind a space.
+unfoldable pub numberOn : Page → ℕ → Page
+numberOn p n = putOn (putOn p (32 ∷ [])) (decimalOf n)
+
+unfoldable pub numbersOn : Page → List ℕ → Page
+numbersOn p [] = p
+numbersOn p (n ∷ l) = numbersOn (numberOn p n) l

@@ -1,0 +1,34 @@
+use Rattle.console_definition.proofs.Drafting.{head-of}
+use borrow.Author.Needs.{needs}
+use Rattle.console_definition.proofs.read_head.Statement.{statement}
+use Rattle.console_definition.proofs.read_head.Tie as tie
+
+read-number-requires : tie.Need-read-number-requires
+read-number-requires c κs = search needs
+
+read-number-requires-2 : tie.Need-read-number-requires-2
+read-number-requires-2 c κs = search needs
+
+read-number-requires-3 : tie.Need-read-number-requires-3
+read-number-requires-3 c κs = search needs
+
+all-requires : tie.Need-all-requires
+all-requires c κs = search needs
+
+returns : tie.Need-returns
+returns c =
+    let p3 = c .before in
+    let p2 = p3 .before in
+    let p1 = p2 .before in
+    let st = p1 .before .before in
+    head-of (st .args .bytes .now) (st .args .from) (p1 .read-number .result) (p2 .read-number2 .result) (p3 .read-number3 .result) (c .all .result) (p1 .read-number .ensures) (p2 .read-number2 .ensures) (p3 .read-number3 .ensures) (c .all .ensures)
+
+pub read-head-spec : {M : Type 1} → statement M
+read-head-spec =
+    tie.close
+    (tie.spec
+    read-number-requires
+    read-number-requires-2
+    read-number-requires-3
+    all-requires
+    returns)

@@ -1,0 +1,52 @@
+-- What is told in seven words, and spoken from them, is the answer.
+use Prim.Native.Nat.{ℕ, _≤_}
+use native.Mathlib.Omega.{arith}
+use mathlib.Core.Path.{_≡_, refl, sym, ap, _∙_}
+use mathlib.Core.List.{List, [], _∷_}
+use lib.ListN.{length}
+use borrow.Author.Tests.{ne-eqb}
+use Rattle.rules.specs.Basics.{last}
+use Rattle.rules.specs.Refusals.{number, number-within}
+use Rattle.rules.specs.Outcomes.{Answer, Refused, Accepted, Outcome, refuses, answers, writes, stores, adds, removes, answerOf}
+use Rattle.rules.specs.Steps.{Op, step}
+use Rattle.memory.specs.View.{view}
+use Rattle.host_answers.specs.Told.{statusOf, wordsOf}
+use Rattle.host.specs.Tells.{answer}
+use Rattle.console_answer.specs.Pages.{Page}
+use Rattle.console_answer.specs.Answers.{toldIn}
+use Rattle.console_show.specs.Spoken.{spokenOn, lineOn}
+use Rattle.console_show.specs.Shown.{valuesOf}
+use Rattle.console_show.specs.Told.{told-back}
+use Rattle.console_operations.specs.Asked.{Stated, Told}
+use Rattle.console_line.specs.Lines.{untold, askedLine}
+use Rattle.console_meaning.specs.Values.{saying, few-values, Silent}
+
+-- Six numbers at most are read back from the words; a refusal without numbers leaves these, and they tell nothing.
+pub read-back : (a : Answer) → length (valuesOf a) ≤ 6 → toldIn (wordsOf a untold) ≡ valuesOf a
+unfolding wordsOf
+read-back (Refused n []) h = refl
+read-back (Refused n (v ∷ vs)) h = told-back (v ∷ vs) untold (omega arith)
+read-back (Accepted vs) h = told-back vs untold (omega arith)
+
+-- the line of an outcome's status and numbers is that of its answer
+spoken : (p : Page) (place : ℕ) (u : Outcome) → spokenOn p place (statusOf (answerOf u)) (saying u) ≡ lineOn p place (answerOf u)
+unfolding spokenOn statusOf
+spoken p place (refuses x vs) =
+    let h = number-within x in
+    let b = ne-eqb (number x) last (λ e. omega arith) in
+    let z = ne-eqb (number x) 0 (λ e. omega arith) in
+    rw (b, z)
+spoken p place (answers vs) = refl
+spoken p place (writes at l vs) = refl
+spoken p place (stores q vs) = refl
+spoken p place (adds q vs) = refl
+spoken p place (removes id vs) = refl
+
+module _ (p : Page) (m : List ℕ) (place : ℕ) (o : Op) where
+  -- Any operation that tells numbers: the line says the rules' answer.
+  pub said : askedLine p m place (Told o) ≡ lineOn p place (answer m o)
+  said = ap (spokenOn p place (statusOf (answer m o))) (read-back (answer m o) (few-values (view m) o)) ∙ spoken p place (step (view m) o)
+
+  -- So does an operation that answers none, with nothing told.
+  pub silent : Silent o → askedLine p m place (Stated o) ≡ lineOn p place (answer m o)
+  silent h = ap (spokenOn p place (statusOf (answer m o))) (sym (h (view m))) ∙ spoken p place (step (view m) o)

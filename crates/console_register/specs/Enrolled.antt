@@ -1,0 +1,23 @@
+-- What a line's registration asks for.
+use Prim.Native.Nat.{ℕ}
+use mathlib.Core.List.{List}
+use mathlib.Core.Option.{Option, none, some}
+use Rattle.rules.specs.declared.Port.{Port}
+use Rattle.rules.specs.Registration.{Definition}
+use Rattle.rules.specs.Steps.{Register}
+use Rattle.memory.specs.declared.Parent.the-variants as memory
+use Rattle.registry_register.specs.Written.{definition}
+use Rattle.console_definition.specs.declared.Parent.{Parent}
+use Rattle.console_definition.specs.declared.Parent.the-variants.{Of, Nobody, Bad}
+use Rattle.console_operations.specs.Asked as asked
+use Rattle.console_operations.specs.Asked.{Asked, Told}
+
+abbrev pub enrolment : Option Definition → Asked
+enrolment none = asked.Bad
+enrolment (some d) = Told (Register d)
+
+-- The same by the parent's word.
+abbrev pub underParent : Parent → Port → List ℕ → List ℕ → List ℕ → ℕ → Asked
+underParent (Of id) anchor realms deps provs payload = Told (Register (definition (memory.Of id) anchor realms deps provs payload))
+underParent Nobody anchor realms deps provs payload = Told (Register (definition memory.Nobody anchor realms deps provs payload))
+underParent Bad anchor realms deps provs payload = asked.Bad

@@ -1,0 +1,35 @@
+use mathlib.Core.Path.{refl, ap}
+use Rattle.host_answers.specs.Told.{statusOf, wordsOf, told}
+use Rattle.registry_steps.specs.Lives.{begunAnswer}
+use native.Mathlib.Omega.{arith}
+use borrow.Author.Needs.{needs}
+use Rattle.host_answers.proofs.begun.Statement.{statement}
+use Rattle.host_answers.proofs.begun.Tie as tie
+use Rattle.host_answers.proofs.begun.Reads as reads
+use Rattle.host_answers.proofs.begun.Lts as lts
+use Rattle.host_answers.proofs.four.Reads as four-reads
+
+-- src/lib.rt:190:33
+enum-known-a : tie.Need-enum-known-a
+enum-known-a c = search needs
+
+-- src/lib.rt:190:66
+four-requires : tie.Need-four-requires
+four-requires c κs = search needs
+
+-- src/lib.rt:197:34
+enum-known-a-2 : tie.Need-enum-known-a-2
+enum-known-a-2 c = search needs
+
+-- src/lib.rt:186:1
+returns : tie.Need-returns
+unfolding statusOf wordsOf
+returns c = told _ _ _ _ _ (ap begunAnswer (c .before .before .before .a .given .1)) (c .four .ensures .0) (c .four .ensures .1)
+
+-- src/lib.rt:186:1
+returns-2 : tie.Need-returns-2
+unfolding statusOf wordsOf
+returns-2 c = told _ _ (c .before .before .before .args .out .now) _ _ (ap begunAnswer (c .before .a2 .given .1)) refl refl
+
+pub begun-spec : {M : Type 1} → statement M
+begun-spec = tie.close (tie.spec enum-known-a four-requires enum-known-a-2 returns returns-2)

@@ -1,0 +1,28 @@
+use Rattle.host_answers.specs.Told.{statusOf}
+use native.Mathlib.Omega.{arith}
+use borrow.Author.Needs.{needs}
+use Rattle.host_answers.proofs.done.Statement.{statement}
+use Rattle.host_answers.proofs.done.Tie as tie
+use Rattle.host_answers.proofs.done.Reads as reads
+use Rattle.host_answers.proofs.done.Lts as lts
+
+-- src/lib.rt:26:35
+enum-told : tie.Need-enum-told
+enum-told c = search needs
+
+-- src/lib.rt:27:31
+enum-known-a : tie.Need-enum-known-a
+enum-known-a c = search needs
+
+-- src/lib.rt:22:1
+returns : tie.Need-returns
+unfolding statusOf
+returns c = search needs
+
+-- src/lib.rt:22:1
+returns-2 : tie.Need-returns-2
+unfolding statusOf
+returns-2 c = search needs
+
+pub done-spec : {M : Type 1} → statement M
+done-spec = tie.close (tie.spec enum-told enum-known-a returns returns-2)

@@ -1,0 +1,35 @@
+use mathlib.Core.Path.{refl, ap}
+use Rattle.host_answers.specs.Told.{statusOf, wordsOf, told}
+use Rattle.registry_queries.specs.Answers.{rootAnswer}
+use native.Mathlib.Omega.{arith}
+use borrow.Author.Needs.{needs}
+use Rattle.host_answers.proofs.root.Statement.{statement}
+use Rattle.host_answers.proofs.root.Tie as tie
+use Rattle.host_answers.proofs.root.Reads as reads
+use Rattle.host_answers.proofs.root.Lts as lts
+use Rattle.host_answers.proofs.issued.Reads as issued-reads
+
+-- src/lib.rt:145:27
+enum-known-a : tie.Need-enum-known-a
+enum-known-a c = search needs
+
+-- src/lib.rt:145:36
+issued-requires : tie.Need-issued-requires
+issued-requires c κs = search needs
+
+-- src/lib.rt:146:32
+enum-known-a-2 : tie.Need-enum-known-a-2
+enum-known-a-2 c = search needs
+
+-- src/lib.rt:141:1
+returns : tie.Need-returns
+unfolding statusOf wordsOf
+returns c = told _ _ _ _ _ (ap rootAnswer (c .before .before .before .a .given .1)) (c .issued .ensures .0) (c .issued .ensures .1)
+
+-- src/lib.rt:141:1
+returns-2 : tie.Need-returns-2
+unfolding statusOf wordsOf
+returns-2 c = told _ _ (c .before .before .before .args .out .now) _ _ (ap rootAnswer (c .before .a2 .given .1)) refl refl
+
+pub root-spec : {M : Type 1} → statement M
+root-spec = tie.close (tie.spec enum-known-a issued-requires enum-known-a-2 returns returns-2)

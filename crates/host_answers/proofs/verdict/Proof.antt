@@ -1,0 +1,22 @@
+-- `verdict` meets its contract. Assumes nothing.
+use Rattle.host_answers.specs.Told.{statusOf}
+use borrow.Author.Needs.{needs}
+use Rattle.host_answers.proofs.verdict.Statement.{statement}
+use Rattle.host_answers.proofs.verdict.Tie as tie
+
+enum-told : tie.Need-enum-told
+enum-told c = search needs
+
+enum-known-a : tie.Need-enum-known-a
+enum-known-a c = search needs
+
+returns : tie.Need-returns
+unfolding statusOf
+returns c = search needs
+
+returns-2 : tie.Need-returns-2
+unfolding statusOf
+returns-2 c = search needs
+
+pub verdict-spec : {M : Type 1} → statement M
+verdict-spec = tie.close (tie.spec enum-told enum-known-a returns returns-2)

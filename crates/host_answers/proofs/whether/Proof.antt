@@ -1,0 +1,58 @@
+use mathlib.Core.Path.{refl, ap}
+use Rattle.memory_life.specs.Told.{whetherAnswer}
+use Rattle.host_answers.specs.Told.{statusOf, wordsOf, told}
+use native.Mathlib.Omega.{arith}
+use borrow.Author.Needs.{needs}
+use Rattle.host_answers.proofs.whether.Statement.{statement}
+use Rattle.host_answers.proofs.whether.Tie as tie
+use Rattle.host_answers.proofs.whether.Reads as reads
+use Rattle.host_answers.proofs.whether.Lts as lts
+use Rattle.host_answers.proofs.one.Reads as one-reads
+
+-- src/lib.rt:106:40
+enum-told : tie.Need-enum-told
+enum-told c = search needs
+
+-- src/lib.rt:106:33
+one-requires : tie.Need-one-requires
+one-requires c κs = search needs
+
+-- src/lib.rt:107:39
+enum-told-2 : tie.Need-enum-told-2
+enum-told-2 c = search needs
+
+-- src/lib.rt:107:32
+one-requires-2 : tie.Need-one-requires-2
+one-requires-2 c κs = search needs
+
+-- src/lib.rt:108:34
+enum-known-a : tie.Need-enum-known-a
+enum-known-a c = search needs
+
+-- src/lib.rt:102:1
+returns : tie.Need-returns
+unfolding statusOf wordsOf
+returns c = told _ _ (c .before .before .before .before .args .out .now) _ _ (ap whetherAnswer (c .before .before .enum-told .given .1)) (c .one .ensures .0) (c .one .ensures .1)
+
+-- src/lib.rt:102:1
+returns-2 : tie.Need-returns-2
+unfolding statusOf wordsOf
+returns-2 c = told _ _ (c .before .before .before .before .args .out .now) _ _ (ap whetherAnswer (c .before .before .enum-told2 .given .1)) (c .one2 .ensures .0) (c .one2 .ensures .1)
+
+-- src/lib.rt:102:1
+returns-3 : tie.Need-returns-3
+unfolding statusOf wordsOf
+returns-3 c = told _ _ (c .before .before .before .args .out .now) _ _ (ap whetherAnswer (c .before .a .given .1)) refl refl
+
+pub whether-spec : {M : Type 1} → statement M
+whether-spec =
+    tie.close
+    (tie.spec
+    enum-told
+    one-requires
+    enum-told-2
+    one-requires-2
+    enum-known-a
+    returns
+    returns-2
+    returns-3)

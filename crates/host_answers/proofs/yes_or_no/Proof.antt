@@ -1,0 +1,31 @@
+use mathlib.Core.Path.{ap}
+use Rattle.host_answers.specs.Told.{statusOf, wordsOf, told}
+use Rattle.registry_admit.specs.Answers.{admitsAnswer}
+use native.Mathlib.Omega.{arith}
+use borrow.Author.Needs.{needs}
+use Rattle.host_answers.proofs.yes_or_no.Statement.{statement}
+use Rattle.host_answers.proofs.yes_or_no.Tie as tie
+use Rattle.host_answers.proofs.yes_or_no.Reads as reads
+use Rattle.host_answers.proofs.yes_or_no.Lts as lts
+use Rattle.host_answers.proofs.one.Reads as one-reads
+
+-- src/lib.rt:288:12
+one-requires : tie.Need-one-requires
+one-requires c κs = search needs
+
+-- src/lib.rt:288:33
+one-requires-2 : tie.Need-one-requires-2
+one-requires-2 c κs = search needs
+
+-- src/lib.rt:285:1
+returns : tie.Need-returns
+unfolding statusOf wordsOf
+returns c = told _ _ (c .before .before .before .args .out .now) _ _ (ap admitsAnswer (c .before .before .if1 .taken)) (c .one .ensures .0) (c .one .ensures .1)
+
+-- src/lib.rt:285:1
+returns-2 : tie.Need-returns-2
+unfolding statusOf wordsOf
+returns-2 c = told _ _ (c .before .before .before .args .out .now) _ _ (ap admitsAnswer (c .before .before .if1 .left)) (c .one2 .ensures .0) (c .one2 .ensures .1)
+
+pub yes-or-no-spec : {M : Type 1} → statement M
+yes-or-no-spec = tie.close (tie.spec one-requires one-requires-2 returns returns-2)

@@ -1,0 +1,220 @@
+-- A filled place is an addition: of a dense memory, the registry afterwards is the rule's.
+use Prim.Native.Nat.{ℕ, zero, suc, _+_, _*_, _-_, _<_, _≤_, min}
+use native.Mathlib.Omega.{arith}
+use mathlib.Core.Path.{_≡_, refl, sym, ap, _∙_}
+use mathlib.Core.Bool.{Bool, true, false}
+use mathlib.Core.Logic.{_≢_}
+use mathlib.Core.List.{List, [], _∷_}
+use mathlib.Core.Option.{none, some}
+use lib.Dec.{ltb, leb, lit<}
+use lib.ListN.{length, getD, set, length-set}
+use lib.Seq.{getD-set-same, getD-set-other}
+use borrow.Author.Tests.{ltb-true, ltb-false, le-leb}
+use Rattle.rules.specs.Outcomes.{adds, after}
+use Rattle.rules.specs.Laws.Tests.{by-test}
+use Rattle.memory.specs.Layout.{word, taken, idAt, rowWord}
+use Rattle.memory.specs.View.{pluginAt, placeAt, placesFrom, view}
+use Rattle.memory.specs.Writes.{puts}
+use Rattle.memory.specs.Frames.{puts-length, puts-before, puts-after, puts-same}
+use Rattle.memory.specs.declared.Place.the-variants.{At}
+use Rattle.memory_places.specs.Changes.{freeAt, occupiedAt}
+use Rattle.memory_places.specs.Taken.{taken-below, occupied-length, occupied-word, occupied-here, occupied-others}
+use Rattle.memory_places.specs.Free.{free-at}
+use Rattle.memory_places.specs.Placed.{taken-place, free-place, places-added}
+use Rattle.memory_entry.specs.Entries.{entryWords, filledPlace}
+use Rattle.memory_rows.specs.Dense.{startWord, used, Dense}
+use Rattle.memory_entry.specs.Addition.{Newcomer, newPluginOf, Sized, Adds, added-dense, added-other, added-plugin}
+use Rattle.memory_entry.specs.declared.Entry.{Entry}
+
+-- a word outside a run of stores
+pub puts-apart : (vs m : List ℕ) (b k j : ℕ) → (b + k ≤ j → j < b + k + length vs → ⊥) → word (puts m b k vs) j ≡ word m j
+puts-apart vs m b k j n = by-test (ltb j (b + k))
+    (λ y. puts-before vs m b k j (ltb-true _ _ y))
+    (λ f. by-test (ltb j (b + k + length vs))
+    (λ y. absurd (n (ltb-false _ _ f) (ltb-true _ _ y)))
+    (λ g. puts-after vs m b k j (ltb-false _ _ g)))
+
+-- on any words, there are as many afterwards
+pub filled-size : (m : List ℕ) (p : ℕ) (e : Entry) (ds cs zs : List ℕ) → length (filledPlace m p e ds cs zs) ≡ length m
+unfolding filledPlace
+filled-size m p e ds cs zs =
+    let r = rowWord (e .start) in
+    let m₁ = puts m r 0 ds in
+    let m₂ = puts m₁ (r + length ds) 0 cs in
+    let m₃ = puts m₂ (p * 72 + 39) 0 zs in
+    let m₄ = puts m₃ (p * 72) 8 (entryWords e) in
+    by-test (leb (e .start) 1024)
+    (λ t. by-test (leb (length ds) 96)
+    (λ u. rw (t, u) (
+    occupied-length (set m₄ 2 (e .next)) p ∙ length-set m₄ 2 (e .next) ∙ puts-length (entryWords e) m₃ (p * 72) 8
+    ∙ puts-length zs m₂ (p * 72 + 39) 0 ∙ puts-length cs m₁ (r + length ds) 0 ∙ puts-length ds m r 0))
+    (λ f. rw (t, f)))
+    (λ f. rw f)
+
+-- What is written of a newcomer, with its first row and the next id.
+abbrev pub entryOf : Newcomer → ℕ → ℕ → Entry
+entryOf n start next = record {
+  id = n .id;
+  tag = n .tag;
+  parent = n .parent;
+  payload = n .payload;
+  start = start;
+  dependencies = n .d;
+  provisions = n .c;
+  realms = n .z;
+  next = next;
+}
+
+abbrev pub claimWords : Newcomer → List ℕ
+claimWords n = n .anchor .key ∷ n .anchor .realm ∷ n .provisions
+
+module _ (m : List ℕ) (p : ℕ) (n : Newcomer) (next : ℕ) (lowest : freeAt m ≡ At p) (d : Dense m) (z : Sized m n) where
+  abbrev E : Entry
+  E = entryOf n (used m) next
+
+  abbrev R : ℕ
+  R = rowWord (used m)
+
+  abbrev m₁ : List ℕ
+  m₁ = puts m R 0 (n .dependencies)
+
+  abbrev m₂ : List ℕ
+  m₂ = puts m₁ (R + length (n .dependencies)) 0 (claimWords n)
+
+  abbrev m₃ : List ℕ
+  m₃ = puts m₂ (p * 72 + 39) 0 (n .realms)
+
+  abbrev m₄ : List ℕ
+  m₄ = puts m₃ (p * 72) 8 (entryWords E)
+
+  abbrev m₅ : List ℕ
+  m₅ = set m₄ 2 next
+
+  abbrev filled : List ℕ
+  filled = occupiedAt m₅ p
+
+  h : p < 32
+  h = free-at m p lowest .below
+
+  free : taken m p ≡ false
+  free = free-at m p lowest .free
+
+  filled-is : filledPlace m p E (n .dependencies) (claimWords n) (n .realms) ≡ filled
+  unfolding filledPlace
+  filled-is = rw (le-leb _ _ (d .room), le-leb (length (n .dependencies)) 96 (omega (arith, z .dependencies, z .few-dependencies)))
+
+  size₁ : length m₁ ≡ 4488
+  size₁ = puts-length (n .dependencies) m R 0 ∙ d .size
+
+  size₂ : length m₂ ≡ 4488
+  size₂ = puts-length (claimWords n) m₁ (R + length (n .dependencies)) 0 ∙ size₁
+
+  size₃ : length m₃ ≡ 4488
+  size₃ = puts-length (n .realms) m₂ (p * 72 + 39) 0 ∙ size₂
+
+  size₄ : length m₄ ≡ 4488
+  size₄ = puts-length (entryWords E) m₃ (p * 72) 8 ∙ size₃
+
+  size₅ : length m₅ ≡ 4488
+  size₅ = length-set m₄ 2 next ∙ size₄
+
+  -- past the header nothing changes any more once the place's own words stand
+  late : (k : ℕ) → 3 < k → word filled k ≡ word m₄ k
+  late k a = occupied-word m₅ p k (omega arith) ∙ getD-set-other m₄ 2 k next 0 (omega arith)
+
+  -- a word outside the place's own
+  outside : (k : ℕ) → (p * 72 + 8 ≤ k → k < p * 72 + 80 → ⊥) → word m₄ k ≡ word m₂ k
+  outside k f =
+      puts-apart (entryWords E) m₃ (p * 72) 8 k (λ a b. f (omega arith) (omega arith))
+      ∙ puts-apart (n .realms) m₂ (p * 72 + 39) 0 k (λ a b. f (omega arith) (omega (arith, z .realms, z .few-realms)))
+
+  -- a word in front of the new rows
+  front : (k : ℕ) → k < R → word m₂ k ≡ word m k
+  front k a = puts-before (claimWords n) m₁ (R + length (n .dependencies)) 0 k (omega arith) ∙ puts-before (n .dependencies) m R 0 k (omega arith)
+
+  still : (k : ℕ) → k ≢ 2 → k < R → (p * 72 + 8 ≤ k → k < p * 72 + 80 → ⊥) → word m₅ k ≡ word m k
+  still k a b f = getD-set-other m₄ 2 k next 0 a ∙ outside k f ∙ front k b
+
+  taken-still : (j : ℕ) → taken m₅ j ≡ taken m j
+  unfolding taken
+  taken-still j = rw (still 3 (omega arith) (omega arith) (λ a b. omega arith))
+
+  own : (k : ℕ) → k < 16 → word filled (p * 72 + (8 + k)) ≡ getD (entryWords E) k 0
+  own k a = late (p * 72 + (8 + k)) (omega arith) ∙ puts-same (entryWords E) m₃ (p * 72) 8 k a (omega (arith, size₃, h))
+
+  -- a word of the new rows
+  row : (k : ℕ) → R ≤ k → word filled k ≡ word m₂ k
+  row k a = late k (omega arith) ∙ outside k (λ b c. omega (arith, h))
+
+  claim : (k : ℕ) → k < length (claimWords n) → word m₂ (R + length (n .dependencies) + k) ≡ getD (claimWords n) k 0
+  claim k a =
+      let e : R + length (n .dependencies) + k ≡ R + length (n .dependencies) + (0 + k) = omega arith in
+      ap (word m₂) e ∙ puts-same (claimWords n) m₁ (R + length (n .dependencies)) 0 k a (omega (arith, size₁, z .dependencies, z .provisions, z .room))
+
+  filled-adds : Adds m filled p n
+  filled-adds = record {
+    size = occupied-length m₅ p ∙ size₅ ∙ sym (d .size);
+    comes = occupied-here m₅ p size₅ h (taken-still p ∙ free);
+    kept = λ j a. occupied-others m₅ p size₅ h (taken-still p ∙ free) j a ∙ taken-still j;
+    words = λ j k a b c f. occupied-word m₅ p (j * 72 + k) (omega arith) ∙ still (j * 72 + k) (omega arith) (omega arith) (λ u v. b (omega arith));
+    rows = λ k a. late (2312 + k) (omega arith) ∙ outside (2312 + k) (λ b c. omega (arith, h)) ∙ front (2312 + k) (omega arith);
+    id = own 0 (lit< tt);
+    tag = own 1 (lit< tt);
+    parent = own 2 (lit< tt);
+    revision = own 3 (lit< tt);
+    payload = own 4 (lit< tt);
+    phase = own 5 (lit< tt);
+    retired = own 6 (lit< tt);
+    generation = own 7 (lit< tt);
+    root = own 8 (lit< tt);
+    start = own 11 (lit< tt);
+    d = own 12 (lit< tt);
+    c = own 13 (lit< tt);
+    z = own 14 (lit< tt);
+    mask = own 15 (lit< tt);
+    realms = λ k a.
+        let e : p * 72 + 39 + k ≡ p * 72 + 39 + (0 + k) = omega arith in
+        late (p * 72 + 39 + k) (omega arith)
+        ∙ puts-after (entryWords E) m₃ (p * 72) 8 (p * 72 + 39 + k) (omega arith)
+        ∙ ap (word m₃) e
+        ∙ puts-same (n .realms) m₂ (p * 72 + 39) 0 k (omega (arith, z .realms)) (omega (arith, size₂, z .realms, z .few-realms, h));
+    dependencies = λ k a.
+        let e : R + k ≡ R + (0 + k) = omega arith in
+        row (R + k) (omega arith)
+        ∙ puts-before (claimWords n) m₁ (R + length (n .dependencies)) 0 (R + k) (omega (arith, z .dependencies))
+        ∙ ap (word m₁) e
+        ∙ puts-same (n .dependencies) m R 0 k (omega (arith, z .dependencies)) (omega (arith, d .size, d .room, z .dependencies, z .few-dependencies));
+    anchor-key =
+        let e : rowWord (used m + n .d) ≡ R + length (n .dependencies) + 0 = omega (arith, z .dependencies) in
+        row (rowWord (used m + n .d)) (omega arith) ∙ ap (word m₂) e ∙ claim 0 (omega arith);
+    anchor-realm =
+        let e : rowWord (used m + n .d) + 1 ≡ R + length (n .dependencies) + 1 = omega (arith, z .dependencies) in
+        row (rowWord (used m + n .d) + 1) (omega arith) ∙ ap (word m₂) e ∙ claim 1 (omega arith);
+    provisions = λ k a.
+        let e : rowWord (used m + n .d) + 2 + k ≡ R + length (n .dependencies) + suc (suc k) = omega (arith, z .dependencies) in
+        row (rowWord (used m + n .d) + 2 + k) (omega arith) ∙ ap (word m₂) e ∙ claim (suc (suc k)) (omega (arith, z .provisions));
+  }
+
+  -- of a newcomer whose id is new
+  module _ (new : (j : ℕ) → taken m j ≡ true → idAt m j ≢ n .id) where
+    filled-place : placeAt filled p ≡ some (newPluginOf n)
+    filled-place = taken-place filled p (filled-adds .comes) ∙ ap some (added-plugin m filled p n h free new d z filled-adds)
+
+    other-place : (j : ℕ) → j ≢ p → placeAt filled j ≡ placeAt m j
+    other-place j a = by-test (taken m j)
+        (λ t. taken-place filled j (filled-adds .kept j a ∙ t) ∙ ap some (added-other m filled p n h free new d z filled-adds j a t) ∙ sym (taken-place m j t))
+        (λ f. free-place filled j (filled-adds .kept j a ∙ f) ∙ sym (free-place m j f))
+
+    -- The memory stays dense, and the registry gains the plugin at the lowest free place.
+    pub filled-dense : Dense (filledPlace m p E (n .dependencies) (claimWords n) (n .realms))
+    filled-dense = rw filled-is (added-dense m filled p n h free new d z filled-adds)
+
+    pub filled-view : next ≡ word m 2 + 1 → (vs : List ℕ)
+        → view (filledPlace m p E (n .dependencies) (claimWords n) (n .realms)) ≡ after (view m) (adds (newPluginOf n) vs)
+    unfolding view after
+    filled-view e vs = rw filled-is (λ x. record {
+      domain = (occupied-word m₅ p 0 (omega arith) ∙ still 0 (omega arith) (omega arith) (λ a b. omega arith)) x;
+      first = (occupied-word m₅ p 1 (omega arith) ∙ still 1 (omega arith) (omega arith) (λ a b. omega arith)) x;
+      next = (occupied-word m₅ p 2 (omega arith) ∙ getD-set-same m₄ 2 next 0 (omega (arith, size₄)) ∙ e) x;
+      places = places-added m filled p (newPluginOf n) filled-place lowest (λ j a b. other-place j b) x;
+    })

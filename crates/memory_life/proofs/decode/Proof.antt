@@ -1,0 +1,28 @@
+use Rattle.memory.specs.View.{decoded}
+use native.Mathlib.Omega.{arith}
+use borrow.Author.Needs.{needs}
+use Rattle.memory_life.proofs.decode.Statement.{statement}
+use Rattle.memory_life.proofs.decode.Tie as tie
+use Rattle.memory_life.proofs.decode.Reads as reads
+use Rattle.memory_life.proofs.decode.Lts as lts
+use Rattle.memory_life.proofs.phase_of.Reads as phase-of-reads
+use Rattle.memory_life.proofs.root_of.Reads as root-of-reads
+
+-- src/lib.rt:183:9
+phase-of-requires : tie.Need-phase-of-requires
+phase-of-requires c κs = search needs
+
+-- src/lib.rt:184:9
+root-of-requires : tie.Need-root-of-requires
+root-of-requires c κs = search needs
+
+of-requires : tie.Need-of-requires
+of-requires c κs = search needs
+
+-- src/lib.rt:180:1
+returns : tie.Need-returns
+unfolding decoded
+returns c = simp (c .before .before .before .phase-of .ensures, c .before .before .root-of .ensures, c .of .ensures)
+
+pub decode-spec : {M : Type 1} → statement M
+decode-spec = tie.close (tie.spec phase-of-requires root-of-requires of-requires returns)

@@ -1,0 +1,26 @@
+use mathlib.Core.Path.{_∙_, ap}
+use Rattle.memory.specs.View.{decoded, lifeAt}
+use native.Mathlib.Omega.{arith}
+use borrow.Author.Needs.{needs}
+use Rattle.memory_life.proofs.load.Statement.{statement}
+use Rattle.memory_life.proofs.load.Tie as tie
+use Rattle.memory_life.proofs.load.Reads as reads
+use Rattle.memory_life.proofs.load.Lts as lts
+use Rattle.memory_life.proofs.decode.Reads as decode-reads
+use Rattle.memory_life.proofs.load_words.Reads as load-words-reads
+
+-- src/lib.rt:215:12
+load-words-requires : tie.Need-load-words-requires
+load-words-requires c κs = search needs
+
+-- src/lib.rt:215:5
+decode-requires : tie.Need-decode-requires
+decode-requires c κs = search needs
+
+-- src/lib.rt:212:1
+returns : tie.Need-returns
+unfolding lifeAt
+returns c = c .decode .ensures ∙ ap decoded (c .before .load-words .ensures)
+
+pub load-spec : {M : Type 1} → statement M
+load-spec = tie.close (tie.spec load-words-requires decode-requires returns)

@@ -1,0 +1,25 @@
+use Rattle.memory.specs.Writes.{putLife}
+use native.Mathlib.Omega.{arith}
+use borrow.Author.Needs.{needs}
+use Rattle.memory_life.proofs.store.Statement.{statement}
+use Rattle.memory_life.proofs.store.Tie as tie
+use Rattle.memory_life.proofs.store.Reads as reads
+use Rattle.memory_life.proofs.store.Lts as lts
+use Rattle.memory_life.proofs.encode.Reads as encode-reads
+use Rattle.memory_life.proofs.store_words.Reads as store-words-reads
+
+-- src/lib.rt:221:32
+encode-requires : tie.Need-encode-requires
+encode-requires c κs = search needs
+
+-- src/lib.rt:221:5
+store-words-requires : tie.Need-store-words-requires
+store-words-requires c κs = search needs
+
+-- src/lib.rt:218:1
+returns : tie.Need-returns
+unfolding putLife
+returns c = rw (← c .before .encode .ensures) (c .store-words .ensures)
+
+pub store-spec : {M : Type 1} → statement M
+store-spec = tie.close (tie.spec encode-requires store-words-requires returns)

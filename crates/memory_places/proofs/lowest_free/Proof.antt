@@ -1,0 +1,19 @@
+use Rattle.memory_places.proofs.Words.{free-below, free-none}
+use borrow.Author.Needs.{needs}
+use Rattle.memory_places.proofs.lowest_free.Statement.{statement}
+use Rattle.memory_places.proofs.lowest_free.Tie as tie
+
+occupied-requires : tie.Need-occupied-requires
+occupied-requires c κs = search needs
+
+cast-t7 : tie.Need-cast-t7
+cast-t7 c = search needs
+
+returns : tie.Need-returns
+returns c = free-below _ _ (c .before .occupied .ensures) (c .if1 .taken)
+
+returns-2 : tie.Need-returns-2
+returns-2 c = free-none _ _ (c .before .occupied .ensures) (c .if1 .left)
+
+pub lowest-free-spec : {M : Type 1} → statement M
+lowest-free-spec = tie.close (tie.spec occupied-requires cast-t7 returns returns-2)

@@ -1,0 +1,33 @@
+-- The lowest free place, the occupancy word with a place taken or freed, and what an answer says.
+use Prim.Native.Nat.{ℕ, zero, suc, _+_, _-_, _^_}
+use mathlib.Core.Bool.{Bool, _||_}
+use mathlib.Core.List.{List, [], _∷_}
+use lib.Dec.{leb}
+use lib.ListN.{set}
+use Rattle.rules.specs.Basics.{pick}
+use Rattle.rules.specs.Outcomes.{Answer, Accepted}
+use Rattle.memory.specs.Layout.{occupancy, taken}
+use Rattle.memory.specs.declared.Place.{Place}
+use Rattle.memory.specs.declared.Place.the-variants.{At, Nowhere}
+use Rattle.memory_places.specs.declared.Above.{Above}
+use Rattle.memory_places.specs.declared.Above.the-variants.{Id, Nothing}
+
+-- the first free one of n places from i on
+unfoldable pub freeFrom : ℕ → List ℕ → ℕ → Place
+freeFrom zero m i = Nowhere
+freeFrom (suc n) m i = pick (taken m i) (freeFrom n m (i + 1)) (At i)
+
+unfoldable pub freeAt : List ℕ → Place
+freeAt m = freeFrom 32 m 0
+
+-- a place that is taken already, or past the 32, changes nothing
+unfoldable pub occupiedAt : List ℕ → ℕ → List ℕ
+occupiedAt m p = pick (taken m p || leb 32 p) m (set m 3 (occupancy m + 2 ^ p))
+
+-- a place that is free changes nothing
+unfoldable pub vacatedAt : List ℕ → ℕ → List ℕ
+vacatedAt m p = pick (taken m p) (set m 3 (occupancy m - 2 ^ p)) m
+
+abbrev pub aboveAnswer : Above → Answer
+aboveAnswer (Id n) = Accepted (n ∷ [])
+aboveAnswer Nothing = Accepted []

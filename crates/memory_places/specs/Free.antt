@@ -1,0 +1,105 @@
+-- What the lowest free place says of the places, and of how many plugins there are.
+use Prim.Native.Nat.{ℕ, zero, suc, _+_, _<_, _≤_}
+use native.Mathlib.Omega.{arith}
+use mathlib.Core.Path.{_≡_, refl, ap}
+use mathlib.Core.Bool.{Bool, true, false}
+use mathlib.Core.List.{List}
+use lib.Dec.{leb, eqb}
+use lib.ListN.{length}
+use borrow.Author.Tests.{le-leb, lt-leb, eqb-true, eqb-false}
+use Rattle.rules.specs.Holds.{held, count}
+use Rattle.rules.specs.Laws.Tests.{by-test}
+use Rattle.memory.specs.Layout.{taken}
+use Rattle.memory.specs.View.{placeAt, placesFrom, view}
+use Rattle.memory.specs.declared.Place.the-variants.{At, Nowhere}
+use Rattle.memory_places.specs.Changes.{freeFrom, freeAt}
+
+-- p is the lowest free one of the places from i on, below e
+pub record Lowest (m : List ℕ) (i e p : ℕ) : Type 0 where
+  pub from : i ≤ p
+  pub below : p < e
+  pub free : taken m p ≡ false
+  pub others : (j : ℕ) → i ≤ j → j < p → taken m j ≡ true
+
+pub free-lowest : (n : ℕ) (m : List ℕ) (i p : ℕ) → freeFrom n m i ≡ At p → Lowest m i (i + n) p
+unfolding freeFrom
+free-lowest zero m i p e = let z : _≡_ {A = ℕ} 0 1 = cc in absurd (omega arith)
+free-lowest (suc n) m i p e = go (taken m i) refl (free-lowest n m (i + 1) p)
+  where
+    go : (b : Bool) → taken m i ≡ b → (freeFrom n m (i + 1) ≡ At p → Lowest m (i + 1) (i + 1 + n) p) → Lowest m i (i + suc n) p
+    go true t ih =
+        let r : Lowest m (i + 1) (i + 1 + n) p = ih (rw t at e) in
+        record {
+          from = omega arith;
+          below = omega arith;
+          free = r .free;
+          others = λ j a b. by-test (eqb i j) (λ y. rw (← eqb-true i j y) t) (λ d. let f = eqb-false i j d in r .others j (omega arith) b);
+        }
+    go false f ih =
+        let s : i ≡ p = cc (rw f at e) in
+        record { from = omega arith; below = omega arith; free = rw (← s) f; others = λ j a b. absurd (omega arith) }
+
+none-free : (n : ℕ) (m : List ℕ) (i : ℕ) → freeFrom n m i ≡ Nowhere → (j : ℕ) → i ≤ j → j < i + n → taken m j ≡ true
+unfolding freeFrom
+none-free zero m i e j a b = absurd (omega arith)
+none-free (suc n) m i e j a b = go (taken m i) refl (none-free n m (i + 1))
+  where
+    go : (b : Bool) → taken m i ≡ b → (freeFrom n m (i + 1) ≡ Nowhere → (j : ℕ) → i + 1 ≤ j → j < i + 1 + n → taken m j ≡ true) → taken m j ≡ true
+    go true t ih = by-test (eqb i j) (λ y. rw (← eqb-true i j y) t) (λ d. let f = eqb-false i j d in ih (rw t at e) j (omega arith) (omega arith))
+    go false f ih = let z : _≡_ {A = ℕ} 0 1 = cc (rw f at e) in absurd (omega arith)
+
+-- of all 32
+pub record LowestFree (m : List ℕ) (p : ℕ) : Type 0 where
+  pub below : p < 32
+  pub free : taken m p ≡ false
+  pub others : (i : ℕ) → i < p → taken m i ≡ true
+
+module _ (m : List ℕ) where
+  pub free-at : (p : ℕ) → freeAt m ≡ At p → LowestFree m p
+  unfolding freeAt
+  free-at p e =
+      let l = free-lowest 32 m 0 p e in
+      record { below = l .below; free = l .free; others = λ i h. l .others i (omega arith) h }
+
+  pub free-nowhere : freeAt m ≡ Nowhere → (i : ℕ) → i < 32 → taken m i ≡ true
+  unfolding freeAt
+  free-nowhere e i h = none-free 32 m 0 e i (omega arith) h
+
+-- Some place is free exactly where fewer are held than there are.
+held-le : (n : ℕ) (m : List ℕ) (i : ℕ) → length (held (placesFrom n m i)) ≤ n
+unfolding placesFrom placeAt
+held-le zero m i = omega arith
+held-le (suc n) m i =
+    let r = held-le n m (i + 1) in
+    by-test (taken m i) (λ t. rw t (omega arith)) (λ f. rw f (omega arith))
+
+held-full : (n : ℕ) (m : List ℕ) (i : ℕ) → freeFrom n m i ≡ Nowhere → length (held (placesFrom n m i)) ≡ n
+unfolding freeFrom placesFrom placeAt
+held-full zero m i e = refl
+held-full (suc n) m i e =
+    let r = held-full n m (i + 1) in
+    by-test (taken m i)
+    (λ t. rw t (ap suc (r (rw t at e))))
+    (λ f. let z : _≡_ {A = ℕ} 0 1 = cc (rw f at e) in absurd (omega arith))
+
+held-room : (n : ℕ) (m : List ℕ) (i p : ℕ) → freeFrom n m i ≡ At p → length (held (placesFrom n m i)) < n
+unfolding freeFrom placesFrom placeAt
+held-room zero m i p e = let z : _≡_ {A = ℕ} 0 1 = cc in absurd (omega arith)
+held-room (suc n) m i p e =
+    let r = held-room n m (i + 1) p in
+    by-test (taken m i)
+    (λ t. rw t (let s = r (rw t at e) in omega arith))
+    (λ f. rw f (omega (arith, held-le n m (i + 1))))
+
+module _ (m : List ℕ) where
+  pub count-most : count (view m) ≤ 32
+  unfolding count view
+  count-most = held-le 32 m 0
+
+  pub count-full : freeAt m ≡ Nowhere → leb 32 (count (view m)) ≡ true
+  unfolding count view freeAt
+  count-full e = le-leb 32 (count (view m)) (omega (arith, held-full 32 m 0 e))
+
+  pub count-room : (p : ℕ) → freeAt m ≡ At p → leb 32 (count (view m)) ≡ false
+  unfolding count view freeAt
+  count-room p e = lt-leb _ _ (held-room 32 m 0 p e)

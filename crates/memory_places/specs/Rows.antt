@@ -1,0 +1,73 @@
+-- The rows in use, place by place.
+use Prim.Native.Nat.{ℕ, zero, suc, _+_, _*_, _%_, _<_, _≤_}
+use native.Mathlib.Omega.{arith}
+use mathlib.Core.Path.{_≡_, refl, ap}
+use mathlib.Core.Bool.{true}
+use mathlib.Core.List.{List, [], _∷_}
+use lib.Dec.{eqb}
+use lib.ListN.{length, length-take, length-drop}
+use borrow.Author.Tests.{eqb-true, eqb-false}
+use Rattle.rules.specs.Basics.{pick}
+use Rattle.rules.specs.Holds.{held, rowsOf, sumRows, rowsInUse}
+use Rattle.rules.specs.Ports.{pairs}
+use Rattle.rules.specs.declared.Port.{Port}
+use Rattle.rules.specs.Laws.Tests.{by-test}
+use Rattle.memory.specs.Layout.{taken, depsAt, provsAt, depPart, provPart}
+use Rattle.memory.specs.View.{valued, pluginAt, placeAt, placesFrom, view}
+use Rattle.memory_places.specs.Taken.{taken-below}
+
+-- dependencies, provisions and the anchor
+abbrev pub rowsAt : List ℕ → ℕ → ℕ
+rowsAt m i = depsAt m i + provsAt m i + 1
+
+-- those of a place that is taken where the lowest bit of a word says so
+abbrev pub rowsBy : ℕ → List ℕ → ℕ → ℕ
+rowsBy w m i = pick (eqb (w % 2) 1) (rowsAt m i) 0
+
+-- the rows of the taken ones of n places from i on
+unfoldable pub rowsFrom : ℕ → List ℕ → ℕ → ℕ
+rowsFrom zero m i = 0
+rowsFrom (suc n) m i = pick (taken m i) (rowsAt m i) 0 + rowsFrom n m (i + 1)
+
+pairs-length : (n : ℕ) (l : List ℕ) → length l ≡ n * 2 → length (pairs l) ≡ n
+pairs-length zero [] e = refl
+pairs-length zero (a ∷ l) e = absurd (omega arith)
+pairs-length (suc n) [] e = absurd (omega arith)
+pairs-length (suc n) (a ∷ []) e = absurd (omega arith)
+pairs-length (suc n) (a ∷ b ∷ l) e = ap suc (pairs-length n l (omega arith))
+
+valued-length : (m : List ℕ) (i j : ℕ) (qs : List Port) → length (valued m i j qs) ≡ length qs
+valued-length m i j [] = refl
+valued-length m i j (q ∷ qs) = ap suc (valued-length m i (j + 1) qs)
+
+module _ (m : List ℕ) (size : length m ≡ 4488) where
+  pub rows-of : (i : ℕ) → rowsOf (pluginAt m i) ≡ rowsAt m i
+  unfolding pluginAt
+  rows-of i =
+      let d : length (depPart m i) ≡ depsAt m i * 2 = simp (length-take, length-drop) (omega arith) in
+      let v : length (provPart m i) ≡ provsAt m i * 2 = simp (length-take, length-drop) (omega arith) in
+      rw (valued-length m i 0 (pairs (provPart m i)), pairs-length (depsAt m i) (depPart m i) d, pairs-length (provsAt m i) (provPart m i) v)
+
+  sum-from : (n i : ℕ) → sumRows (held (placesFrom n m i)) ≡ rowsFrom n m i
+  unfolding rowsFrom placesFrom placeAt
+  sum-from zero i = refl
+  sum-from (suc n) i =
+      let r = sum-from n (i + 1) in
+      by-test (taken m i) (λ t. rw t (rw (rows-of i, r))) (λ f. rw f (omega arith))
+
+  pub rows-view : rowsInUse (view m) ≡ rowsFrom 32 m 0
+  unfolding rowsInUse view
+  rows-view = sum-from 32 0
+
+-- a taken place's rows are among them
+one-from : (m : List ℕ) (n i j : ℕ) → i ≤ j → j < i + n → taken m j ≡ true → rowsAt m j ≤ rowsFrom n m i
+unfolding rowsFrom
+one-from m zero i j a b t = absurd (omega arith)
+one-from m (suc n) i j a b t =
+    let r = one-from m n (i + 1) j in
+    by-test (eqb i j)
+    (λ y. let e = eqb-true i j y in rw (e, t) (omega arith))
+    (λ d. let f = eqb-false i j d in omega (arith, r (omega arith) (omega arith) t))
+
+pub rows-one : (m : List ℕ) (i : ℕ) → taken m i ≡ true → rowsAt m i ≤ rowsFrom 32 m 0
+rows-one m i t = one-from m 32 0 i (omega arith) (taken-below m i t) t

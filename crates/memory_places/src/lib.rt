@@ -1,0 +1,143 @@
+// The 32 plugin places: one occupancy word. Its ones are the registered count, the trailing zeros of its complement the lowest free place.
+ghost use mathlib.Core.Path.{_≡_};
+ghost use Prim.Native.Nat.{_<_, _≤_, _/_, _%_, _^_};
+ghost use lib.ListN.{length};
+ghost use Rattle.rules.specs.Holds.{count, rowsInUse};
+ghost use Rattle.rules.specs.Outcomes.{answerOf};
+ghost use Rattle.rules.specs.Queries.{idFrom, lower as lowerId};
+ghost use Rattle.memory.specs.Layout.{occupancy};
+ghost use Rattle.memory.specs.View.{view};
+ghost use Rattle.memory_places.specs.Changes.{freeAt, occupiedAt, vacatedAt, aboveAnswer};
+ghost use Rattle.memory_places.specs.Lowest.{idOf};
+ghost use Rattle.memory_places.specs.Rows.{rowsBy, rowsFrom};
+use memory::Place;
+use memory::WORDS;
+
+// The lowest registered id at or above a number, or nothing.
+pub enum Above {
+    Id(u64),
+    Nothing,
+}
+
+// How many plugins are registered.
+pub fn registered(m: &[u64; WORDS]) -> u64
+    ensures { λ r. ⌜ r ≡ count (view (now (m .entry))) ⌝ }
+{
+    u32::count_ones(memory::occupied(m)) as u64
+}
+
+// The lowest free place.
+pub fn lowest_free(m: &[u64; WORDS]) -> Place
+    ensures { λ r. ⌜ r ≡ freeAt (now (m .entry)) ⌝ }
+{
+    let place = u32::trailing_zeros(!memory::occupied(m));
+    if place < 32 {
+        Place::At(place as usize)
+    } else {
+        Place::Nowhere
+    }
+}
+
+// The free place is taken.
+pub fn occupy(m: &mut [u64; WORDS], place: usize)
+    ensures { λ _. ⌜ now (m .exit) ≡ occupiedAt (now (m .entry)) place ⌝ }
+{
+    if 32 <= place {
+        return;
+    }
+    if memory::is_taken(m, place) {
+        return;
+    }
+    let word = memory::occupied(m) | 1 << place;
+    m[3] = word as u64;
+}
+
+// The taken place is free again.
+pub fn vacate(m: &mut [u64; WORDS], place: usize)
+    ensures { λ _. ⌜ now (m .exit) ≡ vacatedAt (now (m .entry)) place ⌝ }
+{
+    if memory::is_taken(m, place) {
+        let word = memory::occupied(m) - (1 << place);
+        m[3] = word as u64;
+    }
+}
+
+// The rows of a place that is taken, by the lowest bit of a word.
+fn rows_at(m: &[u64; WORDS], place: usize, word: u32) -> usize
+    ensures { λ r. ⌜ (r ≤ 64) × (r ≡ rowsBy word (now (m .entry)) (place % 32)) ⌝ }
+{
+    if word % 2 == 1 {
+        memory_lists::dependencies(m, place) + memory_lists::provisions(m, place) + 1
+    } else {
+        0
+    }
+}
+
+// The rows of four places; the word's lowest bits are theirs.
+fn rows_of_four(m: &[u64; WORDS], place: usize, word: u32) -> usize
+    requires { ⌜ (place < 29) × (word ≡ occupancy (now m) / 2 ^ place) ⌝ }
+    ensures { λ r. ⌜ (r ≤ 256) × (r ≡ rowsFrom 4 (now (m .entry)) place) ⌝ }
+{
+    let first = rows_at(m, place, word);
+    let second = rows_at(m, place + 1, word / 2);
+    let third = rows_at(m, place + 2, word / 4);
+    let fourth = rows_at(m, place + 3, word / 8);
+    first + second + third + fourth
+}
+
+// The rows in use, counted from the plugins' lists.
+pub fn rows_in_use(m: &[u64; WORDS]) -> usize
+    ensures { λ r. ⌜ r ≡ rowsInUse (view (now (m .entry))) ⌝ }
+{
+    whole(m);
+    let mut word = memory::occupied(m);
+    let mut total: usize = 0;
+    let mut k: usize = 0;
+    while k < 8 {
+        total += rows_of_four(m, k * 4, word);
+        word /= 16;
+        k += 1;
+    }
+    total
+}
+
+// The lowest registered id at or above a number.
+pub fn id_from(m: &[u64; WORDS], number: u64) -> Above
+    ensures { λ r. ⌜ aboveAnswer r ≡ answerOf (idFrom (view (now (m .entry))) number) ⌝ }
+{
+    let mut found = Above::Nothing;
+    let mut i: usize = 32;
+    while 0 < i {
+        i -= 1;
+        if memory::is_taken(m, i) {
+            let id = memory::id(m, i);
+            if number <= id {
+                found = lower(id, found);
+            }
+        }
+    }
+    found
+}
+
+// The lower of two ids, of which the second may be missing.
+fn lower(id: u64, other: Above) -> Above
+    ensures { λ r. ⌜ idOf r ≡ lowerId id (idOf other) ⌝ }
+{
+    match other {
+        Above::Id(n) => { if id < n { Above::Id(id) } else { Above::Id(n) } }
+        Above::Nothing => Above::Id(id),
+    }
+}
+
+// Tells the proof how long the memory is; compiles to nothing.
+fn whole(m: &[u64; WORDS])
+    ensures { λ _. ⌜ length (now (m .entry)) ≡ 4488 ⌝ }
+{
+    let n = size(m);
+}
+
+fn size(words: &[u64]) -> usize
+    ensures { λ r. ⌜ r ≡ length (now (words .entry)) ⌝ }
+{
+    words.len()
+}

@@ -1,0 +1,93 @@
+-- Claimed ports against a place's, all at once.
+use Prim.Native.Nat.{ℕ, suc, _+_, _*_, _<_, _%_}
+use native.Mathlib.Numerals.{add-one, add-two}
+use native.Mathlib.Omega.{arith}
+use native.Mathlib.Nat.{mod-eq-of-lt}
+use mathlib.Core.Path.{_≡_, refl, sym, ap, _∙_}
+use mathlib.Core.Bool.{Bool, true, false, _&&_, _||_}
+use mathlib.Core.List.{List, _∷_}
+use lib.ListN.{length}
+use lib.Seq.{drop-cons}
+use lib.Dec.{eqb}
+use borrow.Author.Tests.{eq-eqb, ne-eqb, eqb-true, eqb-false}
+use Rattle.rules.specs.Basics.{any, isSome}
+use Rattle.rules.specs.Holds.{port, Plugin, held, isIn, provides, provider, samePort}
+use Rattle.rules.specs.declared.Port.{Port}
+use Rattle.rules.specs.Ports.{pairs}
+use Rattle.rules.specs.Laws.Tests.{by-test}
+use Rattle.memory.specs.Layout.{word, taken, part, startAt, depsAt, provsAt, anchorWord, provPart}
+use Rattle.memory.specs.View.{anchorAt, pluginAt, placesFrom, view}
+use Rattle.memory.specs.Lookups.{placed, searchFrom, search-first}
+use Rattle.memory.specs.declared.Place.{Place}
+use Rattle.memory_lists.specs.Listed.{provided-at}
+use Rattle.memory_providers.specs.Providers.{offeredPart, keyBits, wanted}
+use Rattle.memory_providers.proofs.Exchange.{any-same, exchange, is-first}
+use Rattle.memory_providers.proofs.Keys.{wanted-is}
+
+-- the words, by what is read of the place
+pub offered-words : (m l : List ℕ) (j s d n : ℕ) → s ≡ startAt m j → d ≡ depsAt m j → n ≡ provsAt m j
+    → l ≡ part m ((s + d) * 2 + 2312) ((n + 1) * 2) → l ≡ offeredPart m j
+offered-words m l j s d n e f g h = rw (e, f, g) at h
+
+-- what a place offers is what its plugin provides
+first-row : (m : List ℕ) (a n : ℕ) → a + 1 < length m → pairs (part m a ((n + 1) * 2)) ≡ port (word m a) (word m (a + 1)) ∷ pairs (part m (a + 2) (n * 2))
+first-row m a n h =
+    let e : (n + 1) * 2 ≡ suc (suc (n * 2)) = omega arith in
+    let h₀ : a < length m = omega arith in
+    let h₁ : suc a < length m = omega arith in
+    rw (e, add-one a, add-two a, drop-cons m a 0 h₀, drop-cons m (suc a) 0 h₁)
+
+or-swap : (a b : Bool) → (a || b) ≡ (b || a)
+or-swap true true = refl
+or-swap true false = refl
+or-swap false true = refl
+or-swap false false = refl
+
+eqb-turned : (a b : ℕ) → eqb a b ≡ eqb b a
+eqb-turned a b = by-test (eqb b a)
+    (λ t. rw t (eq-eqb a b (sym (eqb-true b a t))))
+    (λ n. rw n (ne-eqb a b (λ e. eqb-false b a n (sym e))))
+
+same-turned : (p q : Port) → samePort p q ≡ samePort q p
+same-turned p q = rw (eqb-turned (p .key) (q .key), eqb-turned (p .realm) (q .realm))
+
+module _ (m : List ℕ) (i : ℕ) (size : length m ≡ 4488) where
+  rows-are : pairs (offeredPart m i) ≡ anchorAt m i ∷ pairs (provPart m i)
+  rows-are = first-row m (anchorWord m i) (provsAt m i) (omega arith)
+
+  offered-is : (q : Port) → isIn q (pairs (offeredPart m i)) ≡ provides (pluginAt m i) q
+  unfolding pluginAt
+  offered-is q =
+      ap (isIn q) rows-are
+      ∙ or-swap (samePort q (anchorAt m i)) (isIn q (pairs (provPart m i)))
+      ∙ ap (λ l. isIn q l || samePort q (anchorAt m i)) (sym (provided-at m i))
+
+  -- whichever of the two lists is gone through
+  met : (qs : List Port) → any (λ q. wanted (keyBits 0 qs) qs q) (pairs (offeredPart m i)) ≡ any (λ q. provides (pluginAt m i) q) qs
+  met qs =
+      any-same _ _ (wanted-is qs) (pairs (offeredPart m i))
+      ∙ exchange (λ (p q : Port). samePort q p) qs (pairs (offeredPart m i))
+      ∙ any-same _ _ (λ q. any-same _ _ (λ p. same-turned p q) (pairs (offeredPart m i)) ∙ offered-is q) qs
+
+  pub offers-claimed : (qs : List Port) (w : ℕ) (b : Bool) → w ≡ keyBits 0 qs → b ≡ (taken m i && any (λ q. wanted w qs q) (pairs (offeredPart m i)))
+      → b ≡ (taken m i && any (λ q. provides (pluginAt m i) q) qs)
+  offers-claimed qs w b e f =
+      f ∙ ap (λ x. taken m i && any (λ q. wanted x qs q) (pairs (offeredPart m i))) e ∙ ap (λ x. taken m i && x) (met qs)
+
+-- a place's own number
+pub offers-one : (m : List ℕ) (i : ℕ) (ws : List ℕ) (f : Port → Bool) (b : Bool) → i < 32 → taken m i ≡ true → ws ≡ offeredPart m (i % 32)
+    → b ≡ any f (pairs ws) → b ≡ (taken m i && any f (pairs (offeredPart m i)))
+offers-one m i ws f b h t e g =
+    let n : i % 32 ≡ i = mod-eq-of-lt h in
+    rw t (g ∙ ap (λ l. any f (pairs l)) (e ∙ ap (offeredPart m) n))
+
+-- the first place whose plugin provides one of the ports
+abbrev pub oneFrom : List Port → ℕ → List ℕ → ℕ → Place
+oneFrom qs n m i = searchFrom (λ (p : Plugin). any (λ q. provides p q) qs) n m i
+
+pub provided-one : (m : List ℕ) (qs : List Port) → any (λ q. isSome (provider (view m) q)) qs ≡ isSome (placed m (oneFrom qs 32 m 0))
+unfolding provider view
+provided-one m qs =
+    let ps = held (placesFrom 32 m 0) in
+    let f : Plugin → Bool = λ p. any (λ q. provides p q) qs in
+    any-same _ _ (λ q. is-first (λ (p : Plugin). provides p q) ps) qs ∙ exchange (λ (p : Plugin) (q : Port). provides p q) ps qs ∙ sym (is-first f ps) ∙ ap isSome (search-first f 32 m 0)

@@ -1,0 +1,56 @@
+-- The steps of looking for a provider.
+use Prim.Native.Nat.{ℕ, suc, _+_, _*_, _-_, _<_, _≤_, _%_}
+use native.Mathlib.Omega.{arith}
+use native.Mathlib.Nat.{mod-eq-of-lt}
+use mathlib.Core.Path.{_≡_, refl, sym, ap, _∙_}
+use mathlib.Core.Bool.{Bool, true, false, _&&_, _||_}
+use mathlib.Core.List.{List}
+use lib.Dec.{eqb}
+use borrow.Author.Tests.{eq-eqb, ne-eqb}
+use Rattle.rules.specs.Holds.{port, Plugin, isIn, provides, provided, samePort}
+use Rattle.rules.specs.declared.Port.{Port}
+use Rattle.rules.specs.Ports.{pairs}
+use Rattle.memory.specs.Layout.{taken, provPart}
+use Rattle.memory.specs.View.{anchorAt, pluginAt}
+use Rattle.memory.specs.Lookups.{searchFrom}
+use Rattle.memory.specs.declared.Place.the-variants.{At, Nowhere}
+use Rattle.memory_lists.specs.Listed.{provided-at}
+
+module _ (m : List ℕ) (p : ℕ) (q : Port) (ws : List ℕ) (b : Bool) (e : ws ≡ provPart m p) (f : b ≡ isIn q (pairs ws)) where
+  among : b ≡ isIn q (provided (pluginAt m p))
+  among = f ∙ ap (λ l. isIn q (pairs l)) e ∙ ap (isIn q) (sym (provided-at m p))
+
+  pub provides-provision : b ≡ true → true ≡ provides (pluginAt m p) q
+  provides-provision t = rw (sym among ∙ t)
+
+  module _ (a : Port) (g : a ≡ anchorAt m p) (n : b ≡ false) where
+    anchor-is : provides (pluginAt m p) q ≡ samePort q a
+    unfolding pluginAt
+    anchor-is = rw (sym among ∙ n) (ap (samePort q) (sym g))
+
+    pub provides-anchor : q .key ≡ a .key → eqb (q .realm) (a .realm) ≡ provides (pluginAt m p) q
+    provides-anchor k = sym (anchor-is ∙ rw (eq-eqb _ _ k))
+
+    pub provides-not : (q .key ≡ a .key → ⊥) → false ≡ provides (pluginAt m p) q
+    provides-not k = sym (anchor-is ∙ rw (ne-eqb _ _ k))
+
+-- a place's own number
+pub offers-taken : (m : List ℕ) (i : ℕ) (q : Port) (b : Bool) → i < 32 → taken m i ≡ true → b ≡ provides (pluginAt m (i % 32)) q
+    → b ≡ (taken m i && provides (pluginAt m i) q)
+offers-taken m i q b h t e = let n : i % 32 ≡ i = mod-eq-of-lt h in rw t (e ∙ ap (λ j. provides (pluginAt m j) q) n)
+
+one-less : (i : ℕ) → i < 32 → 32 - i ≡ suc (32 - (i + 1))
+one-less i h = omega arith
+
+module _ (f : Plugin → Bool) (m : List ℕ) (i : ℕ) where
+  pub search-here : i < 32 → (taken m i && f (pluginAt m i)) ≡ true → searchFrom f (32 - i) m i ≡ At i
+  unfolding searchFrom
+  search-here h y = rw (one-less i h) (rw y)
+
+  pub search-next : i < 32 → (taken m i && f (pluginAt m i)) ≡ false → searchFrom f (32 - i) m i ≡ searchFrom f (32 - (i + 1)) m (i + 1)
+  unfolding searchFrom
+  search-next h n = rw (one-less i h) (rw n)
+
+  pub search-end : 32 ≤ i → searchFrom f (32 - i) m i ≡ Nowhere
+  unfolding searchFrom
+  search-end h = let e : 32 - i ≡ 0 = omega arith in rw e

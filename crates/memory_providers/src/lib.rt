@@ -1,0 +1,142 @@
+// A port's provider is the registered plugin that has it as provision or anchor.
+ghost use mathlib.Core.Path.{_≡_};
+ghost use mathlib.Core.Bool.{_&&_};
+ghost use Prim.Native.Nat.{_<_, _%_};
+ghost use lib.ListN.{length};
+ghost use Rattle.rules.specs.Basics.{any, isSome};
+ghost use Rattle.rules.specs.Holds.{port, provides, provider};
+ghost use Rattle.rules.specs.Ports.{pairs};
+ghost use Rattle.memory.specs.Layout.{taken};
+ghost use Rattle.memory.specs.View.{pluginAt, view};
+ghost use Rattle.memory_providers.specs.Providers.{providerAt, offeredPart, keyBits, wanted};
+use memory::Place;
+use memory::WORDS;
+
+// Whether the plugin of a place has the port as provision or anchor.
+pub fn provides(m: &[u64; WORDS], place: usize, key: u64, realm: u64) -> bool
+    ensures { λ r. ⌜ r ≡ provides (pluginAt (now (m .entry)) (place % 32)) (port key realm) ⌝ }
+{
+    if ports::has_port(memory_lists::provision_words(m, place), key, realm) {
+        return true;
+    }
+    let anchor = memory_lists::anchor(m, place);
+    if key == anchor.key {
+        realm == anchor.realm
+    } else {
+        false
+    }
+}
+
+// Whether this place is taken and its plugin provides the port.
+fn offers(m: &[u64; WORDS], place: usize, key: u64, realm: u64) -> bool
+    requires { ⌜ place < 32 ⌝ }
+    ensures { λ r. ⌜ r ≡ (taken (now (m .entry)) place && provides (pluginAt (now (m .entry)) place) (port key realm)) ⌝ }
+{
+    if memory::is_taken(m, place) {
+        provides(m, place, key, realm)
+    } else {
+        false
+    }
+}
+
+// The place of a port's provider.
+pub fn provider(m: &[u64; WORDS], key: u64, realm: u64) -> Place
+    ensures { λ r. ⌜ r ≡ providerAt (now (m .entry)) (port key realm) ⌝ }
+{
+    let mut i: usize = 0;
+    while i < 32 {
+        if offers(m, i, key, realm) {
+            return Place::At(i);
+        }
+        i += 1;
+    }
+    Place::Nowhere
+}
+
+// What the type of the memory says of its length. It compiles to nothing.
+fn count(s: &[u64]) -> usize
+    ensures { λ r. ⌜ r ≡ length (now (s .entry)) ⌝ }
+{
+    s.len()
+}
+
+fn known(m: &[u64; WORDS])
+    ensures { λ _. ⌜ length (now (m .entry)) ≡ 4488 ⌝ }
+{
+    let n = count(m);
+}
+
+// The anchor's words and, right behind it, those of the provisions.
+fn offered_words(m: &[u64; WORDS], place: usize) -> &[u64]
+    ensures { λ r. ⌜ now r ≡ offeredPart (now (m .entry)) (place % 32) ⌝ }
+{
+    let from = (memory_lists::start(m, place) + memory_lists::dependencies(m, place)) * 2 + 2312;
+    let count = (memory_lists::provisions(m, place) + 1) * 2;
+    memory_lists::some_words(m, from, count)
+}
+
+// A word that has, for each claimed key, the bit of the key's remainder by 64.
+fn key_bits(claims: &[u64]) -> u64
+    ensures { λ r. ⌜ r ≡ keyBits 0 (pairs (now (claims .entry))) ⌝ }
+{
+    let mut bits: u64 = 0;
+    let mut i: usize = 1;
+    while i < claims.len() {
+        bits = bits | 1 << (claims[i - 1] % 64);
+        i += 2;
+    }
+    bits
+}
+
+// Whether a port is claimed; a key whose bit is 0 is not looked for.
+fn is_claimed(claims: &[u64], bits: u64, key: u64, realm: u64) -> bool
+    ensures { λ r. ⌜ r ≡ wanted bits (pairs (now (claims .entry))) (port key realm) ⌝ }
+{
+    if (bits >> (key % 64)) % 2 == 1 {
+        ports::has_port(claims, key, realm)
+    } else {
+        false
+    }
+}
+
+// Whether one of the offered ports is claimed.
+fn meets(claims: &[u64], bits: u64, offered: &[u64]) -> bool
+    ensures { λ r. ⌜ r ≡ any (λ q. wanted bits (pairs (now (claims .entry))) q) (pairs (now (offered .entry))) ⌝ }
+{
+    let mut row: usize = 1;
+    while row < offered.len() {
+        if is_claimed(claims, bits, offered[row - 1], offered[row]) {
+            return true;
+        }
+        row += 2;
+    }
+    false
+}
+
+// Whether this place is taken and one of the ports of its plugin is claimed.
+fn offers_one(m: &[u64; WORDS], place: usize, claims: &[u64], bits: u64) -> bool
+    requires { ⌜ place < 32 ⌝ }
+    ensures { λ r. ⌜ r ≡ (taken (now (m .entry)) place && any (λ q. wanted bits (pairs (now (claims .entry))) q) (pairs (offeredPart (now (m .entry)) place))) ⌝ }
+{
+    if memory::is_taken(m, place) {
+        meets(claims, bits, offered_words(m, place))
+    } else {
+        false
+    }
+}
+
+// Whether one of the claimed ports has a provider. Each place's rows are read once, for all claims.
+pub fn one_provided(m: &[u64; WORDS], claims: &[u64]) -> bool
+    ensures { λ r. ⌜ r ≡ any (λ q. isSome (provider (view (now (m .entry))) q)) (pairs (now (claims .entry))) ⌝ }
+{
+    known(m);
+    let bits = key_bits(claims);
+    let mut i: usize = 0;
+    while i < 32 {
+        if offers_one(m, i, claims, bits) {
+            return true;
+        }
+        i += 1;
+    }
+    false
+}

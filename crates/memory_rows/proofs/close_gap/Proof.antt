@@ -1,0 +1,114 @@
+use mathlib.Core.Path.{_≡_, sym, _∙_}
+use Prim.Native.Nat.{_+_, _*_, _-_, _≤_}
+use Rattle.memory_rows.specs.Moves.{moved, closedGap}
+use Rattle.memory_rows.specs.Laws.{moved-next, moved-end, gap-none, gap-start}
+use native.Mathlib.Omega.{arith}
+use borrow.Author.Needs.{needs}
+use Rattle.memory_rows.proofs.close_gap.Statement.{statement}
+use Rattle.memory_rows.proofs.close_gap.Tie as tie
+use Rattle.memory_rows.proofs.close_gap.Reads as reads
+use Rattle.memory_rows.proofs.close_gap.Lts as lts
+
+abbrev Inv-loop : tie.InvT-loop
+Inv-loop m₀ start count end k stop j₀ m j =
+    (start * 2 + 2312 ≤ j) × (j ≤ stop) × (closedGap m₀ start count end ≡ moved (stop - j) m j k)
+
+abbrev μ-loop : tie.MeasureT-loop
+μ-loop m₀ start count end k stop j₀ m j = stop - j
+
+-- src/lib.rt:67:14
+add-if1 : tie.Need-add-if1 Inv-loop μ-loop
+add-if1 c = search needs
+
+-- src/lib.rt:68:9
+returns : tie.Need-returns Inv-loop μ-loop
+returns c = sym (gap-none _ _ _ _ (c .if1 .taken))
+
+-- src/lib.rt:70:13
+mul-k : tie.Need-mul-k Inv-loop μ-loop
+mul-k c = search needs
+
+-- src/lib.rt:71:17
+sub-stop : tie.Need-sub-stop Inv-loop μ-loop
+sub-stop c = search needs
+
+-- src/lib.rt:71:16
+mul-stop : tie.Need-mul-stop Inv-loop μ-loop
+mul-stop c = search needs
+
+-- src/lib.rt:71:16
+add-stop : tie.Need-add-stop Inv-loop μ-loop
+add-stop c = search needs
+
+-- src/lib.rt:72:17
+mul-j : tie.Need-mul-j Inv-loop μ-loop
+mul-j c = search needs
+
+-- src/lib.rt:72:17
+add-j : tie.Need-add-j Inv-loop μ-loop
+add-j c = search needs
+
+-- src/lib.rt:73:5
+loop-holds : tie.Need-loop-holds Inv-loop μ-loop
+loop-holds c = (omega arith, omega arith, gap-start _ _ _ _ (omega arith))
+
+-- src/lib.rt:74:18
+add-m : tie.Need-add-m Inv-loop μ-loop
+add-m c = search needs
+
+-- src/lib.rt:74:16
+mul-m : tie.Need-mul-m Inv-loop μ-loop
+mul-m c = search needs
+
+-- src/lib.rt:74:16
+element-copy-out-m : tie.Need-element-copy-out-m Inv-loop μ-loop
+element-copy-out-m c = search needs
+
+-- src/lib.rt:74:9
+mul-m-2 : tie.Need-mul-m-2 Inv-loop μ-loop
+mul-m-2 c = search needs
+
+-- src/lib.rt:74:9
+element-write-m : tie.Need-element-write-m Inv-loop μ-loop
+element-write-m c = search needs
+
+-- src/lib.rt:75:9
+add-j-2 : tie.Need-add-j-2 Inv-loop μ-loop
+add-j-2 c = search needs
+
+-- src/lib.rt:73:5
+loop-less : tie.Need-loop-less Inv-loop μ-loop
+loop-less c = search needs
+
+-- src/lib.rt:73:5
+loop-again : tie.Need-loop-again Inv-loop μ-loop
+loop-again c = (omega arith, omega arith, c .before .before .loop .inv .2 ∙ moved-next _ _ _ _ (omega arith))
+
+-- src/lib.rt:63:1
+returns-2 : tie.Need-returns-2 Inv-loop μ-loop
+returns-2 c = sym (c .before .loop .inv .2 ∙ moved-end _ _ _ _ (omega arith))
+
+pub close-gap-spec : {M : Type 1} → statement M
+close-gap-spec =
+    tie.close
+    (tie.spec
+    Inv-loop
+    μ-loop
+    add-if1
+    returns
+    mul-k
+    sub-stop
+    mul-stop
+    add-stop
+    mul-j
+    add-j
+    loop-holds
+    add-m
+    mul-m
+    element-copy-out-m
+    mul-m-2
+    element-write-m
+    add-j-2
+    loop-less
+    loop-again
+    returns-2)

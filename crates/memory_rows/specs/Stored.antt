@@ -1,0 +1,120 @@
+-- Of dense words, the registry after one plugin is changed where it stands is the rules', and the words are dense again.
+use Prim.Native.Nat.{ℕ, _+_, _*_, _<_}
+use native.Mathlib.Omega.{arith}
+use mathlib.Core.Path.{_≡_, refl, sym, ap, _∙_, subst}
+use mathlib.Core.Logic.{_≢_}
+use mathlib.Core.Bool.{true}
+use mathlib.Core.List.{List}
+use mathlib.Core.Option.{some}
+use lib.Dec.{eqb}
+use lib.ListN.{length}
+use borrow.Author.Tests.{eq-eqb, ne-eqb, eqb-true, eqb-false}
+use Rattle.rules.specs.Basics.{pick}
+use Rattle.rules.specs.Refusals.{Refusal}
+use Rattle.rules.specs.Outcomes.{Outcome, refuses, answers, stores, storedAt, after}
+use Rattle.rules.specs.Laws.Tests.{by-test}
+use Rattle.memory.specs.Layout.{word, taken, idAt, depsAt, provsAt}
+use Rattle.memory.specs.View.{pluginAt, placeAt, view}
+use Rattle.memory.specs.Writes.{findAt, putLife}
+use Rattle.memory.specs.Frames.{withLife, OnlyLife, life-only}
+use Rattle.memory.specs.Stores.{Alone}
+use Rattle.memory.specs.Known.{storedLife, stored-at, stored-view}
+use Rattle.memory.specs.declared.Life.{Life}
+use Rattle.memory.specs.declared.Place.the-variants.{At}
+use Rattle.memory_places.specs.Placed.{places-map, taken-place, free-place}
+use Rattle.memory_places.specs.Rows.{rowsAt}
+use Rattle.memory_rows.specs.Tiles.{sum, share, sum-same}
+use Rattle.memory_rows.specs.Dense.{startWord, used, Dense, Refines}
+
+-- What dense words say is in the occupancy word and, of each place, in its id, first row and counts.
+module _ (m m′ : List ℕ) (d : Dense m) (size : length m′ ≡ length m) (header : word m′ 3 ≡ word m 3)
+    (id : (j : ℕ) → idAt m′ j ≡ idAt m j) (start : (j : ℕ) → startWord m′ j ≡ startWord m j)
+    (dependencies : (j : ℕ) → word m′ (j * 72 + 20) ≡ word m (j * 72 + 20))
+    (provisions : (j : ℕ) → word m′ (j * 72 + 21) ≡ word m (j * 72 + 21))
+    (realms : (j : ℕ) → word m′ (j * 72 + 22) ≡ word m (j * 72 + 22)) where
+  taken-same : (j : ℕ) → taken m′ j ≡ taken m j
+  unfolding taken
+  taken-same j = rw header
+
+  was : (j : ℕ) → taken m′ j ≡ true → taken m j ≡ true
+  was j t = sym (taken-same j) ∙ t
+
+  rows-same : (j : ℕ) → rowsAt m′ j ≡ rowsAt m j
+  rows-same j = rw (dependencies j, provisions j)
+
+  used-same : used m′ ≡ used m
+  used-same = sum-same 32 (share (taken m′) (rowsAt m′)) (share (taken m) (rowsAt m)) 0
+      (λ j a b. rw (taken-same j) (ap (λ (x : ℕ). pick (taken m j) x 0) (rows-same j)))
+
+  pub same-dense : Dense m′
+  same-dense = record {
+    size = size ∙ d .size;
+    alone = λ j k s t e. d .alone j k (was j s) (was k t) (sym (id j) ∙ e ∙ id k);
+    few-dependencies = λ j t. rw (dependencies j) (d .few-dependencies j (was j t));
+    few-provisions = λ j t. rw (provisions j) (d .few-provisions j (was j t));
+    few-realms = λ j t. rw (realms j) (d .few-realms j (was j t));
+    tiled = record {
+      below = λ j h t. omega (arith, start j, rows-same j, used-same, d .tiled .below j h (was j t));
+      apart = λ j k h g n s t o. omega (arith, start j, start k, rows-same j, d .tiled .apart j k h g n (was j s) (was k t) (omega (arith, start j, start k)));
+      total = refl;
+    };
+    room = omega (arith, used-same, d .room);
+  }
+
+pub only-dense : (m m′ : List ℕ) (i : ℕ) → OnlyLife m m′ i → Dense m → Dense m′
+only-dense m m′ i o d = same-dense m m′ d (o .size) (o .apart 3 (λ a b. omega arith))
+    (λ j. o .apart (j * 72 + 8) (λ a b. omega arith))
+    (λ j. o .apart (j * 72 + 19) (λ a b. omega arith))
+    (λ j. o .apart (j * 72 + 20) (λ a b. omega arith))
+    (λ j. o .apart (j * 72 + 21) (λ a b. omega arith))
+    (λ j. o .apart (j * 72 + 22) (λ a b. omega arith))
+
+pub life-dense : (m : List ℕ) (i : ℕ) (l : Life) → Dense m → Dense (putLife m i l)
+life-dense m i l d = only-dense m (putLife m i l) i (life-only m i l) d
+
+-- One taken place reads as another plugin of the same id, all else as before: that plugin is stored.
+module _ (m m′ : List ℕ) (i : ℕ) (alone : Alone m) (there : taken m i ≡ true)
+    (zero : word m′ 0 ≡ word m 0) (one : word m′ 1 ≡ word m 1) (two : word m′ 2 ≡ word m 2)
+    (kept : (j : ℕ) → taken m′ j ≡ taken m j) (same : pluginAt m′ i .id ≡ pluginAt m i .id)
+    (others : (j : ℕ) → j < 32 → j ≢ i → pluginAt m′ j ≡ pluginAt m j) where
+  here : placeAt m′ i ≡ storedAt (pluginAt m′ i) (placeAt m i)
+  here = rw (taken-place m′ i (kept i ∙ there), taken-place m i there) (rw (eq-eqb _ _ (sym same)))
+
+  apart : (j : ℕ) → taken m j ≡ true → j ≢ i → pluginAt m j .id ≢ pluginAt m′ i .id
+  unfolding pluginAt
+  apart j t n e = n (alone j i t there (e ∙ same))
+
+  one-place : (j : ℕ) → j < 32 → placeAt m′ j ≡ storedAt (pluginAt m′ i) (placeAt m j)
+  one-place j h = by-test (eqb i j)
+      (λ y. subst (λ x. placeAt m′ x ≡ storedAt (pluginAt m′ i) (placeAt m x)) (eqb-true i j y) here)
+      (λ d. let n : j ≢ i = λ e. eqb-false i j d (sym e) in
+      by-test (taken m j)
+      (λ t. rw (taken-place m′ j (kept j ∙ t), taken-place m j t, others j h n) (rw (ne-eqb _ _ (apart j t n))))
+      (λ f. rw (free-place m′ j (kept j ∙ f), free-place m j f)))
+
+  pub changed-view : (vs : List ℕ) → view m′ ≡ after (view m) (stores (pluginAt m′ i) vs)
+  unfolding view after
+  changed-view vs = λ x. record {
+    domain = zero x;
+    first = one x;
+    next = two x;
+    places = places-map (storedAt (pluginAt m′ i)) m m′ 32 0 (λ j a b. one-place j b) x;
+  }
+
+module _ (m : List ℕ) (d : Dense m) where
+  abbrev pub Stored : Outcome → Type 0
+  Stored o = Refines m (storedLife m o) o
+
+  pub stored-refused : (x : Refusal) (vs : List ℕ) → Stored (refuses x vs)
+  unfolding storedLife after
+  stored-refused x vs = record { registry = refl; dense = d }
+
+  pub stored-nothing : (vs : List ℕ) → Stored (answers vs)
+  unfolding storedLife after
+  stored-nothing vs = record { registry = refl; dense = d }
+
+  pub stored-life : (id i : ℕ) → findAt m id ≡ At i → (l : Life) (vs : List ℕ) → Stored (stores (withLife (pluginAt m i) l) vs)
+  stored-life id i e l vs = record {
+    registry = stored-view m (d .size) (d .alone) id i e l vs;
+    dense = rw (stored-at m id i e l vs) (life-dense m i l d);
+  }

@@ -1,0 +1,101 @@
+// A plugin's values: one for each provision, or none. Every function takes any words; a place is read modulo 32, a provision's number modulo 15.
+ghost use mathlib.Core.Path.{_≡_};
+ghost use Prim.Native.Nat.{_+_, _*_, _%_};
+ghost use lib.Dec.{eqb};
+ghost use lib.ListN.{set};
+ghost use Rattle.rules.specs.Holds.{port};
+ghost use Rattle.rules.specs.Ports.{pairs};
+ghost use Rattle.rules.specs.Values.{valueIn};
+ghost use Rattle.memory.specs.View.{valueAt, pluginAt};
+ghost use Rattle.memory_values.specs.Values.{maskBit, valueOf, portFrom, lackFrom, withValue};
+use memory::PLACE_WORDS;
+use memory::WORDS;
+use ports::Found;
+
+pub enum Value {
+    Is(u64),
+    Nothing,
+}
+
+// Whether a provision has a value: its bit in the mask.
+fn has_value(m: &[u64; WORDS], place: usize, provision: usize) -> bool
+    ensures { λ r. ⌜ r ≡ eqb (maskBit (now (m .entry)) (place % 32) (provision % 15)) 1 ⌝ }
+{
+    let b = place % 32 * PLACE_WORDS;
+    (m[b + 23] >> (provision % 15)) % 2 == 1
+}
+
+// The value of a provision, or nothing.
+pub fn value_at(m: &[u64; WORDS], place: usize, provision: usize) -> Value
+    ensures { λ r. ⌜ valueOf r ≡ valueAt (now (m .entry)) (place % 32) (provision % 15) ⌝ }
+{
+    if has_value(m, place, provision) {
+        let b = place % 32 * PLACE_WORDS;
+        let j = provision % 15;
+        Value::Is(m[b + 24 + j])
+    } else {
+        Value::Nothing
+    }
+}
+
+// The place of the first port of the list that is the same.
+pub fn place_of(ports: &[u64], key: u64, realm: u64) -> Found
+    ensures { λ r. ⌜ r ≡ portFrom 0 (port key realm) (pairs (now (ports .entry))) ⌝ }
+{
+    let mut i: usize = 0;
+    while i < ports.len() / 2 {
+        if ports[i * 2] == key {
+            if ports[i * 2 + 1] == realm {
+                return Found::At(i);
+            }
+        }
+        i += 1;
+    }
+    Found::Nothing
+}
+
+// The value of a port among the plugin's provisions, or nothing.
+pub fn value_of(m: &[u64; WORDS], place: usize, key: u64, realm: u64) -> Value
+    ensures { λ r. ⌜ valueOf r ≡ valueIn (port key realm) (pluginAt (now (m .entry)) (place % 32) .provisions) ⌝ }
+{
+    let Found::At(j) = place_of(memory_lists::provision_words(m, place), key, realm) else {
+        return Value::Nothing;
+    };
+    value_at(m, place, j)
+}
+
+// The first provision without a value: a plugin has 15 at most, so the low half of the mask tells.
+pub fn first_lacking(m: &[u64; WORDS], place: usize) -> Found
+    ensures { λ r. ⌜ r ≡ lackFrom 0 (pluginAt (now (m .entry)) (place % 32) .provisions) ⌝ }
+{
+    let words = memory_lists::provision_words(m, place);
+    let b = place % 32 * PLACE_WORDS;
+    let mask = (m[b + 23] % 4294967296) as u32;
+    let j = u32::trailing_zeros(!mask) as usize;
+    if j < words.len() / 2 {
+        Found::At(j)
+    } else {
+        Found::Nothing
+    }
+}
+
+// A provision that has no value gets one.
+pub fn set_value(m: &mut [u64; WORDS], place: usize, provision: usize, value: u64)
+    ensures { λ _. ⌜ now (m .exit) ≡ withValue (now (m .entry)) (place % 32) (provision % 15) value ⌝ }
+{
+    if has_value(m, place, provision) {
+        return;
+    }
+    let b = place % 32 * PLACE_WORDS;
+    let j = provision % 15;
+    m[b + 23] = m[b + 23] | 1 << j;
+    m[b + 24 + j] = value;
+}
+
+// No provision of the place has a value any more.
+pub fn drop_values(m: &mut [u64; WORDS], place: usize)
+    ensures { λ _. ⌜ now (m .exit) ≡ set (now (m .entry)) (place % 32 * 72 + 23) 0 ⌝ }
+{
+    let b = place % 32 * PLACE_WORDS;
+    m[b + 23] = 0;
+}

@@ -1,0 +1,282 @@
+-- The ports so far, and the candidates from turn c on, inherit the finished list; the inner loop looks for one candidate in the ports so far.
+use Prim.Native.Nat.{ℕ, _+_, _-_, _*_, _/_, _≤_, _<_}
+use native.Mathlib.Omega.{arith}
+use mathlib.Core.Logic.{⊎-elim}
+use mathlib.Core.Path.{_≡_, refl, sym, ap, _∙_}
+use mathlib.Core.List.{List, [], _∷_, _++_}
+use lib.ListN.{length, getD, take, drop, length-append, length-map, length-take}
+use borrow.Author.Needs.{needs}
+use Rattle.rules.specs.declared.Port.{Port}
+use Rattle.rules.specs.Holds.{port, isIn}
+use Rattle.rules.specs.Ports.{pairs, resolve, resolveIn, realmsWith}
+use Rattle.rules.specs.Dependencies.{candidates, inherit, dependencyList}
+use Rattle.ports.specs.Places.{in-hit, in-miss}
+use Rattle.ports_inherited.specs.Blocks.{fitted}
+use Rattle.ports_claimed.specs.Filled.{Lists, listed, lists-own, lists-at, lists-end, lists-more}
+use Rattle.ports_resolved.specs.Blocks.{declared-lists}
+use Rattle.ports_inherited.specs.Answers.{fitted-lists, fitted-longer}
+use Rattle.ports_inherited.proofs.Turns.{candidate-at, candidates-end, skip-provision, skip-listed, append-new, grows}
+use Rattle.ports_inherited.proofs.dependency_list.Statement.{statement}
+use Rattle.ports_inherited.proofs.dependency_list.Tie as tie
+
+-- the list so far
+abbrev soFar : ℕ → List ℕ → List Port
+soFar n ports = pairs (take (n * 2) ports)
+
+abbrev Inv-loop : tie.InvT-loop
+Inv-loop realms other provisions keys parents ports n c at key realm k₀ k =
+    (k ≤ n) × (isIn (port key realm) (soFar n ports) ≡ isIn (port key realm) (drop k (soFar n ports)))
+
+abbrev μ-loop : tie.MeasureT-loop
+μ-loop realms other provisions keys parents ports n c at key realm k₀ k = n - k
+
+abbrev Inv-next : tie.InvT-next
+Inv-next realms other provisions keys parents ports₀ n₀ c₀ ports n c =
+    (n ≤ 48) × Lists 96 n ports (soFar n ports)
+    × (dependencyList (realmsWith other realms) (pairs provisions) (take 16 keys) (pairs parents)
+    ≡ inherit (pairs provisions) (drop c (candidates (realmsWith other realms) (pairs parents))) (soFar n ports))
+
+abbrev μ-next : tie.MeasureT-next
+μ-next realms other provisions keys parents ports₀ n₀ c₀ ports n c = length parents / 2 * 2 - c
+
+-- the test of the provisions: the loop's head before it, and the function's entry
+abbrev Tested : Type 0
+Tested = tie.After-has-port Inv-loop μ-loop Inv-next μ-next
+
+abbrev head : Tested → tie.At-next Inv-loop μ-loop Inv-next μ-next
+head t = t .before .before .before .before .before
+
+abbrev entry : Tested → tie.Start Inv-loop μ-loop Inv-next μ-next
+entry t = head t .before .before .before .before .before .before .before
+
+abbrev list : Tested → List Port
+list t = soFar (head t .next .n) (head t .next .ports)
+
+abbrev provided : Tested → List Port
+provided t = pairs (entry t .args .provisions .now)
+
+abbrev rest : Tested → ℕ → List Port
+rest t c = drop c (candidates (realmsWith (entry t .args .other) (entry t .args .realms .now)) (pairs (entry t .args .parents .now)))
+
+-- the candidate of turn c
+abbrev port-at : Tested → Port
+port-at t = port (getD (entry t .args .parents .now) (head t .next .c / 2 * 2) 0) (t .before .candidate .result)
+
+split : (t : Tested) → rest t (head t .next .c) ≡ port-at t ∷ rest t (head t .next .c + 1)
+split t =
+    let a = entry t .args in
+    candidate-at (a .other) (a .realms .now) (a .parents .now) (head t .next .c) (t .before .before .before .before .next-test .taken) (t .before .candidate .ensures)
+
+declared-requires : tie.Need-declared-requires Inv-loop μ-loop Inv-next μ-next
+declared-requires c κs = search needs
+
+next-holds : tie.Need-next-holds Inv-loop μ-loop Inv-next μ-next
+unfolding dependencyList resolve
+next-holds c =
+    let a = c .before .before .before .before .before .before .args in
+    let f = resolveIn (a .other) (pairs (a .realms .now)) in
+    let keys = take 16 (a .keys .now) in
+    let r = declared-lists (a .other) (pairs (a .realms .now)) (a .keys .now) (c .declared .ensures .0) (c .declared .ensures .1) in
+    let h : c .declared .result ≤ 48 = omega (arith, r .counted, length-map keys f, length-take 16 (a .keys .now)) in
+    (h, lists-own r, ap (λ (l : List Port). inherit (pairs (a .provisions .now)) (candidates (realmsWith (a .other) (a .realms .now)) (pairs (a .parents .now))) l) (sym (listed r)))
+
+mul-at : tie.Need-mul-at Inv-loop μ-loop Inv-next μ-next
+mul-at c = search needs
+
+mul-key : tie.Need-mul-key Inv-loop μ-loop Inv-next μ-next
+mul-key c = search needs
+
+shared-slice-read-key : tie.Need-shared-slice-read-key Inv-loop μ-loop Inv-next μ-next
+shared-slice-read-key c = search needs
+
+add-candidate : tie.Need-add-candidate Inv-loop μ-loop Inv-next μ-next
+add-candidate c = search needs
+
+mul-candidate : tie.Need-mul-candidate Inv-loop μ-loop Inv-next μ-next
+mul-candidate c = search needs
+
+shared-slice-read-candidate : tie.Need-shared-slice-read-candidate Inv-loop μ-loop Inv-next μ-next
+shared-slice-read-candidate c = search needs
+
+candidate-requires : tie.Need-candidate-requires Inv-loop μ-loop Inv-next μ-next
+candidate-requires c κs = search needs
+
+add-c : tie.Need-add-c Inv-loop μ-loop Inv-next μ-next
+add-c c = search needs
+
+has-port-requires : tie.Need-has-port-requires Inv-loop μ-loop Inv-next μ-next
+has-port-requires c κs = search needs
+
+next-less : tie.Need-next-less Inv-loop μ-loop Inv-next μ-next
+next-less c = search needs
+
+next-again : tie.Need-next-again Inv-loop μ-loop Inv-next μ-next
+next-again c =
+    let t = c .before in
+    let v = head t .next .inv in
+    (v .0, v .1, v .2 ∙ skip-provision (split t) (provided t) (list t) (sym (t .has-port .ensures) ∙ c .if1 .taken))
+
+loop-holds : tie.Need-loop-holds Inv-loop μ-loop Inv-next μ-next
+loop-holds c = search needs
+
+mul-if2 : tie.Need-mul-if2 Inv-loop μ-loop Inv-next μ-next
+mul-if2 c = search needs
+
+mul-if2-2 : tie.Need-mul-if2-2 Inv-loop μ-loop Inv-next μ-next
+mul-if2-2 c = search needs
+
+array-read-if2 : tie.Need-array-read-if2 Inv-loop μ-loop Inv-next μ-next
+array-read-if2 c = search needs
+
+mul-if3 : tie.Need-mul-if3 Inv-loop μ-loop Inv-next μ-next
+mul-if3 c = search needs
+
+add-if3 : tie.Need-add-if3 Inv-loop μ-loop Inv-next μ-next
+add-if3 c = search needs
+
+mul-if3-2 : tie.Need-mul-if3-2 Inv-loop μ-loop Inv-next μ-next
+mul-if3-2 c = search needs
+
+array-read-if3 : tie.Need-array-read-if3 Inv-loop μ-loop Inv-next μ-next
+array-read-if3 c = search needs
+
+next-less-2 : tie.Need-next-less-2 Inv-loop μ-loop Inv-next μ-next
+next-less-2 c = search needs
+
+next-again-2 : tie.Need-next-again-2 Inv-loop μ-loop Inv-next μ-next
+next-again-2 c =
+    let in-loop = c .before .before in
+    let at = in-loop .before in
+    let t = at .before .before in
+    let v = head t .next .inv in
+    let there = at .loop .inv .1 ∙ in-hit (lists-at (v .1) (at .loop .k) (in-loop .loop-test .taken)) (port-at t) (c .before .if2 .taken) (c .if3 .taken) in
+    (v .0, v .1, v .2 ∙ skip-listed (split t) (provided t) (list t) (sym (t .has-port .ensures) ∙ at .before .if1 .left) there)
+
+add-k : tie.Need-add-k Inv-loop μ-loop Inv-next μ-next
+add-k c = search needs
+
+loop-less : tie.Need-loop-less Inv-loop μ-loop Inv-next μ-next
+loop-less c = search needs
+
+loop-again : tie.Need-loop-again Inv-loop μ-loop Inv-next μ-next
+loop-again c =
+    let at = c .before .before in
+    let t = at .before .before in
+    let s = lists-at (head t .next .inv .1) (at .loop .k) (c .before .loop-test .taken) in
+    (omega arith, at .loop .inv .1 ∙ in-miss s (port-at t) (⊎-elim (λ w e f. w .1 .left f) (λ w e f. w .left e) (c .if2 .came)))
+
+-- the candidate is appended
+appended : (c : tie.After-loop Inv-loop μ-loop Inv-next μ-next)
+    → let t = c .before .before .before in
+    inherit (provided t) (rest t (head t .next .c)) (list t) ≡ inherit (provided t) (rest t (head t .next .c + 1)) (list t ++ port-at t ∷ [])
+appended c =
+    let at = c .before in
+    let t = at .before .before in
+    let absent = at .loop .inv .1 ∙ ap (λ (l : List Port). isIn (port-at t) l) (lists-end (head t .next .inv .1) (at .loop .k) (c .loop-test .left)) in
+    append-new (split t) (provided t) (list t) (sym (t .has-port .ensures) ∙ at .before .if1 .left) absent
+
+longer-requires : tie.Need-longer-requires Inv-loop μ-loop Inv-next μ-next
+longer-requires c κs = search needs
+
+returns : tie.Need-returns Inv-loop μ-loop Inv-next μ-next
+returns c =
+    let al = c .before .before in
+    let t = al .before .before .before in
+    let v = head t .next .inv in
+    let l = list t ++ port-at t ∷ [] in
+    let e = v .2 ∙ appended al in
+    let n : 48 < length (inherit (provided t) (rest t (head t .next .c + 1)) l) =
+    omega (arith, grows (provided t) (rest t (head t .next .c + 1)) l, length-append (list t) (port-at t ∷ []), v .1 .counted, c .before .if4 .taken) in
+    fitted-longer (inherit (provided t) (rest t (head t .next .c + 1)) l) n (c .longer .ensures .0) (c .longer .ensures .1) ∙ ap fitted (sym e)
+
+mul-ports : tie.Need-mul-ports Inv-loop μ-loop Inv-next μ-next
+mul-ports c = search needs
+
+mul-ports-2 : tie.Need-mul-ports-2 Inv-loop μ-loop Inv-next μ-next
+mul-ports-2 c = search needs
+
+array-write-ports : tie.Need-array-write-ports Inv-loop μ-loop Inv-next μ-next
+array-write-ports c = search needs
+
+mul-ports-3 : tie.Need-mul-ports-3 Inv-loop μ-loop Inv-next μ-next
+mul-ports-3 c = search needs
+
+add-ports : tie.Need-add-ports Inv-loop μ-loop Inv-next μ-next
+add-ports c = search needs
+
+mul-ports-4 : tie.Need-mul-ports-4 Inv-loop μ-loop Inv-next μ-next
+mul-ports-4 c = search needs
+
+array-write-ports-2 : tie.Need-array-write-ports-2 Inv-loop μ-loop Inv-next μ-next
+array-write-ports-2 c = search needs
+
+add-n : tie.Need-add-n Inv-loop μ-loop Inv-next μ-next
+add-n c = search needs
+
+next-less-3 : tie.Need-next-less-3 Inv-loop μ-loop Inv-next μ-next
+next-less-3 c = search needs
+
+next-again-3 : tie.Need-next-again-3 Inv-loop μ-loop Inv-next μ-next
+next-again-3 c =
+    let t = c .before .before .before .before in
+    let v = head t .next .inv in
+    let n = head t .next .n in
+    let r = lists-more (v .1) (port-at t) {a = n * 2} {b = n * 2 + 1} refl refl (omega (arith, c .if4 .left)) in
+    (omega (arith, c .if4 .left), lists-own r, v .2 ∙ appended (c .before) ∙ ap (λ (l : List Port). inherit (provided t) (rest t (head t .next .c + 1)) l) (sym (listed r)))
+
+returns-2 : tie.Need-returns-2 Inv-loop μ-loop Inv-next μ-next
+returns-2 c =
+    let at = c .before in
+    let a = at .before .before .before .before .before .before .before .args in
+    let v = at .next .inv in
+    let l = soFar (at .next .n) (at .next .ports) in
+    let e = v .2 ∙ ap (λ (cs : List Port). inherit (pairs (a .provisions .now)) cs l) (candidates-end (a .other) (a .realms .now) (a .parents .now) (at .next .c) (c .next-test .left)) in
+    fitted-lists l (v .1) (v .0) ∙ ap fitted (sym e)
+
+pub dependency-list-spec : {M : Type 1} → statement M
+dependency-list-spec =
+    tie.close
+    (tie.spec
+    Inv-loop
+    μ-loop
+    Inv-next
+    μ-next
+    declared-requires
+    next-holds
+    mul-at
+    mul-key
+    shared-slice-read-key
+    add-candidate
+    mul-candidate
+    shared-slice-read-candidate
+    candidate-requires
+    add-c
+    has-port-requires
+    next-less
+    next-again
+    loop-holds
+    mul-if2
+    mul-if2-2
+    array-read-if2
+    mul-if3
+    add-if3
+    mul-if3-2
+    array-read-if3
+    next-less-2
+    next-again-2
+    add-k
+    loop-less
+    loop-again
+    longer-requires
+    returns
+    mul-ports
+    mul-ports-2
+    array-write-ports
+    mul-ports-3
+    add-ports
+    mul-ports-4
+    array-write-ports-2
+    add-n
+    next-less-3
+    next-again-3
+    returns-2)

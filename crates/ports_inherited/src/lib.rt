@@ -1,0 +1,65 @@
+// Document 01, "Dependency list".
+ghost use mathlib.Core.Path.{_≡_};
+ghost use mathlib.Core.List.{[]};
+ghost use lib.ListN.{take};
+ghost use Rattle.rules.specs.Ports.{pairs, realmsWith};
+ghost use Rattle.rules.specs.Dependencies.{dependencyList};
+ghost use Rattle.ports_claimed.specs.Blocks.{filled};
+ghost use Rattle.ports_inherited.specs.Blocks.{fitted};
+
+// A finished dependency list of at most 48 ports. A count of 49 says that it is longer.
+pub struct Dependencies {
+    pub count: usize,
+    pub ports: [u64; 96],
+}
+
+// The list of a new plugin: the first 16 declared keys resolved, then for each port of the parent's list itself and its
+// key resolved again, each appended if it is neither among the provisions nor in the list so far.
+pub fn dependency_list(
+    realms: &[u64],
+    other: u64,
+    provisions: &[u64],
+    keys: &[u64],
+    parents: &[u64],
+) -> Dependencies
+    ensures { λ r. ⌜ r ≡ fitted (dependencyList (realmsWith other (now (realms .entry))) (pairs (now (provisions .entry))) (take 16 (now (keys .entry))) (pairs (now (parents .entry)))) ⌝ }
+{
+    let mut ports = [0u64; 96];
+    let mut n = ports_resolved::declared(realms, other, keys, &mut ports);
+    let mut c: usize = 0;
+    'next: while c / 2 < parents.len() / 2 {
+        let at = c / 2 * 2;
+        let key = parents[at];
+        let realm = ports_resolved::candidate(realms, other, c % 2, key, parents[at + 1]);
+        c += 1;
+        if ports::has_port(provisions, key, realm) {
+            continue;
+        }
+        let mut k: usize = 0;
+        while k < n {
+            if ports[k * 2] == key {
+                if ports[k * 2 + 1] == realm {
+                    continue 'next;
+                }
+            }
+            k += 1;
+        }
+        if n == 48 {
+            return longer();
+        }
+        ports[n * 2] = key;
+        ports[n * 2 + 1] = realm;
+        n += 1;
+    }
+    Dependencies { count: n, ports }
+}
+
+// What a list of more than 48 ports answers.
+fn longer() -> Dependencies
+    ensures { λ r. ⌜ (r .count ≡ 49) × (r .ports ≡ filled 96 []) ⌝ }
+{
+    Dependencies {
+        count: 49,
+        ports: [0u64; 96],
+    }
+}

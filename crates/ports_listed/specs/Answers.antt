@@ -1,0 +1,17 @@
+-- What a listing answers, in document 01's numbers.
+use mathlib.Core.Path.{_≡_}
+use mathlib.Core.List.{[], _∷_}
+use Rattle.rules.specs.Outcomes.{Answer, Refused, Accepted}
+use Rattle.ports_listed.specs.declared.Listed.{Listed}
+use Rattle.ports_listed.specs.declared.Listed.the-variants as listed
+
+abbrev pub listedAnswer : Listed → Answer
+listedAnswer (listed.Count n) = Accepted (n ∷ [])
+listedAnswer (listed.Refused n) = Refused n []
+
+-- Two answers that the contract of list_ports allows are equal.
+pub answer-exact : (a b : Listed) → listedAnswer a ≡ listedAnswer b → a ≡ b
+answer-exact (listed.Count m) (listed.Count n) e = cc
+answer-exact (listed.Count m) (listed.Refused n) e = cc
+answer-exact (listed.Refused m) (listed.Count n) e = cc
+answer-exact (listed.Refused m) (listed.Refused n) e = cc

@@ -1,0 +1,42 @@
+// Document 01, "Lists": ports are listed from the place in the lent buffer that the caller names.
+ghost use mathlib.Core.Path.{_≡_};
+ghost use mathlib.Core.List.{_++_};
+ghost use Prim.Native.Nat.{_≤_};
+ghost use lib.ListN.{length, drop};
+ghost use Rattle.rules.specs.Outcomes.{answerOf, lentAfter};
+ghost use Rattle.rules.specs.Ports.{pairs, flat};
+ghost use Rattle.rules.specs.Lists.{listing};
+ghost use Rattle.ports_listed.specs.Answers.{listedAnswer};
+use rules::refusal;
+
+pub enum Listed {
+    Count(usize),
+    Refused(u64),
+}
+
+// The pair writer: the whole pairs of a list go to the front of out; its rest stays.
+fn put_pairs(ports: &[u64], out: &mut [u64])
+    requires { ⌜ length (flat (pairs (now ports))) ≤ length (now out) ⌝ }
+    ensures { λ _. ⌜ now (out .exit) ≡ flat (pairs (now (ports .entry))) ++ drop (length (flat (pairs (now (ports .entry))))) (now (out .entry)) ⌝ }
+{
+    let mut i: usize = 0;
+    while i < ports.len() / 2 * 2 {
+        out[i] = ports[i];
+        i += 1;
+    }
+}
+
+// 23 if the place is past the end or the room from it to the end is too small; nothing is written then.
+pub fn list_ports(ports: &[u64], buffer: &mut [u64], place: usize) -> Listed
+    ensures { λ r. ⌜ listedAnswer r ≡ answerOf (listing (pairs (now (ports .entry))) place (now (buffer .entry))) ⌝ ∗ ⌜ now (buffer .exit) ≡ lentAfter (now (buffer .entry)) (listing (pairs (now (ports .entry))) place (now (buffer .entry))) ⌝ }
+{
+    let count = ports.len() / 2;
+    if buffer.len() < place {
+        return Listed::Refused(refusal::SHORT_BUFFER);
+    }
+    if buffer.len() - place < count * 2 {
+        return Listed::Refused(refusal::SHORT_BUFFER);
+    }
+    put_pairs(ports, &mut buffer[place..]);
+    Listed::Count(count)
+}

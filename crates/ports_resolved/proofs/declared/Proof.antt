@@ -1,0 +1,115 @@
+-- The ports of the keys from i on are still to be stored.
+use Prim.Native.Nat.{_-_, _≤_}
+use native.Mathlib.Omega.{arith}
+use mathlib.Core.Path.{_≡_, refl, sym, _∙_}
+use mathlib.Core.List.{map}
+use lib.ListN.{length, take, drop, length-map, length-take}
+use borrow.Author.Needs.{needs}
+use Rattle.rules.specs.Ports.{pairs, resolveIn}
+use Rattle.ports.specs.Found.{resolve-with}
+use Rattle.ports_resolved.specs.Blocks.{declaredOf, stored}
+use Rattle.ports_resolved.proofs.Laws.{stored-next, stored-end}
+use Rattle.ports_resolved.proofs.declared.Statement.{statement}
+use Rattle.ports_resolved.proofs.declared.Tie as tie
+
+abbrev Inv-loop : tie.InvT-loop
+Inv-loop realms other keys ports₀ i₀ ports i =
+    (i ≤ 16) × (i ≤ length keys)
+    × (stored ports₀ 0 (declaredOf other (pairs realms) keys) ≡ stored ports i (map (resolveIn other (pairs realms)) (drop i (take 16 keys))))
+
+abbrev μ-loop : tie.MeasureT-loop
+μ-loop realms other keys ports₀ i₀ ports i = length keys - i
+
+loop-holds : tie.Need-loop-holds Inv-loop μ-loop
+loop-holds c = (omega arith, omega arith, refl)
+
+returns : tie.Need-returns Inv-loop μ-loop
+returns c =
+    let at = c .before .before in
+    let a = at .before .before .before .args in
+    let keys = a .keys .now in
+    let f = resolveIn (a .other) (pairs (a .realms .now)) in
+    let n = length-map (take 16 keys) f in
+    let t = length-take 16 keys in
+    (omega (arith, n, t), sym (at .loop .inv .2 ∙ stored-end f keys (at .loop .ports) (at .loop .i) (omega (arith, t))))
+
+mul-new : tie.Need-mul-new Inv-loop μ-loop
+mul-new c = search needs
+
+shared-slice-read-new : tie.Need-shared-slice-read-new Inv-loop μ-loop
+shared-slice-read-new c = search needs
+
+new-requires : tie.Need-new-requires Inv-loop μ-loop
+new-requires c κs = search needs
+
+resolve-requires : tie.Need-resolve-requires Inv-loop μ-loop
+resolve-requires c κs = search needs
+
+mul-ports : tie.Need-mul-ports Inv-loop μ-loop
+mul-ports c = search needs
+
+mul-ports-2 : tie.Need-mul-ports-2 Inv-loop μ-loop
+mul-ports-2 c = search needs
+
+element-write-ports : tie.Need-element-write-ports Inv-loop μ-loop
+element-write-ports c = search needs
+
+mul-ports-3 : tie.Need-mul-ports-3 Inv-loop μ-loop
+mul-ports-3 c = search needs
+
+add-ports : tie.Need-add-ports Inv-loop μ-loop
+add-ports c = search needs
+
+mul-ports-4 : tie.Need-mul-ports-4 Inv-loop μ-loop
+mul-ports-4 c = search needs
+
+element-write-ports-2 : tie.Need-element-write-ports-2 Inv-loop μ-loop
+element-write-ports-2 c = search needs
+
+add-i : tie.Need-add-i Inv-loop μ-loop
+add-i c = search needs
+
+loop-less : tie.Need-loop-less Inv-loop μ-loop
+loop-less c = search needs
+
+loop-again : tie.Need-loop-again Inv-loop μ-loop
+loop-again c =
+    let at = c .before .before .before .before .before in
+    let a = at .before .before .before .args in
+    let f = resolveIn (a .other) (pairs (a .realms .now)) in
+    let e = resolve-with (pairs (a .realms .now)) _ _ _ _ (c .resolve .ensures) (c .before .new .ensures) in
+    (omega arith, omega arith, at .loop .inv .2 ∙ stored-next f (a .keys .now) (at .loop .ports) (at .loop .i) _ (omega arith) (omega arith) e)
+
+returns-2 : tie.Need-returns-2 Inv-loop μ-loop
+returns-2 c =
+    let at = c .before in
+    let a = at .before .before .before .args in
+    let keys = a .keys .now in
+    let f = resolveIn (a .other) (pairs (a .realms .now)) in
+    let n = length-map (take 16 keys) f in
+    let t = length-take 16 keys in
+    (omega (arith, n, t), sym (at .loop .inv .2 ∙ stored-end f keys (at .loop .ports) (at .loop .i) (omega (arith, t))))
+
+pub declared-spec : {M : Type 1} → statement M
+declared-spec =
+    tie.close
+    (tie.spec
+    Inv-loop
+    μ-loop
+    loop-holds
+    returns
+    mul-new
+    shared-slice-read-new
+    new-requires
+    resolve-requires
+    mul-ports
+    mul-ports-2
+    element-write-ports
+    mul-ports-3
+    add-ports
+    mul-ports-4
+    element-write-ports-2
+    add-i
+    loop-less
+    loop-again
+    returns-2)

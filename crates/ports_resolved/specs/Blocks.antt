@@ -1,0 +1,49 @@
+-- The declared keys' ports stored in a lent array, and a candidate of the parent's list.
+use Prim.Native.Nat.{ℕ, _+_, _*_, _≤_}
+use native.Mathlib.Omega.{arith}
+use mathlib.Core.Path.{_≡_, refl, sym, ap, _∙_}
+use mathlib.Core.List.{List, [], _∷_, _++_, map, append-assoc, append-nil}
+use lib.Dec.{eqb}
+use lib.ListN.{length, set, take, length-append, length-map, length-take}
+use Rattle.rules.specs.Basics.{pick}
+use Rattle.rules.specs.declared.Port.{Port}
+use Rattle.rules.specs.Ports.{resolveIn, flat}
+use Rattle.ports_claimed.specs.Blocks.{filled}
+use Rattle.ports_claimed.specs.Filled.{Lists, lists-more}
+
+-- the resolved keys, at most 16
+abbrev pub declaredOf : ℕ → List Port → List ℕ → List Port
+declaredOf other rows keys = map (resolveIn other rows) (take 16 keys)
+
+-- Ports stored in an array, as key and realm, from place k on; the rest stays.
+unfoldable pub stored : List ℕ → ℕ → List Port → List ℕ
+stored array k [] = array
+stored array k (q ∷ qs) = stored (set (set array (k * 2) (q .key)) (k * 2 + 1) (q .realm)) (k + 1) qs
+
+-- behind ports that stand in front they stand in front too
+pub stored-lists : {size k : ℕ} {array : List ℕ} {ps : List Port} (qs : List Port) → Lists size k array ps → (k + length qs) * 2 ≤ size
+    → Lists size (k + length qs) (stored array k qs) (ps ++ qs)
+unfolding stored
+stored-lists {size} {k} {array} {ps} [] r h = record {
+  counted = omega (arith, r .counted, length-append ps []);
+  numbers = r .numbers ∙ ap (λ (l : List Port). filled size (flat l)) (sym (append-nil ps));
+}
+stored-lists {size} {k} {array} {ps} (q ∷ qs) r h =
+    let more = stored-lists qs (lists-more r q {a = k * 2} {b = k * 2 + 1} refl refl (omega arith)) (omega arith) in
+    record {
+      counted = omega (arith, r .counted, length-append ps (q ∷ qs));
+      numbers = more .numbers ∙ ap (λ (l : List Port). filled size (flat l)) (append-assoc ps (q ∷ []) qs);
+    }
+
+-- stored in zeros they stand in front, and the rest is 0
+pub declared-lists : (other : ℕ) (rows : List Port) (keys : List ℕ) {n : ℕ} {array : List ℕ} → n ≡ length (declaredOf other rows keys)
+    → array ≡ stored (filled 96 []) 0 (declaredOf other rows keys) → Lists 96 n array (declaredOf other rows keys)
+declared-lists other rows keys e f =
+    let ps = declaredOf other rows keys in
+    let h : (0 + length ps) * 2 ≤ 96 = omega (arith, length-map (take 16 keys) (resolveIn other rows), length-take 16 keys) in
+    let none : Lists 96 0 (filled 96 []) [] = record { counted = refl; numbers = refl } in
+    record { counted = e; numbers = f ∙ stored-lists ps none h .numbers }
+
+-- the realm of a candidate: its own at turn 0, else that of its key resolved again
+abbrev pub candidateRealm : ℕ → List Port → ℕ → ℕ → ℕ → ℕ
+candidateRealm other rows turn key realm = pick (eqb turn 0) realm (resolveIn other rows key .realm)

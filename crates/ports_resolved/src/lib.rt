@@ -1,0 +1,34 @@
+// Document 01, "Dependency list": what its keys resolve to, the declared ones and those of the parent's list.
+ghost use mathlib.Core.Path.{_≡_};
+ghost use lib.ListN.{length};
+ghost use Rattle.rules.specs.Ports.{pairs};
+ghost use Rattle.ports_resolved.specs.Blocks.{declaredOf, stored, candidateRealm};
+use rules::Port;
+
+// The first 16 declared keys, resolved, in the front of an array that a finished list of 48 ports fits into; their count.
+pub fn declared(realms: &[u64], other: u64, keys: &[u64], ports: &mut [u64; 96]) -> usize
+    ensures { λ r. ⌜ r ≡ length (declaredOf other (pairs (now (realms .entry))) (now (keys .entry))) ⌝ ∗ ⌜ now (ports .exit) ≡ stored (now (ports .entry)) 0 (declaredOf other (pairs (now (realms .entry))) (now (keys .entry))) ⌝ }
+{
+    let mut i: usize = 0;
+    while i < keys.len() {
+        if i == 16 {
+            return 16;
+        }
+        let q = ports::resolve(realms, Port::new(keys[i], other));
+        ports[i * 2] = q.key;
+        ports[i * 2 + 1] = q.realm;
+        i += 1;
+    }
+    i
+}
+
+// The realm of a candidate: its own, or that of its key resolved again.
+pub fn candidate(realms: &[u64], other: u64, turn: usize, key: u64, realm: u64) -> u64
+    ensures { λ r. ⌜ r ≡ candidateRealm other (pairs (now (realms .entry))) turn key realm ⌝ }
+{
+    if turn == 0 {
+        return realm;
+    }
+    let q = ports::resolve(realms, Port::new(key, other));
+    q.realm
+}

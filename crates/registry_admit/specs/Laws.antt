@@ -1,0 +1,203 @@
+-- What admission and call come to where the id is found in the words, and where it is not; and what they answer and leave then.
+use Prim.Native.Nat.{ℕ, _%_}
+use native.Mathlib.Omega.{arith}
+use mathlib.Core.Path.{_≡_, refl, sym, ap, _∙_}
+use mathlib.Core.Logic.{_≢_}
+use mathlib.Core.Bool.{Bool, true, false, not, _||_}
+use mathlib.Core.List.{List, [], _∷_}
+use lib.Dec.{eqb}
+use borrow.Author.Tests.{eq-eqb, ne-eqb, eqb-true}
+use Rattle.rules.specs.Holds.{Plugin, isLoading, withRoot}
+use Rattle.rules.specs.declared.Root.{Root}
+use Rattle.rules.specs.declared.Root.the-variants.{Queued, Spent}
+use Rattle.rules.specs.Refusals.{Refusal, number, Unknown, Retired, InvalidState, Stale}
+use Rattle.rules.specs.Outcomes.{Refused, Accepted, Outcome, refuses, stores, Check, _⇒_, checked, known, answerOf}
+use Rattle.rules.specs.Phases.{setup}
+use Rattle.rules.specs.Admission.{Ticket, Invocation, five, isUnissued, admit, isAccepted, admits, isLive, receipt, call}
+use Rattle.memory.specs.Layout.{word}
+use Rattle.memory.specs.View.{lifeAt, pluginAt, view}
+use Rattle.memory.specs.Writes.{findAt, putLife}
+use Rattle.memory.specs.Frames.{withLife}
+use Rattle.memory.specs.Known.{at-id, at-known, none-known, lifeOf, life-of, storedLife}
+use Rattle.memory.specs.declared.Life.{Life}
+use Rattle.memory.specs.declared.Place.the-variants.{At, Nowhere}
+use Rattle.memory_life.specs.Told.{Told, told-stored, life-found}
+use Rattle.registry_admit.specs.Answers.{admitsAnswer}
+use Rattle.registry_live.specs.Lives.{verdict, verdictOf, liveOf}
+use Rattle.registry_admit.specs.Lives.{rootedLife}
+
+-- a found plugin and its life as it was loaded
+module _ (m : List ℕ) (id i : ℕ) (life : Life) (e : findAt m id ≡ At i) (l : life ≡ lifeAt m (i % 32)) where
+  loaded : lifeOf (pluginAt m i) ≡ life
+  loaded = life-of m i ∙ sym (life-found m id i e life l)
+
+  rooted-plugin : (r : Root) → withRoot r (pluginAt m i) ≡ withLife (pluginAt m i) (rootedLife r life)
+  rooted-plugin r = ap (λ x. withLife (pluginAt m i) (rootedLife r x)) loaded
+
+  -- its life was stored with another root
+  told-rooted : (o : Outcome) (r : Root) (vs : List ℕ) (l′ : Life) (m′ : List ℕ) → o ≡ stores (withRoot r (pluginAt m i)) vs
+      → l′ ≡ rootedLife r life → m′ ≡ putLife m (i % 32) l′ → Told o m (Accepted vs) m′
+  told-rooted o r vs l′ m′ k s p =
+      told-stored o m id i vs (rootedLife r life) m′ e (k ∙ ap (λ x. stores x vs) (rooted-plugin r)) (p ∙ ap (putLife m (i % 32)) s)
+
+-- The rule's checks of a found plugin, over their four tests.
+abbrev tests : Bool → Bool → Bool → Bool → List Check
+tests retired loading same unissued =
+    (retired ⇒ Retired) ∷ (not loading || not same ⇒ Stale) ∷ (not unissued ⇒ InvalidState) ∷ []
+
+-- What a verdict says of what they come to, with the outcome where they all pass.
+record Says (m : List ℕ) (same : Bool) (v : ℕ) (comes o : Outcome) : Type 0 where
+  passes : v ≡ 0 → (same ≡ true) × (comes ≡ o)
+  stops : v ≢ 0 → Told comes m (Refused v []) m
+  accepts : isAccepted (answerOf o) ≡ true → isAccepted (answerOf comes) ≡ eqb v 0
+
+module _ (m : List ℕ) (o : Outcome) where
+  refusal-says : (s : Bool) (x : Refusal) → number x ≢ 0 → Says m s (number x) (refuses x []) o
+  unfolding storedLife
+  refusal-says s x n = record {
+    passes = λ e. absurd (n e);
+    stops = λ k. (refl, refl);
+    accepts = λ y. sym (ne-eqb (number x) 0 n);
+  }
+
+  verdict-says : (r l s u : Bool) → Says m s (verdict r l s u) (checked (tests r l s u) o) o
+  unfolding checked
+  verdict-says true l s u = refusal-says s Retired (λ e. omega arith)
+  verdict-says false true true true = record { passes = λ e. (refl, refl); stops = λ k. absurd (k refl); accepts = λ y. y }
+  verdict-says false true true false = refusal-says true InvalidState (λ e. omega arith)
+  verdict-says false true false u = refusal-says false Stale (λ e. omega arith)
+  verdict-says false false s u = refusal-says s Stale (λ e. omega arith)
+
+-- Admission of a found plugin, with the domain and the argument.
+abbrev pub asks : ℕ → Plugin → List Check
+asks g p = tests (p .retired) (isLoading (p .phase)) (eqb (p .generation) g) (isUnissued (p .root))
+
+abbrev invocation : ℕ → ℕ → Plugin → Invocation
+invocation d a p = record { domain = d; id = p .id; generation = p .generation; revision = p .revision; argument = a }
+
+abbrev queued : Plugin → Invocation → Outcome
+queued p t = stores (withRoot (Queued (t .revision) (t .argument)) p) (five t)
+
+abbrev pub queues : ℕ → ℕ → Plugin → Outcome
+queues d a p = queued p (invocation d a p)
+
+abbrev pub admission : ℕ → ℕ → ℕ → Plugin → Outcome
+admission d g a p = checked (asks g p) (queues d a p)
+
+-- over the header's word as it was read
+module _ (m : List ℕ) (t : Ticket) (a d : ℕ) (domain : d ≡ word m 0) where
+  pub admit-foreign : t .domain ≢ d → admit (view m) t a ≡ refuses InvalidState []
+  unfolding admit checked view
+  admit-foreign n = rw (ne-eqb (t .domain) (word m 0) (λ s. n (s ∙ sym domain)))
+
+  module _ (same : t .domain ≡ d) where
+    own : eqb (t .domain) (word m 0) ≡ true
+    own = eq-eqb (t .domain) (word m 0) (same ∙ domain)
+
+    pub admit-kind : t .kind ≢ setup → admit (view m) t a ≡ refuses InvalidState []
+    unfolding admit checked view
+    admit-kind n = rw (own, ne-eqb (t .kind) setup n)
+
+    module _ (kind : t .kind ≡ setup) where
+      admit-known : admit (view m) t a ≡ known (view m) (t .id) (admission (word m 0) (t .generation) a)
+      unfolding admit checked view
+      admit-known = rw (own, eq-eqb (t .kind) setup kind)
+
+      pub admit-none : findAt m (t .id) ≡ Nowhere → admit (view m) t a ≡ refuses Unknown []
+      admit-none e = admit-known ∙ none-known m (t .id) e (admission (word m 0) (t .generation) a)
+
+      module _ (i : ℕ) (life : Life) (v : ℕ) (e : findAt m (t .id) ≡ At i) (l : life ≡ lifeAt m (i % 32)) (k : v ≡ verdictOf life (t .generation)) where
+        admit-found : admit (view m) t a ≡ admission (word m 0) (t .generation) a (pluginAt m i)
+        admit-found = admit-known ∙ at-known m (t .id) i e (admission (word m 0) (t .generation) a)
+
+        said : v ≡ verdictOf (lifeOf (pluginAt m i)) (t .generation)
+        said = k ∙ ap (λ x. verdictOf x (t .generation)) (sym (loaded m (t .id) i life e l))
+
+        says : Says m (eqb (pluginAt m i .generation) (t .generation)) v (admit (view m) t a) (queues (word m 0) a (pluginAt m i))
+        unfolding verdictOf
+        says =
+            let p = pluginAt m i in
+            rw (admit-found, said) (verdict-says m (queues (word m 0) a p) (p .retired) (isLoading (p .phase)) (eqb (p .generation) (t .generation)) (isUnissued (p .root)))
+
+        pub told-verdict : v ≢ 0 → Told (admit (view m) t a) m (Refused v []) m
+        told-verdict n = says .stops n
+
+        pub admit-accepts : isAccepted (answerOf (admit (view m) t a)) ≡ eqb v 0
+        admit-accepts = says .accepts refl
+
+        abbrev given : Invocation
+        given = record { domain = t .domain; id = t .id; generation = t .generation; revision = life .revision; argument = a }
+
+        gives : v ≡ 0 → invocation (word m 0) a (pluginAt m i) ≡ given
+        gives z = λ x. record {
+          domain = sym (same ∙ domain) x;
+          id = at-id m (t .id) i e x;
+          generation = eqb-true (pluginAt m i .generation) (t .generation) (says .passes z .0) x;
+          revision = loaded m (t .id) i life e l x .revision;
+          argument = a;
+        }
+
+        pub told-admitted : (l′ : Life) (m′ : List ℕ) → v ≡ 0 → l′ ≡ rootedLife (Queued (life .revision) a) life → m′ ≡ putLife m (i % 32) l′
+            → Told (admit (view m) t a) m (Accepted (five given)) m′
+        told-admitted l′ m′ z s p =
+            told-rooted m (t .id) i life e l (admit (view m) t a) (Queued (life .revision) a) (five given) l′ m′
+            (says .passes z .1 ∙ ap (queued (pluginAt m i)) (gives z)) s p
+
+-- Whether a ticket would be admitted.
+module _ (m : List ℕ) (t : Ticket) where
+  pub admits-as : (b : Bool) → isAccepted (answerOf (admit (view m) t 0)) ≡ b → admitsAnswer b ≡ answerOf (admits (view m) t)
+  unfolding admits
+  admits-as b e = rw e
+
+  pub admits-refused : (x : Refusal) → admit (view m) t 0 ≡ refuses x [] → admitsAnswer false ≡ answerOf (admits (view m) t)
+  admits-refused x e = admits-as false (rw e)
+
+-- A call of a found plugin.
+abbrev pub spends : Invocation → Plugin → Outcome
+spends t p = stores (withRoot Spent p) (receipt t (p .payload))
+
+abbrev pub calls : Invocation → Plugin → Outcome
+calls t p = checked ((p .retired ⇒ Retired) ∷ (not (isLive p t) ⇒ Stale) ∷ []) (spends t p)
+
+module _ (m : List ℕ) (t : Invocation) (d : ℕ) (domain : d ≡ word m 0) where
+  pub call-foreign : t .domain ≢ d → call (view m) t ≡ refuses InvalidState []
+  unfolding call checked view
+  call-foreign n = rw (ne-eqb (t .domain) (word m 0) (λ s. n (s ∙ sym domain)))
+
+  module _ (same : t .domain ≡ d) where
+    call-known : call (view m) t ≡ known (view m) (t .id) (calls t)
+    unfolding call checked view
+    call-known = rw (eq-eqb (t .domain) (word m 0) (same ∙ domain))
+
+    pub call-none : findAt m (t .id) ≡ Nowhere → call (view m) t ≡ refuses Unknown []
+    call-none e = call-known ∙ none-known m (t .id) e (calls t)
+
+    module _ (i : ℕ) (life : Life) (e : findAt m (t .id) ≡ At i) (l : life ≡ lifeAt m (i % 32)) where
+      call-found : call (view m) t ≡ calls t (pluginAt m i)
+      call-found = call-known ∙ at-known m (t .id) i e (calls t)
+
+      marked : pluginAt m i .retired ≡ life .retired
+      marked = ap (λ x. x .retired) (loaded m (t .id) i life e l)
+
+      pub call-retired : life .retired ≡ true → call (view m) t ≡ refuses Retired []
+      unfolding checked
+      call-retired y = call-found ∙ rw (marked ∙ y)
+
+      module _ (b : Bool) (f : life .retired ≡ false) (k : b ≡ liveOf life (t .generation) (t .revision) (t .argument)) where
+        live : isLive (pluginAt m i) t ≡ b
+        unfolding isLive liveOf
+        live = ap (λ x. liveOf x (t .generation) (t .revision) (t .argument)) (loaded m (t .id) i life e l) ∙ sym k
+
+        pub call-stale : b ≡ false → call (view m) t ≡ refuses Stale []
+        unfolding checked
+        call-stale n = call-found ∙ rw (live ∙ n, marked ∙ f)
+
+        call-spends : b ≡ true → call (view m) t ≡ spends t (pluginAt m i)
+        unfolding checked
+        call-spends y = call-found ∙ rw (live ∙ y, marked ∙ f)
+
+        pub told-called : (l′ : Life) (m′ : List ℕ) → b ≡ true → l′ ≡ rootedLife Spent life → m′ ≡ putLife m (i % 32) l′
+            → Told (call (view m) t) m (Accepted (receipt t (life .payload))) m′
+        told-called l′ m′ y s p =
+            told-rooted m (t .id) i life e l (call (view m) t) Spent (receipt t (life .payload)) l′ m′
+            (call-spends y ∙ ap (λ x. stores (withRoot Spent (pluginAt m i)) (receipt t (x .payload))) (loaded m (t .id) i life e l)) s p

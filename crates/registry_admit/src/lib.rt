@@ -1,0 +1,118 @@
+// Document 01, "Admission and call", over the registry's memory.
+ghost use mathlib.Core.Path.{_≡_};
+ghost use Rattle.rules.specs.Outcomes.{answerOf};
+ghost use Rattle.rules.specs.Admission.{admit, admits, call};
+ghost use Rattle.memory.specs.View.{view};
+ghost use Rattle.memory.specs.Known.{storedLife};
+ghost use Rattle.registry_admit.specs.Answers.{admittedAnswer, admitsAnswer, calledAnswer};
+ghost use Rattle.registry_admit.specs.Lives.{rootedLife};
+use memory::Life;
+use memory::Place;
+use memory::WORDS;
+use rules::Root;
+use rules::refusal;
+
+// The request of a root's receipt.
+pub const ROOT_REQUEST: u64 = 0;
+
+// Domain, id, generation, revision and argument, or a refusal.
+pub enum Admitted {
+    Is(u64, u64, u64, u64, u64),
+    Refused(u64),
+}
+
+// Domain, id, generation, request, payload and argument, or a refusal.
+pub enum Called {
+    Receipt(u64, u64, u64, u64, u64, u64),
+    Refused(u64),
+}
+
+// The life with this root; nothing else of it changes.
+fn rooted(life: Life, root: Root) -> Life
+    ensures { λ r. ⌜ r ≡ rootedLife root life ⌝ }
+{
+    let phase = life.phase;
+    let generation = life.generation;
+    Life {
+        revision: life.revision,
+        payload: life.payload,
+        phase: phase,
+        retired: life.retired,
+        generation: generation,
+        root: root,
+    }
+}
+
+// Admission: domain or kind 3, then 1, 2, then 13 if not Loading or another generation, then 3 if root isn't Unissued.
+pub fn admit(
+    m: &mut [u64; WORDS],
+    domain: u64,
+    id: u64,
+    generation: u64,
+    kind: u64,
+    argument: u64,
+) -> Admitted
+    ensures { λ r. ⌜ admittedAnswer r ≡ answerOf (admit (view (now (m .entry))) (record { domain = domain; id = id; generation = generation; kind = kind }) argument) ⌝ ∗ ⌜ now (m .exit) ≡ storedLife (now (m .entry)) (admit (view (now (m .entry))) (record { domain = domain; id = id; generation = generation; kind = kind }) argument) ⌝ }
+{
+    if domain != memory::domain(m) {
+        return Admitted::Refused(refusal::INVALID_STATE);
+    }
+    if kind != registry_table::SETUP {
+        return Admitted::Refused(refusal::INVALID_STATE);
+    }
+    let Place::At(at) = memory::find(m, id) else {
+        return Admitted::Refused(refusal::UNKNOWN);
+    };
+    let life = memory_life::load(m, at);
+    let said = registry_live::verdict(life, generation);
+    if said != registry_live::ADMITTED {
+        return Admitted::Refused(said);
+    }
+    let revision = life.revision;
+    memory_life::store(m, at, rooted(life, Root::Queued(revision, argument)));
+    Admitted::Is(domain, id, generation, revision, argument)
+}
+
+// Whether a ticket would be admitted (R's accepts_root_invocation).
+pub fn admits(m: &[u64; WORDS], domain: u64, id: u64, generation: u64, kind: u64) -> bool
+    ensures { λ r. ⌜ admitsAnswer r ≡ answerOf (admits (view (now (m .entry))) (record { domain = domain; id = id; generation = generation; kind = kind })) ⌝ }
+{
+    if domain != memory::domain(m) {
+        return false;
+    }
+    if kind != registry_table::SETUP {
+        return false;
+    }
+    let Place::At(at) = memory::find(m, id) else {
+        return false;
+    };
+    registry_live::verdict(memory_life::load(m, at), generation) == registry_live::ADMITTED
+}
+
+// Call: domain 3, 1, 2, then 13 unless it is live; root becomes Spent and nothing else changes.
+pub fn call(
+    m: &mut [u64; WORDS],
+    domain: u64,
+    id: u64,
+    generation: u64,
+    revision: u64,
+    argument: u64,
+) -> Called
+    ensures { λ r. ⌜ calledAnswer r ≡ answerOf (call (view (now (m .entry))) (record { domain = domain; id = id; generation = generation; revision = revision; argument = argument })) ⌝ ∗ ⌜ now (m .exit) ≡ storedLife (now (m .entry)) (call (view (now (m .entry))) (record { domain = domain; id = id; generation = generation; revision = revision; argument = argument })) ⌝ }
+{
+    if domain != memory::domain(m) {
+        return Called::Refused(refusal::INVALID_STATE);
+    }
+    let Place::At(at) = memory::find(m, id) else {
+        return Called::Refused(refusal::UNKNOWN);
+    };
+    let life = memory_life::load(m, at);
+    if life.retired {
+        return Called::Refused(refusal::RETIRED);
+    }
+    if registry_live::is_live(life, generation, revision, argument) {
+        memory_life::store(m, at, rooted(life, Root::Spent));
+        return Called::Receipt(domain, id, generation, ROOT_REQUEST, life.payload, argument);
+    }
+    Called::Refused(refusal::STALE)
+}

@@ -1,0 +1,43 @@
+-- What a run of the rule's checks comes to, in this crate's enums.
+use Prim.Native.Nat.{ℕ}
+use mathlib.Core.List.{List, [], _∷_}
+use Rattle.rules.specs.Basics.{pick}
+use Rattle.rules.specs.Holds.{port}
+use Rattle.rules.specs.Refusals.{number}
+use Rattle.rules.specs.Outcomes.{Check}
+use Rattle.rules.specs.Registration.{Definition}
+use Rattle.memory.specs.Writes.{parentId, findAt}
+use Rattle.memory.specs.declared.Parent.{Parent}
+use Rattle.memory.specs.declared.Parent.the-variants.{Of, Nobody}
+use Rattle.memory.specs.declared.Place.{Place}
+use Rattle.memory.specs.declared.Place.the-variants.{Nowhere}
+use Rattle.registry_checks.specs.declared.Checked.{Checked}
+use Rattle.registry_checks.specs.declared.Checked.the-variants as checked
+use Rattle.registry_checks.specs.declared.Early.{Early}
+use Rattle.registry_checks.specs.declared.Early.the-variants as early
+
+-- passed, or the number of the first check that refuses
+unfoldable pub verdict : List Check → Checked
+verdict [] = checked.Passed
+verdict (c ∷ cs) = pick (c .test) (checked.Refused (number (c .refusal))) (verdict cs)
+
+-- the same under a parent at a place
+abbrev pub under : Place → Checked → Early
+under at checked.Passed = early.Passed at
+under at (checked.Refused n) = early.Refused n
+
+-- the parent's place; nowhere without a parent
+abbrev pub placeAbove : List ℕ → Parent → Place
+placeAbove m (Of id) = findAt m id
+placeAbove m Nobody = Nowhere
+
+-- The definition as the early run is lent it: its checks look at neither anchor nor payload.
+abbrev pub asked : Parent → List ℕ → List ℕ → List ℕ → Definition
+asked parent realms dependencies provisions = record {
+  parent = parentId parent;
+  anchor = port 0 0;
+  realms = realms;
+  dependencies = dependencies;
+  provisions = provisions;
+  payload = 0;
+}

@@ -1,0 +1,106 @@
+// What a plugin needs of others, and others of it: an Active provider for each dependency, and no running plugin that depends on it.
+ghost use mathlib.Core.Path.{_≡_};
+ghost use mathlib.Core.Bool.{_&&_, _||_};
+ghost use Prim.Native.Nat.{_%_, _<_};
+ghost use Rattle.rules.specs.Basics.{any, all};
+ghost use Rattle.rules.specs.Holds.{port, provides, isActive, isLoading};
+ghost use Rattle.rules.specs.Phases.{available, inUse};
+ghost use Rattle.rules.specs.Ports.{pairs};
+ghost use Rattle.memory.specs.Layout.{taken};
+ghost use Rattle.memory.specs.View.{pluginAt, view};
+ghost use Rattle.registry_needs.specs.Users.{depends, userAt};
+use memory::Life;
+use memory::Place;
+use memory::WORDS;
+use rules::Phase;
+
+pub fn is_active(life: Life) -> bool
+    ensures { λ r. ⌜ r ≡ isActive (life .phase) ⌝ }
+{
+    let phase = life.phase;
+    match phase {
+        Phase::Idle => false,
+        Phase::Loading => false,
+        Phase::Active => true,
+        Phase::Unloading => false,
+    }
+}
+
+// Loading or Active.
+pub fn is_running(life: Life) -> bool
+    ensures { λ r. ⌜ r ≡ (isLoading (life .phase) || isActive (life .phase)) ⌝ }
+{
+    let phase = life.phase;
+    match phase {
+        Phase::Idle => false,
+        Phase::Loading => true,
+        Phase::Active => true,
+        Phase::Unloading => false,
+    }
+}
+
+// Whether the port has an Active provider.
+fn is_available(m: &[u64; WORDS], key: u64, realm: u64) -> bool
+    ensures { λ r. ⌜ r ≡ available (view (now (m .entry))) (port key realm) ⌝ }
+{
+    let Place::At(at) = memory_providers::provider(m, key, realm) else {
+        return false;
+    };
+    is_active(memory_life::load(m, at))
+}
+
+// Whether each port of the list has one.
+pub fn all_available(m: &[u64; WORDS], ports: &[u64]) -> bool
+    ensures { λ r. ⌜ r ≡ all (available (view (now (m .entry)))) (pairs (now (ports .entry))) ⌝ }
+{
+    let mut i: usize = 1;
+    while i < ports.len() {
+        if is_available(m, ports[i - 1], ports[i]) {
+            i += 2;
+        } else {
+            return false;
+        }
+    }
+    true
+}
+
+// Whether the plugin of a place provides one of the ports.
+fn provides_one(m: &[u64; WORDS], place: usize, ports: &[u64]) -> bool
+    ensures { λ r. ⌜ r ≡ depends (now (m .entry)) (place % 32) (pairs (now (ports .entry))) ⌝ }
+{
+    let mut i: usize = 1;
+    while i < ports.len() {
+        if memory_providers::provides(m, place, ports[i - 1], ports[i]) {
+            return true;
+        }
+        i += 2;
+    }
+    false
+}
+
+// Whether the plugin of one place runs and depends on that of another.
+fn is_user(m: &[u64; WORDS], user: usize, place: usize) -> bool
+    ensures { λ r. ⌜ r ≡ userAt (now (m .entry)) (place % 32) (pluginAt (now (m .entry)) (user % 32)) ⌝ }
+{
+    if is_running(memory_life::load(m, user)) {
+        provides_one(m, place, memory_lists::dependency_words(m, user))
+    } else {
+        false
+    }
+}
+
+// Whether a Loading or Active plugin depends on a provision or the anchor of this place's.
+pub fn in_use(m: &[u64; WORDS], place: usize) -> bool
+    ensures { λ r. ⌜ r ≡ inUse (view (now (m .entry))) (pluginAt (now (m .entry)) (place % 32)) ⌝ }
+{
+    let mut i: usize = 0;
+    while i < 32 {
+        if memory::is_taken(m, i) {
+            if is_user(m, i, place) {
+                return true;
+            }
+        }
+        i += 1;
+    }
+    false
+}

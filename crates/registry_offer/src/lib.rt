@@ -1,0 +1,62 @@
+// Document 01, "Values": offering one, over the registry's memory.
+ghost use mathlib.Core.Path.{_≡_};
+ghost use mathlib.Core.Bool.{not, _&&_};
+ghost use Rattle.rules.specs.Basics.{isSome};
+ghost use Rattle.rules.specs.Holds.{port, isLoading};
+ghost use Rattle.rules.specs.Outcomes.{answerOf};
+ghost use Rattle.rules.specs.Values.{offer};
+ghost use Rattle.memory.specs.View.{view};
+ghost use Rattle.memory_life.specs.Told.{doneAnswer};
+ghost use Rattle.memory_values.specs.Values.{valueOf};
+ghost use Rattle.registry_offer.specs.Words.{offeredTo};
+use memory::Life;
+use memory::Place;
+use memory::WORDS;
+use memory_life::Done;
+use memory_values::Value;
+use ports::Found;
+use rules::Phase;
+use rules::refusal;
+
+// Closed for offers unless Loading and not retired.
+fn is_closed(life: Life) -> bool
+    ensures { λ r. ⌜ r ≡ not (isLoading (life .phase) && not (life .retired)) ⌝ }
+{
+    let phase = life.phase;
+    match phase {
+        Phase::Idle => true,
+        Phase::Loading => life.retired,
+        Phase::Active => true,
+        Phase::Unloading => true,
+    }
+}
+
+fn is_given(value: Value) -> bool
+    ensures { λ r. ⌜ r ≡ isSome (valueOf value) ⌝ }
+{
+    match value {
+        Value::Is(_) => true,
+        Value::Nothing => false,
+    }
+}
+
+// Offer: 1, 19 unless Loading and not retired, 20 if the port is not in provisions, 21 if it has a value.
+pub fn offer(m: &mut [u64; WORDS], id: u64, key: u64, realm: u64, value: u64) -> Done
+    ensures { λ r. ⌜ doneAnswer r ≡ answerOf (offer (view (now (m .entry))) id (port key realm) value) ⌝ ∗ ⌜ now (m .exit) ≡ offeredTo (now (m .entry)) id (port key realm) value (offer (view (now (m .entry))) id (port key realm) value) ⌝ }
+{
+    let Place::At(at) = memory::find(m, id) else {
+        return Done::Refused(refusal::UNKNOWN);
+    };
+    if is_closed(memory_life::load(m, at)) {
+        return Done::Refused(refusal::CLOSED);
+    }
+    let Found::At(j) = memory_values::place_of(memory_lists::provision_words(m, at), key, realm)
+    else {
+        return Done::Refused(refusal::UNDECLARED);
+    };
+    if is_given(memory_values::value_at(m, at, j)) {
+        return Done::Refused(refusal::DUPLICATE);
+    }
+    memory_values::set_value(m, at, j, value);
+    Done::Accepted
+}

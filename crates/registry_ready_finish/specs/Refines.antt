@@ -1,0 +1,120 @@
+-- Of dense words, the registry after ready or finish is the rules', and the words are dense again.
+use Prim.Native.Nat.{ℕ, _+_, _*_}
+use native.Mathlib.Omega.{arith}
+use mathlib.Core.Path.{_≡_, refl, sym, ap, _∙_}
+use mathlib.Core.Logic.{_≢_}
+use mathlib.Core.Bool.{true, false, not}
+use mathlib.Core.List.{List, [], _∷_, map}
+use lib.ListN.{length, set, length-set}
+use lib.Seq.{getD-set-other}
+use Rattle.rules.specs.Basics.{orElse}
+use Rattle.rules.specs.Holds.{Plugin, withProvisions}
+use Rattle.rules.specs.Refusals.{Refusal, Unknown, Retired, InvalidState, NotRun, Missing}
+use Rattle.rules.specs.Outcomes.{Outcome, refuses, stores, _⇒_, after}
+use Rattle.rules.specs.Phases as rules
+use Rattle.rules.specs.Laws.Tests.{checked-elim}
+use Rattle.memory.specs.Layout.{word, taken}
+use Rattle.memory.specs.View.{lifeAt, pluginAt, view}
+use Rattle.memory.specs.Writes.{findAt, putLife}
+use Rattle.memory.specs.Frames.{withLife, life-length, life-before}
+use Rattle.memory.specs.Stores.{plugin-put, plugin-other}
+use Rattle.memory.specs.Known.{at-below, at-taken, at-id, storedLife}
+use Rattle.memory.specs.declared.Life.{Life}
+use Rattle.memory.specs.declared.Place.{Place}
+use Rattle.memory.specs.declared.Place.the-variants.{At, Nowhere}
+use Rattle.memory_rows.specs.Dense.{Dense, Refines}
+use Rattle.memory_rows.specs.Stored.{same-dense, life-dense, changed-view, Stored, stored-refused, stored-life}
+use Rattle.memory_values.specs.After.{drop-taken, drop-elsewhere, drop-plugin}
+use Rattle.registry_steps.specs.Lives.{movedLife}
+use Rattle.registry_ready_finish.specs.Finished.{restedLife, finishedTo}
+use Rattle.registry_ready_finish.specs.Laws.{lacks, rested, ready-none, ready-found, finish-none, finish-found}
+
+module _ (m : List ℕ) (d : Dense m) where
+  pub ready-refines : (id : ℕ) → Refines m (storedLife m (rules.ready (view m) id)) (rules.ready (view m) id)
+  unfolding pluginAt
+  ready-refines id = go (findAt m id) refl
+    where
+      go : (p : Place) → findAt m id ≡ p → Stored m d (rules.ready (view m) id)
+      go Nowhere e = rw (ready-none m id e) (stored-refused m d Unknown [])
+      go (At i) e =
+          let l = lifeAt m i in
+          rw (ready-found m id i e)
+          (checked-elim (Stored m d)
+          ((l .retired ⇒ Retired)
+          ∷ (rules.stuck rules.Ready (pluginAt m i) ⇒ InvalidState)
+          ∷ (not (rules.isSpent (l .root)) ⇒ NotRun)
+          ∷ (lacks (pluginAt m i) ⇒ Missing)
+          ∷ [])
+          _ (λ x. stored-refused m d x []) (λ h. stored-life m d id i e (movedLife l (orElse (rules.cell (l .phase) rules.Ready) (l .phase))) []))
+
+  abbrev Finished : Outcome → Type 0
+  Finished o = Refines m (finishedTo m o) o
+
+  -- a life stored, and then no value
+  module _ (id i : ℕ) (e : findAt m id ≡ At i) where
+    abbrev l : Life
+    l = restedLife (lifeAt m i) (orElse (rules.cell (lifeAt m i .phase) rules.Finish) (lifeAt m i .phase))
+
+    abbrev m₁ : List ℕ
+    m₁ = putLife m i l
+
+    abbrev m₂ : List ℕ
+    m₂ = set m₁ (i * 72 + 23) 0
+
+    size : length m₁ ≡ 4488
+    size = life-length m i l ∙ d .size
+
+    other : (n : ℕ) → n ≢ i * 72 + 23 → word m₂ n ≡ word m₁ n
+    other n a = getD-set-other m₁ (i * 72 + 23) n 0 0 a
+
+    taken-put : (j : ℕ) → taken m₁ j ≡ taken m j
+    unfolding taken
+    taken-put j = rw (life-before m i l 3 (omega arith))
+
+    plugin : pluginAt m₂ i ≡ rested (pluginAt m i)
+    unfolding pluginAt
+    plugin =
+        drop-plugin m₁ i (at-below m id i e) size
+        ∙ ap (λ (p : Plugin). withProvisions (map rules.dropped (p .provisions)) p) (plugin-put m i l (at-below m id i e) (d .size))
+
+    words : finishedTo m (stores (rested (pluginAt m i)) []) ≡ m₂
+    unfolding finishedTo pluginAt
+    words = rw (at-id m id i e, e)
+
+    dense : Dense m₂
+    dense = same-dense m₁ m₂ (life-dense m i l d) (length-set m₁ (i * 72 + 23) 0) (other 3 (λ x. omega arith))
+        (λ j. other (j * 72 + 8) (λ x. omega arith))
+        (λ j. other (j * 72 + 19) (λ x. omega arith))
+        (λ j. other (j * 72 + 20) (λ x. omega arith))
+        (λ j. other (j * 72 + 21) (λ x. omega arith))
+        (λ j. other (j * 72 + 22) (λ x. omega arith))
+
+    finished : Finished (stores (rested (pluginAt m i)) [])
+    unfolding pluginAt
+    finished =
+        let h = at-below m id i e in
+        rw words record {
+          registry =
+              changed-view m m₂ i (d .alone) (at-taken m id i e)
+              (other 0 (λ x. omega arith) ∙ life-before m i l 0 (omega arith))
+              (other 1 (λ x. omega arith) ∙ life-before m i l 1 (omega arith))
+              (other 2 (λ x. omega arith) ∙ life-before m i l 2 (omega arith))
+              (λ j. drop-taken m₁ i h size j ∙ taken-put j)
+              (ap (λ (p : Plugin). p .id) plugin)
+              (λ j a n. drop-elsewhere m₁ i h size j a n ∙ plugin-other m i l h (d .size) j a (λ x. n (sym x))) []
+              ∙ ap (λ p. after (view m) (stores p [])) plugin;
+          dense = dense;
+        }
+
+  finished-refused : (x : Refusal) → Finished (refuses x [])
+  unfolding finishedTo after
+  finished-refused x = record { registry = refl; dense = d }
+
+  pub finish-refines : (id : ℕ) → Refines m (finishedTo m (rules.finish (view m) id)) (rules.finish (view m) id)
+  finish-refines id = go (findAt m id) refl
+    where
+      go : (p : Place) → findAt m id ≡ p → Finished (rules.finish (view m) id)
+      go Nowhere e = rw (finish-none m id e) (finished-refused Unknown)
+      go (At i) e = rw (finish-found m id i e)
+          (checked-elim Finished ((rules.stuck rules.Finish (pluginAt m i) ⇒ InvalidState) ∷ []) (stores (rested (pluginAt m i)) [])
+          finished-refused (λ h. finished id i e))

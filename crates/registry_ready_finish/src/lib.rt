@@ -1,0 +1,86 @@
+// Document 01, "Phases": ready, which asks for every value, and finish, which drops them.
+ghost use mathlib.Core.Path.{_≡_};
+ghost use Rattle.rules.specs.Outcomes.{answerOf};
+ghost use Rattle.rules.specs.Phases.{isSpent, ready, finish};
+ghost use Rattle.memory.specs.View.{view};
+ghost use Rattle.memory.specs.Known.{storedLife};
+ghost use Rattle.memory_life.specs.Told.{doneAnswer};
+ghost use Rattle.registry_ready_finish.specs.Finished.{restedLife, finishedTo};
+use memory::Life;
+use memory::Place;
+use memory::WORDS;
+use memory_life::Done;
+use ports::Found;
+use registry_table::Cell;
+use registry_table::Step;
+use rules::Phase;
+use rules::Root;
+use rules::refusal;
+
+fn is_spent(life: Life) -> bool
+    ensures { λ r. ⌜ r ≡ isSpent (life .root) ⌝ }
+{
+    let root = life.root;
+    match root {
+        Root::Unissued => false,
+        Root::Queued(_, _) => false,
+        Root::Spent => true,
+    }
+}
+
+// The life of a plugin at rest: root Unissued.
+fn at_rest(life: Life, phase: Phase) -> Life
+    ensures { λ r. ⌜ r ≡ restedLife life phase ⌝ }
+{
+    let generation = life.generation;
+    Life {
+        revision: life.revision,
+        payload: life.payload,
+        phase: phase,
+        retired: life.retired,
+        generation: generation,
+        root: Root::Unissued,
+    }
+}
+
+// 1, 2, phase, 17, 22 if a provision has no value.
+pub fn ready(m: &mut [u64; WORDS], id: u64) -> Done
+    ensures { λ r. ⌜ doneAnswer r ≡ answerOf (ready (view (now (m .entry))) id) ⌝ ∗ ⌜ now (m .exit) ≡ storedLife (now (m .entry)) (ready (view (now (m .entry))) id) ⌝ }
+{
+    let Place::At(at) = memory::find(m, id) else {
+        return Done::Refused(refusal::UNKNOWN);
+    };
+    let life = memory_life::load(m, at);
+    if life.retired {
+        return Done::Refused(refusal::RETIRED);
+    }
+    let phase = life.phase;
+    let Cell::To(next) = registry_table::next(phase, Step::Ready) else {
+        return Done::Refused(refusal::INVALID_STATE);
+    };
+    if is_spent(life) {
+        let Found::At(_) = memory_values::first_lacking(m, at) else {
+            memory_life::store(m, at, registry_steps::with_phase(life, next));
+            return Done::Accepted;
+        };
+        return Done::Refused(refusal::MISSING);
+    }
+    Done::Refused(refusal::NOT_RUN)
+}
+
+// 1, phase; values are dropped and root is Unissued.
+pub fn finish(m: &mut [u64; WORDS], id: u64) -> Done
+    ensures { λ r. ⌜ doneAnswer r ≡ answerOf (finish (view (now (m .entry))) id) ⌝ ∗ ⌜ now (m .exit) ≡ finishedTo (now (m .entry)) (finish (view (now (m .entry))) id) ⌝ }
+{
+    let Place::At(at) = memory::find(m, id) else {
+        return Done::Refused(refusal::UNKNOWN);
+    };
+    let life = memory_life::load(m, at);
+    let phase = life.phase;
+    let Cell::To(next) = registry_table::next(phase, Step::Finish) else {
+        return Done::Refused(refusal::INVALID_STATE);
+    };
+    memory_life::store(m, at, at_rest(life, next));
+    memory_values::drop_values(m, at);
+    Done::Accepted
+}

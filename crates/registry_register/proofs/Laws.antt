@@ -1,0 +1,64 @@
+-- The parts of a registration: the late checks, and the plugin written.
+use Prim.Native.Nat.{ℕ, _+_, _-_, _/_, _%_}
+use native.Mathlib.Omega.{arith}
+use native.Mathlib.Nat.{mod-eq-of-lt}
+use mathlib.Core.Path.{_≡_, sym, ap, _∙_}
+use mathlib.Core.Logic.{_≢_}
+use mathlib.Core.List.{List, [], _∷_}
+use mathlib.Core.Option.{Option}
+use lib.ListN.{length}
+use borrow.Author.Tests.{eqb-false}
+use Rattle.rules.specs.Basics.{last}
+use Rattle.rules.specs.Holds.{rowsInUse}
+use Rattle.rules.specs.Outcomes.{Refused, Accepted}
+use Rattle.rules.specs.Laws.Tests.{Passed}
+use Rattle.memory.specs.Layout.{word}
+use Rattle.memory.specs.View.{view}
+use Rattle.memory.specs.declared.Place.the-variants.{At, Nowhere}
+use Rattle.memory_places.specs.Changes.{freeAt}
+use Rattle.memory_places.specs.Free.{free-at, count-full}
+use Rattle.memory_entry.specs.Entries.{filledPlace}
+use Rattle.memory_entry.specs.declared.Entry.{Entry}
+use Rattle.rules.specs.Registration.{roomChecks}
+use Rattle.registry_checks.specs.declared.Checked.{Checked}
+use Rattle.registry_checks.specs.declared.Checked.the-variants as checked
+use Rattle.registry_checks.specs.Verdicts.{verdict}
+use Rattle.registry_checks.specs.Runs.{passes}
+use Rattle.registry_register.specs.Written.{newEntry, lateVerdict, settledAnswer, settledWords}
+
+-- The late checks refuse, or the plugin is written.
+module _ (m : List ℕ) (parent : Option ℕ) (payload count : ℕ) (ds cs zs : List ℕ) (u : ℕ) (i : u ≡ rowsInUse (view m))
+    (v : Checked) (given : v ≡ verdict (roomChecks (view m) count (u + (count + length cs / 2)))) where
+  e : v ≡ lateVerdict m count cs
+  e = given ∙ ap (λ x. verdict (roomChecks (view m) count (x + (count + length cs / 2)))) i
+
+  pub settle-refuses : (n : ℕ) → v ≡ checked.Refused n → (Refused n [] ≡ settledAnswer m count cs) × (m ≡ settledWords m parent payload count ds cs zs)
+  unfolding settledAnswer settledWords
+  settle-refuses n z =
+      let f : lateVerdict m count cs ≡ checked.Refused n = sym e ∙ z in
+      (rw f, rw f)
+
+  module _ (z : v ≡ checked.Passed) where
+    passed : Passed (roomChecks (view m) count (rowsInUse (view m) + (count + length cs / 2)))
+    passed = passes (roomChecks (view m) count (rowsInUse (view m) + (count + length cs / 2))) (sym e ∙ z)
+
+    pub id-left : word m 2 ≢ last
+    unfolding view
+    id-left = eqb-false _ _ (passed .0)
+
+    pub some-free : freeAt m ≡ Nowhere → ⊥
+    some-free f =
+        let a = count-full m f in
+        let b = passed .1 .0 in
+        let c : _≡_ {A = ℕ} 0 1 = cc in
+        omega arith
+
+    pub settle-writes : (at : ℕ) → freeAt m ≡ At at → (b : ℕ) → b ≡ length cs / 2 - 1 → (n : Entry) → n ≡ newEntry m parent payload count b (length zs / 2)
+        → (m′ : List ℕ) → m′ ≡ filledPlace m (at % 32) n ds cs zs
+        → (Accepted (n .id ∷ []) ≡ settledAnswer m count cs) × (m′ ≡ settledWords m parent payload count ds cs zs)
+    unfolding settledAnswer settledWords
+    settle-writes at f b g n h m′ s =
+        let t : lateVerdict m count cs ≡ checked.Passed = sym e ∙ z in
+        let p : at % 32 ≡ at = mod-eq-of-lt (free-at m at f .below) in
+        let k : n ≡ newEntry m parent payload count (length cs / 2 - 1) (length zs / 2) = h ∙ ap (λ x. newEntry m parent payload count x (length zs / 2)) g in
+        (rw t (ap (λ (x : Entry). Accepted (x .id ∷ [])) k), rw (t, f) (s ∙ ap (λ x. filledPlace m x n ds cs zs) p ∙ ap (λ x. filledPlace m at x ds cs zs) k))

@@ -1,0 +1,116 @@
+-- Of dense words in which no plugin has the next id, the registry after a registration is the rules', and the words are dense again.
+use Prim.Native.Nat.{ℕ, _+_, _*_, _≤_}
+use native.Mathlib.Omega.{arith}
+use mathlib.Core.Path.{_≡_, refl, sym, ap, _∙_}
+use mathlib.Core.Logic.{_≢_}
+use mathlib.Core.Bool.{true, false}
+use mathlib.Core.List.{List, [], _∷_, map}
+use mathlib.Core.Option.{Option, none, some}
+use lib.Dec.{ltb}
+use lib.ListN.{length, length-map}
+use borrow.Author.Tests.{ltb-false}
+use Rattle.rules.specs.Holds.{Plugin, Registry, provided, rowsOf, rowsInUse}
+use Rattle.rules.specs.Ports.{pairs, flat, realmsOf, resolve}
+use Rattle.rules.specs.Refusals.{Refusal}
+use Rattle.rules.specs.Outcomes.{Outcome, refuses, adds, after}
+use Rattle.rules.specs.Registration.{Definition, resolved, unoffered, dependenciesOf, newPlugin, registrationChecks, register}
+use Rattle.rules.specs.Built.{Built}
+use Rattle.rules.specs.Kept.New.{new-ports}
+use Rattle.rules.specs.Laws.Tests.{neither, Passed, checked-elim}
+use Rattle.memory.specs.Layout.{word, taken, idAt}
+use Rattle.memory.specs.View.{parentOf, pluginAt, view}
+use Rattle.memory.specs.declared.Place.{Place}
+use Rattle.memory.specs.declared.Place.the-variants.{At, Nowhere}
+use Rattle.memory_places.specs.Changes.{freeAt}
+use Rattle.memory_places.specs.Free.{count-full}
+use Rattle.memory_places.specs.Placed.{taken-in}
+use Rattle.ports.specs.Places.{length-pairs, length-flat, pairs-flat, good-realms}
+use Rattle.memory_entry.specs.Entries.{filledPlace}
+use Rattle.memory_rows.specs.Dense.{used, Dense, used-is, Refines}
+use Rattle.memory_entry.specs.Addition.{Newcomer, newPluginOf, Sized}
+use Rattle.memory_entry.specs.Filled.{entryOf, claimWords, filled-dense, filled-view}
+use Rattle.registry_prepare.specs.Parts.{tagOf, wordOf}
+use Rattle.registry_register.specs.Written.{newEntry, writtenAt, addedTo}
+
+-- No registered plugin has the next id.
+abbrev pub Fresh : List ℕ → Type 0
+Fresh m = (j : ℕ) → taken m j ≡ true → idAt m j ≢ word m 2
+
+pub built-fresh : (m : List ℕ) → Built (view m) → Fresh m
+unfolding view pluginAt
+built-fresh m b j t e = omega (arith, b .members (pluginAt m j) (taken-in m j t) .below)
+
+parent-back : (p : Option ℕ) → parentOf (tagOf p) (wordOf p) ≡ p
+parent-back none = refl
+parent-back (some id) = refl
+
+module _ (m : List ℕ) (d : Definition) where
+  abbrev r : Registry
+  r = view m
+
+  -- what is written of the new plugin
+  abbrev n : Newcomer
+  n = record {
+    id = word m 2;
+    tag = tagOf (d .parent);
+    parent = wordOf (d .parent);
+    payload = d .payload;
+    d = length (dependenciesOf r d);
+    dependencies = flat (dependenciesOf r d);
+    anchor = d .anchor;
+    c = length (map unoffered (resolved d (d .provisions)));
+    provisions = flat (resolved d (d .provisions));
+    z = length (pairs (d .realms));
+    realms = flat (pairs (d .realms));
+  }
+
+  same : newPluginOf n ≡ newPlugin r d
+  unfolding newPlugin view
+  same = rw (parent-back (d .parent), pairs-flat (dependenciesOf r d), pairs-flat (resolved d (d .provisions)), pairs-flat (pairs (d .realms)))
+
+  module _ (dense : Dense m) (fresh : Fresh m) (p : Passed (registrationChecks r d)) where
+    rows : rowsInUse r + rowsOf (newPlugin r d) ≤ 1024
+    rows = ltb-false _ _ (p .1 .1 .1 .1 .1 .1 .1 .1 .1 .1 .1 .0)
+
+    fits : length (dependenciesOf r d) ≤ 48
+    fits = ltb-false _ _ (p .1 .1 .1 .1 .1 .1 .1 .1 .1 .1 .0)
+
+    few : length (d .provisions) ≤ 15
+    few = ltb-false _ _ (neither (ltb 16 (length (d .dependencies))) (ltb 15 (length (d .provisions))) (p .1 .0) .1)
+
+    sized : Sized m n
+    unfolding newPlugin
+    sized =
+        let c : length (map unoffered (resolved d (d .provisions))) ≡ length (resolved d (d .provisions)) = length-map (resolved d (d .provisions)) unoffered in
+        record {
+          dependencies = omega (arith, length-flat (dependenciesOf r d));
+          provisions = omega (arith, c, length-flat (resolved d (d .provisions)));
+          realms = omega (arith, length-flat (pairs (d .realms)));
+          few-dependencies = fits;
+          few-provisions = omega (arith, c, few, length-map (d .provisions) (resolve (realmsOf (d .realms))));
+          few-realms = omega (arith, length-pairs (d .realms), good-realms (d .realms) (p .0) .1);
+          room = omega (arith, rows, used-is m (dense .size), c);
+        }
+
+    abbrev o : Outcome
+    o = adds (newPlugin r d) (r .next ∷ [])
+
+    written : (at : ℕ) → freeAt m ≡ At at → addedTo m o ≡ filledPlace m at (entryOf n (used m) (word m 2 + 1)) (n .dependencies) (claimWords n) (n .realms)
+    unfolding addedTo newPlugin
+    written at e = rw e (λ i. filledPlace m at (entryOf n (used-is m (dense .size) i) (word m 2 + 1)) (n .dependencies) (flat (d .anchor ∷ new-ports r d i)) (n .realms))
+
+    registered : (free : Place) → freeAt m ≡ free → Refines m (addedTo m o) o
+    registered Nowhere e =
+        let a = count-full m e in
+        let b = p .1 .1 .1 .1 .1 .1 .1 .1 .1 .0 in
+        let z : _≡_ {A = ℕ} 0 1 = cc in
+        absurd (omega arith)
+    registered (At at) e = rw (written at e) record {
+      registry = filled-view m at n (word m 2 + 1) e dense sized fresh refl (r .next ∷ []) ∙ ap (λ x. after r (adds x (r .next ∷ []))) same;
+      dense = filled-dense m at n (word m 2 + 1) e dense sized fresh;
+    }
+
+  pub register-refines : Dense m → Fresh m → Refines m (addedTo m (register (view m) d)) (register (view m) d)
+  unfolding register addedTo after
+  register-refines dense fresh = checked-elim (λ u. Refines m (addedTo m u) u) (registrationChecks r d) (adds (newPlugin r d) (r .next ∷ []))
+      (λ x. record { registry = refl; dense = dense }) (λ p. registered dense fresh p (freeAt m) refl)

@@ -1,0 +1,115 @@
+-- What a registration answers, and the words it leaves.
+use Prim.Native.Nat.{ℕ, _+_, _-_, _/_}
+use mathlib.Core.Path.{_≡_, refl, ap}
+use mathlib.Core.List.{List, [], _∷_}
+use mathlib.Core.Option.{Option}
+use lib.ListN.{length}
+use Rattle.rules.specs.Holds.{provided, rowsInUse}
+use Rattle.rules.specs.declared.Port.{Port}
+use Rattle.rules.specs.Ports.{flat}
+use Rattle.rules.specs.Outcomes.{Answer, Refused, Accepted, Outcome, refuses, answers, writes, stores, adds, removes}
+use Rattle.rules.specs.Registration.{Definition, roomChecks}
+use Rattle.memory.specs.Layout.{word}
+use Rattle.memory.specs.View.{view}
+use Rattle.memory.specs.Writes.{parentId}
+use Rattle.memory.specs.declared.Parent.{Parent}
+use Rattle.memory.specs.declared.Place.{Place}
+use Rattle.memory.specs.declared.Place.the-variants.{At, Nowhere}
+use Rattle.memory_places.specs.Changes.{freeAt}
+use Rattle.memory_entry.specs.Entries.{filledPlace}
+use Rattle.memory_entry.specs.Filled.{filled-size}
+use Rattle.memory_entry.specs.declared.Entry.{Entry}
+use Rattle.registry_checks.specs.Verdicts.{verdict}
+use Rattle.registry_checks.specs.declared.Checked.{Checked}
+use Rattle.registry_checks.specs.declared.Checked.the-variants as checked
+use Rattle.registry_prepare.specs.Parts.{tagOf, wordOf}
+use Rattle.registry_register.specs.declared.Registered.{Registered}
+use Rattle.registry_register.specs.declared.Registered.the-variants as registered
+
+abbrev pub registeredAnswer : Registered → Answer
+registeredAnswer (registered.Id n) = Accepted (n ∷ [])
+registeredAnswer (registered.Refused n) = Refused n []
+
+-- the rules' definition of what is lent
+abbrev pub definition : Parent → Port → List ℕ → List ℕ → List ℕ → ℕ → Definition
+definition parent anchor realms dependencies provisions payload = record {
+  parent = parentId parent;
+  anchor = anchor;
+  realms = realms;
+  dependencies = dependencies;
+  provisions = provisions;
+  payload = payload;
+}
+
+-- The words of a new plugin beside its lists: next id is its id, and its rows stand behind all others.
+abbrev pub newEntry : List ℕ → Option ℕ → ℕ → ℕ → ℕ → ℕ → Entry
+newEntry m parent payload dependencies provisions realms = record {
+  id = word m 2;
+  tag = tagOf parent;
+  parent = wordOf parent;
+  payload = payload;
+  start = rowsInUse (view m);
+  dependencies = dependencies;
+  provisions = provisions;
+  realms = realms;
+  next = word m 2 + 1;
+}
+
+-- Written to a place; no place leaves the words.
+abbrev pub writtenAt : List ℕ → Place → Entry → List ℕ → List ℕ → List ℕ → List ℕ
+writtenAt m (At p) e dependencies claims realms = filledPlace m p e dependencies claims realms
+writtenAt m Nowhere e dependencies claims realms = m
+
+-- The words after a registration: the new plugin stands at the lowest free place. Any other outcome leaves them.
+unfoldable pub addedTo : List ℕ → Outcome → List ℕ
+addedTo m (refuses x vs) = m
+addedTo m (answers vs) = m
+addedTo m (writes place l vs) = m
+addedTo m (stores q vs) = m
+addedTo m (adds q vs) =
+    writtenAt m (freeAt m) (newEntry m (q .parent) (q .payload) (length (q .dependencies)) (length (q .provisions)) (length (q .realms .rows)))
+    (flat (q .dependencies)) (flat (q .anchor ∷ provided q)) (flat (q .realms .rows))
+addedTo m (removes id vs) = m
+
+-- The late checks and what is written where they pass, by a count of dependencies and the lent lists.
+abbrev pub lateVerdict : List ℕ → ℕ → List ℕ → Checked
+lateVerdict m count claims = verdict (roomChecks (view m) count (rowsInUse (view m) + (count + length claims / 2)))
+
+abbrev pub answerBy : Checked → ℕ → Answer
+answerBy checked.Passed id = Accepted (id ∷ [])
+answerBy (checked.Refused n) id = Refused n []
+
+abbrev pub leftBy : Checked → List ℕ → List ℕ → List ℕ
+leftBy checked.Passed m new = new
+leftBy (checked.Refused n) m new = m
+
+unfoldable pub settledAnswer : List ℕ → ℕ → List ℕ → Answer
+settledAnswer m count claims = answerBy (lateVerdict m count claims) (word m 2)
+
+unfoldable pub settledWords : List ℕ → Option ℕ → ℕ → ℕ → List ℕ → List ℕ → List ℕ → List ℕ
+settledWords m parent payload count dependencies claims realms =
+    leftBy (lateVerdict m count claims) m
+    (writtenAt m (freeAt m) (newEntry m parent payload count (length claims / 2 - 1) (length realms / 2)) dependencies claims realms)
+
+-- On any words, there are as many after a registration.
+pub added-size : (m : List ℕ) (o : Outcome) → length (addedTo m o) ≡ length m
+unfolding addedTo
+added-size m (refuses x vs) = refl
+added-size m (answers vs) = refl
+added-size m (writes place l vs) = refl
+added-size m (stores q vs) = refl
+added-size m (adds q vs) = at (freeAt m)
+  where
+    at : (free : Place)
+        → length (writtenAt m free (newEntry m (q .parent) (q .payload) (length (q .dependencies)) (length (q .provisions)) (length (q .realms .rows)))
+        (flat (q .dependencies)) (flat (q .anchor ∷ provided q)) (flat (q .realms .rows))) ≡ length m
+    at Nowhere = refl
+    at (At p) = filled-size m p _ _ _ _
+added-size m (removes id vs) = refl
+
+-- Any two outcomes that the promise of a registration allows are equal.
+pub registered-exact : (a b : Registered) → registeredAnswer a ≡ registeredAnswer b → a ≡ b
+registered-exact (registered.Id n) (registered.Id k) e = let j : n ≡ k = cc in ap registered.Id j
+registered-exact (registered.Id n) (registered.Refused k) e = cc
+registered-exact (registered.Refused n) (registered.Id k) e = cc
+registered-exact (registered.Refused n) (registered.Refused k) e = let j : n ≡ k = cc in ap registered.Refused j

@@ -1,0 +1,124 @@
+// Document 01, "Registration", over the registry's memory: nothing is written before the last check has passed.
+ghost use mathlib.Core.Path.{_≡_};
+ghost use mathlib.Core.Logic.{_≢_};
+ghost use Rattle.rules.specs.Holds.{rowsInUse};
+ghost use Rattle.rules.specs.Outcomes.{answerOf};
+ghost use Rattle.rules.specs.Registration.{register};
+ghost use Rattle.memory.specs.Layout.{word};
+ghost use Rattle.memory.specs.View.{view};
+ghost use Rattle.memory.specs.Writes.{parentId};
+ghost use Rattle.registry_register.specs.Written.{registeredAnswer, definition, newEntry, settledAnswer, settledWords, addedTo};
+use memory::Parent;
+use memory::Place;
+use memory::WORDS;
+use memory_entry::Entry;
+use registry_checks::Checked;
+use registry_checks::Early;
+use rules::Port;
+use rules::refusal;
+
+// The new id, or a refusal.
+pub enum Registered {
+    Id(u64),
+    Refused(u64),
+}
+
+// What is written of the new plugin beside its lists.
+fn entry(
+    m: &[u64; WORDS],
+    parent: Parent,
+    payload: u64,
+    start: usize,
+    dependencies: usize,
+    provisions: usize,
+    realms: usize,
+) -> Entry
+    requires { ⌜ word (now m) 2 ≢ 18446744073709551615 ⌝ ∗ ⌜ start ≡ rowsInUse (view (now m)) ⌝ }
+    ensures { λ r. ⌜ r ≡ newEntry (now (m .entry)) (parentId parent) payload dependencies provisions realms ⌝ }
+{
+    let id = memory::next_id(m);
+    Entry {
+        id: id,
+        tag: registry_prepare::parent_tag(parent),
+        parent: registry_prepare::parent_word(parent),
+        payload: payload,
+        start: start as u64,
+        dependencies: dependencies as u64,
+        provisions: provisions as u64,
+        realms: realms as u64,
+        next: id + 1,
+    }
+}
+
+// 9, 10, 11, 12; then the plugin goes to the lowest free place.
+fn settle(
+    m: &mut [u64; WORDS],
+    parent: Parent,
+    payload: u64,
+    count: usize,
+    dependencies: &[u64],
+    claims: &[u64],
+    realms: &[u64],
+) -> Registered
+    ensures { λ r. ⌜ registeredAnswer r ≡ settledAnswer (now (m .entry)) count (now (claims .entry)) ⌝ ∗ ⌜ now (m .exit) ≡ settledWords (now (m .entry)) (parentId parent) payload count (now (dependencies .entry)) (now (claims .entry)) (now (realms .entry)) ⌝ }
+{
+    let claimed = claims.len() / 2;
+    let rows = memory_places::rows_in_use(m);
+    if let Checked::Refused(n) = registry_checks::late_verdict(m, rows, count, claimed) {
+        return Registered::Refused(n);
+    }
+    let Place::At(at) = memory_places::lowest_free(m) else {
+        return Registered::Refused(refusal::FULL);
+    };
+    let e = entry(
+        m,
+        parent,
+        payload,
+        rows,
+        count,
+        registry_prepare::behind_anchor(claimed),
+        realms.len() / 2,
+    );
+    memory_entry::fill_place(m, at, e, dependencies, claims, realms);
+    Registered::Id(e.id)
+}
+
+// 4, 5, the parent's 1, 2, 3, then 6; 7, 8; 9, 10, 11, 12. It answers the new id.
+pub fn register(
+    m: &mut [u64; WORDS],
+    parent: Parent,
+    anchor: Port,
+    realms: &[u64],
+    dependencies: &[u64],
+    provisions: &[u64],
+    payload: u64,
+) -> Registered
+    ensures { λ r. ⌜ registeredAnswer r ≡ answerOf (register (view (now (m .entry))) (definition parent anchor (now (realms .entry)) (now (dependencies .entry)) (now (provisions .entry)) payload)) ⌝ ∗ ⌜ now (m .exit) ≡ addedTo (now (m .entry)) (register (view (now (m .entry))) (definition parent anchor (now (realms .entry)) (now (dependencies .entry)) (now (provisions .entry)) payload)) ⌝ }
+{
+    let above = match registry_checks::early_verdict(m, parent, realms, dependencies, provisions) {
+        Early::Passed(place) => place,
+        Early::Refused(n) => return Registered::Refused(n),
+    };
+    let claimed = ports_claimed::claims(realms, Port::DEFAULT_REALM, anchor, provisions);
+    let claims = registry_prepare::first_rows(&claimed.ports, claimed.count);
+    if let Checked::Refused(n) = registry_checks::claim_verdict(m, claims) {
+        return Registered::Refused(n);
+    }
+    let provided = memory_lists::some_words(claims, 2, claims.len());
+    let list = ports_inherited::dependency_list(
+        realms,
+        Port::DEFAULT_REALM,
+        provided,
+        dependencies,
+        registry_prepare::inherited(m, above),
+    );
+    settle(
+        m,
+        parent,
+        payload,
+        list.count,
+        registry_prepare::first_rows(&list.ports, list.count),
+        claims,
+        realms,
+    )
+}

@@ -1,0 +1,128 @@
+-- What each operation of the rules comes to where the id is found in the words, and where it is not; and what its answer says then.
+use Prim.Native.Nat.{ℕ, _%_, _<_, _≤_}
+use native.Mathlib.Omega.{arith}
+use mathlib.Core.Path.{_≡_, refl, sym, ap, _∙_}
+use mathlib.Core.Logic.{_≢_}
+use mathlib.Core.Bool.{Bool, true, false}
+use mathlib.Core.List.{List, [], _∷_}
+use mathlib.Core.Option.{some}
+use lib.Dec.{eqb, ltb}
+use borrow.Author.Tests.{lt-ltb, le-ltb, le-leb, lt-leb, eq-eqb, ne-eqb}
+use Rattle.rules.specs.Basics.{holds}
+use Rattle.rules.specs.Holds.{Plugin, withRetired, lookup}
+use Rattle.rules.specs.Refusals.{Unknown, Retired, InvalidState}
+use Rattle.rules.specs.Outcomes.{Refused, Accepted, Outcome, refuses, answers, stores, _⇒_, checked, answerOf}
+use Rattle.rules.specs.Retirement.{Identity, isChildOf, retire, retireFound, retireChild, identity, childIdentity}
+use Rattle.memory.specs.Layout.{word}
+use Rattle.memory.specs.View.{parentAt, lifeAt, pluginAt, view}
+use Rattle.memory.specs.Writes.{parentId, findAt, putLife}
+use Rattle.memory.specs.Frames.{withLife}
+use Rattle.memory.specs.Known.{at-place, at-lookup, at-known, none-lookup, none-known}
+use Rattle.memory.specs.declared.Life.{Life}
+use Rattle.memory.specs.declared.Parent.{Parent}
+use Rattle.memory.specs.declared.Parent.the-variants.{Of, Nobody}
+use Rattle.memory.specs.declared.Place.the-variants.{At, Nowhere}
+use Rattle.memory_life.specs.Told.{Told, told-refused, told-stored, life-found}
+use Rattle.registry_retire.specs.Answers.{childAnswer}
+use Rattle.registry_retire.specs.Marks.{markedLife}
+use Rattle.registry_retire.specs.declared.Child.the-variants as child
+
+-- what retiring comes to once the plugin is found
+abbrev pub mark : Plugin → Outcome
+mark p = checked ((p .retired ⇒ Retired) ∷ []) (stores (withRetired true p) [])
+
+module _ (m : List ℕ) (i : ℕ) where
+  pub mark-retired : lifeAt m i .retired ≡ true → mark (pluginAt m i) ≡ refuses Retired []
+  unfolding checked pluginAt
+  mark-retired t = rw t
+
+  pub mark-stores : lifeAt m i .retired ≡ false → mark (pluginAt m i) ≡ stores (withLife (pluginAt m i) (markedLife (lifeAt m i))) []
+  unfolding checked pluginAt
+  mark-stores f = rw f
+
+-- a plugin found, its life loaded, and perhaps a marked one stored
+module _ (m : List ℕ) (id i : ℕ) (o : Outcome) (life : Life) (e : findAt m id ≡ At i) (g : o ≡ mark (pluginAt m i)) (l : life ≡ lifeAt m (i % 32)) where
+  loaded : life ≡ lifeAt m i
+  loaded = life-found m id i e life l
+
+  pub told-retired : life .retired ≡ true → Told o m (Refused 2 []) m
+  told-retired t = told-refused o m Retired [] (g ∙ mark-retired m i (rw loaded at t))
+
+  pub told-marked : (l′ : Life) (m′ : List ℕ) → life .retired ≡ false → l′ ≡ markedLife life → m′ ≡ putLife m (i % 32) l′ → Told o m (Accepted []) m′
+  told-marked l′ m′ f s p =
+      let k : o ≡ stores (withLife (pluginAt m i) (markedLife (lifeAt m i))) [] = g ∙ mark-stores m i (rw loaded at f) in
+      told-stored o m id i [] (markedLife (lifeAt m i)) m′ e k (p ∙ ap (putLife m (i % 32)) (s ∙ ap markedLife loaded))
+
+-- by id
+pub retire-none : (m : List ℕ) (id : ℕ) → findAt m id ≡ Nowhere → retire (view m) id ≡ refuses Unknown []
+unfolding retire
+retire-none m id e = none-known m id e mark
+
+pub retire-found : (m : List ℕ) (id i : ℕ) → findAt m id ≡ At i → retire (view m) id ≡ mark (pluginAt m i)
+unfolding retire
+retire-found m id i e = at-known m id i e mark
+
+-- by child identity, over the header's words as they were read
+module _ (m : List ℕ) (c : Identity) (d : ℕ) (domain : d ≡ word m 0) where
+  pub child-foreign : c .domain ≢ d → retireChild (view m) c ≡ refuses InvalidState []
+  unfolding retireChild checked view
+  child-foreign n = rw (ne-eqb (c .domain) (word m 0) (λ s. n (s ∙ sym domain)))
+
+  module _ (f : ℕ) (same : c .domain ≡ d) (first : f ≡ word m 1) where
+    own : eqb (c .domain) (word m 0) ≡ true
+    own = eq-eqb (c .domain) (word m 0) (same ∙ domain)
+
+    pub child-below : c .id < f → retireChild (view m) c ≡ refuses Unknown []
+    unfolding retireChild checked view
+    child-below h = rw (own, lt-ltb (c .id) (word m 1) (omega arith))
+
+    module _ (n : ℕ) (from : f ≤ c .id) (next : n ≡ word m 2) where
+      not-below : ltb (c .id) (word m 1) ≡ false
+      not-below = le-ltb (c .id) (word m 1) (omega arith)
+
+      pub child-above : n ≤ c .id → retireChild (view m) c ≡ refuses Unknown []
+      unfolding retireChild checked view
+      child-above h = rw (own, not-below, le-leb (word m 2) (c .id) (omega arith))
+
+      module _ (below : c .id < n) where
+        child-issued : retireChild (view m) c ≡ retireFound (c .parent) (lookup (view m) (c .id))
+        unfolding retireChild checked view
+        child-issued = rw (own, not-below, lt-leb (word m 2) (c .id) (omega arith))
+
+        pub child-gone : findAt m (c .id) ≡ Nowhere → retireChild (view m) c ≡ answers []
+        child-gone e = child-issued ∙ ap (retireFound (c .parent)) (none-lookup m (c .id) e)
+
+        module _ (i : ℕ) (b : Bool) (e : findAt m (c .id) ≡ At i) (t : b ≡ holds (eqb (c .parent)) (parentAt m (i % 32))) where
+          tested : isChildOf (c .parent) (pluginAt m i) ≡ b
+          unfolding pluginAt
+          tested = sym (t ∙ ap (λ k. holds (eqb (c .parent)) (parentAt m k)) (at-place m (c .id) i e))
+
+          child-there : retireChild (view m) c ≡ retireFound (c .parent) (some (pluginAt m i))
+          child-there = child-issued ∙ ap (retireFound (c .parent)) (at-lookup m (c .id) i e)
+
+          pub child-other : b ≡ false → retireChild (view m) c ≡ refuses InvalidState []
+          unfolding checked
+          child-other k = child-there ∙ rw (tested ∙ k)
+
+          pub child-marks : b ≡ true → retireChild (view m) c ≡ mark (pluginAt m i)
+          unfolding checked
+          child-marks y = child-there ∙ rw (tested ∙ y)
+
+-- asking a child identity
+module _ (m : List ℕ) (id : ℕ) where
+  pub identity-none : findAt m id ≡ Nowhere → childAnswer (child.Refused 1) ≡ answerOf (childIdentity (view m) id)
+  unfolding childIdentity
+  identity-none e = rw (none-known m id e (λ p. answers (identity (view m .domain) id (p .parent))))
+
+  module _ (i : ℕ) (q : Parent) (e : findAt m id ≡ At i) (t : parentId q ≡ parentAt m (i % 32)) where
+    identity-found : childIdentity (view m) id ≡ answers (identity (word m 0) id (parentId q))
+    unfolding childIdentity view pluginAt
+    identity-found =
+        at-known m id i e (λ p. answers (identity (view m .domain) id (p .parent)))
+        ∙ ap (λ o. answers (identity (word m 0) id o)) (sym (t ∙ ap (parentAt m) (at-place m id i e)))
+
+    pub identity-orphan : q ≡ Nobody → childAnswer child.Orphan ≡ answerOf (childIdentity (view m) id)
+    identity-orphan s = rw (identity-found, s)
+
+    pub identity-child : (d p : ℕ) → q ≡ Of p → d ≡ word m 0 → childAnswer (child.Of d p id) ≡ answerOf (childIdentity (view m) id)
+    identity-child d p s w = rw (identity-found, s, w)

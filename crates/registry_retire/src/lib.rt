@@ -1,0 +1,93 @@
+// Document 01, "Retirement", over the registry's memory, but for removal.
+ghost use mathlib.Core.Path.{_≡_};
+ghost use Rattle.rules.specs.Outcomes.{answerOf};
+ghost use Rattle.rules.specs.Retirement.{retire, retireChild, childIdentity};
+ghost use Rattle.memory.specs.View.{view};
+ghost use Rattle.memory.specs.Known.{storedLife};
+ghost use Rattle.memory_life.specs.Told.{doneAnswer};
+ghost use Rattle.registry_retire.specs.Answers.{childAnswer};
+ghost use Rattle.registry_retire.specs.Marks.{markedLife};
+use memory::Life;
+use memory::Place;
+use memory::WORDS;
+use memory_life::Done;
+use rules::refusal;
+
+// A child identity, none, or a refusal.
+pub enum Child {
+    Of(u64, u64, u64),
+    Orphan,
+    Refused(u64),
+}
+
+// By id: 1, 2; else the retired mark is set.
+pub fn retire(m: &mut [u64; WORDS], id: u64) -> Done
+    ensures { λ r. ⌜ doneAnswer r ≡ answerOf (retire (view (now (m .entry))) id) ⌝ ∗ ⌜ now (m .exit) ≡ storedLife (now (m .entry)) (retire (view (now (m .entry))) id) ⌝ }
+{
+    let Place::At(at) = memory::find(m, id) else {
+        return Done::Refused(refusal::UNKNOWN);
+    };
+    let life = memory_life::load(m, at);
+    if life.retired {
+        return Done::Refused(refusal::RETIRED);
+    }
+    memory_life::store(m, at, marked(life));
+    Done::Accepted
+}
+
+fn marked(life: Life) -> Life
+    ensures { λ r. ⌜ r ≡ markedLife life ⌝ }
+{
+    let phase = life.phase;
+    let generation = life.generation;
+    let root = life.root;
+    Life {
+        revision: life.revision,
+        payload: life.payload,
+        phase: phase,
+        retired: true,
+        generation: generation,
+        root: root,
+    }
+}
+
+// By child identity: domain 3; never issued 1; not registered: accepted, nothing changes; parent differs or none 3; then 2; else the mark.
+pub fn retire_child(m: &mut [u64; WORDS], domain: u64, parent: u64, id: u64) -> Done
+    ensures { λ r. ⌜ doneAnswer r ≡ answerOf (retireChild (view (now (m .entry))) (record { domain = domain; parent = parent; id = id })) ⌝ ∗ ⌜ now (m .exit) ≡ storedLife (now (m .entry)) (retireChild (view (now (m .entry))) (record { domain = domain; parent = parent; id = id })) ⌝ }
+{
+    if domain != memory::domain(m) {
+        return Done::Refused(refusal::INVALID_STATE);
+    }
+    if id < memory::first_id(m) {
+        return Done::Refused(refusal::UNKNOWN);
+    }
+    if memory::next_id(m) <= id {
+        return Done::Refused(refusal::UNKNOWN);
+    }
+    let Place::At(child) = memory::find(m, id) else {
+        return Done::Accepted;
+    };
+    if memory::is_child_of(m, child, parent) {
+        let life = memory_life::load(m, child);
+        if life.retired {
+            return Done::Refused(refusal::RETIRED);
+        }
+        memory_life::store(m, child, marked(life));
+        return Done::Accepted;
+    }
+    Done::Refused(refusal::INVALID_STATE)
+}
+
+// Asking a plugin's child identity: 1, else the identity, or none without a parent.
+pub fn child_identity(m: &[u64; WORDS], id: u64) -> Child
+    ensures { λ r. ⌜ childAnswer r ≡ answerOf (childIdentity (view (now (m .entry))) id) ⌝ }
+{
+    let Place::At(at) = memory::find(m, id) else {
+        return Child::Refused(refusal::UNKNOWN);
+    };
+    let parent = memory::parent_of(m, at);
+    match parent {
+        memory::Parent::Of(p) => Child::Of(memory::domain(m), p, id),
+        memory::Parent::Nobody => Child::Orphan,
+    }
+}

@@ -1,0 +1,33 @@
+-- `child_of` meets its contract. Assumes nothing.
+use borrow.Author.Needs.{needs}
+use Rattle.slot_words.proofs.child_of.Statement.{statement}
+use Rattle.slot_words.proofs.child_of.Tie as tie
+
+enum-told : tie.Need-enum-told
+enum-told c = search needs
+
+enum-known-d : tie.Need-enum-known-d
+enum-known-d c = search needs
+
+enum-told-2 : tie.Need-enum-told-2
+enum-told-2 c = search needs
+
+enum-told-3 : tie.Need-enum-told-3
+enum-told-3 c = search needs
+
+returns : tie.Need-returns
+returns c = rw (c .enum-told .given .1)
+
+returns-2 : tie.Need-returns-2
+returns-2 c = rw (c .before .d .given .1)
+
+returns-3 : tie.Need-returns-3
+returns-3 c = rw (c .enum-told2 .given .1)
+
+returns-4 : tie.Need-returns-4
+returns-4 c = rw (c .enum-told3 .given .1)
+
+pub child-of-spec : {M : Type 1} → statement M
+child-of-spec =
+    tie.close
+    (tie.spec enum-told enum-known-d enum-told-2 enum-told-3 returns returns-2 returns-3 returns-4)

@@ -1,0 +1,23 @@
+-- `decided` meets its contract. Assumes nothing.
+use Rattle.slot_words.proofs.Laws.{taken, refused}
+use borrow.Author.Needs.{needs}
+use Rattle.slot_words.proofs.decided.Statement.{statement}
+use Rattle.slot_words.proofs.decided.Tie as tie
+
+enum-told : tie.Need-enum-told
+enum-told c = search needs
+
+store-requires : tie.Need-store-requires
+store-requires c κs = search needs
+
+enum-known-verdict : tie.Need-enum-known-verdict
+enum-known-verdict c = search needs
+
+returns : tie.Need-returns
+returns c = taken (c .before .before .before .before .args .d) _ _ (c .before .before .enum-told .given .1) (c .store .ensures)
+
+returns-2 : tie.Need-returns-2
+returns-2 c = refused (c .before .before .before .args .d) _ _ (c .before .verdict .given .1)
+
+pub decided-spec : {M : Type 1} → statement M
+decided-spec = tie.close (tie.spec enum-told store-requires enum-known-verdict returns returns-2)
