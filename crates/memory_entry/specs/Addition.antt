@@ -1,30 +1,30 @@
 -- A new plugin in a free place, with its rows behind all others: what that does to the words, that every other place
 -- reads as before, and that the new one reads as what was written.
-use Prim.Native.Nat.{ℕ, zero, suc, _+_, _*_, _-_, _/_, _%_, _^_, _<_, _≤_, min}
+use Prim.Native.Nat.{ℕ, _+_, _*_, _-_, _<_, _≤_, min}
 use native.Mathlib.Omega.{arith}
-use native.Mathlib.Nat.{zero-div, zero-mod}
+use native.Mathlib.Nat.{zero-div}
 use mathlib.Core.Path.{_≡_, refl, sym, ap, _∙_}
 use mathlib.Core.Bool.{Bool, true, false}
 use mathlib.Core.Logic.{_≢_}
 use mathlib.Core.List.{List, [], _∷_, map}
-use mathlib.Core.Option.{Option, none, some}
+use mathlib.Core.Option.{none}
 use lib.Dec.{eqb}
-use lib.ListN.{length, getD, take, drop, length-take, length-drop}
+use lib.ListN.{length, getD, drop, length-take, length-drop}
 use lib.Seq.{getD-take, getD-drop, ext-getD}
 use borrow.Author.Tests.{eqb-true, eqb-false}
 use Rattle.rules.specs.Basics.{pick}
-use Rattle.rules.specs.Holds.{port, Plugin, neverBegun, defaultRealm}
+use Rattle.rules.specs.Holds.{Plugin, neverBegun, defaultRealm}
 use Rattle.rules.specs.Generations.{generationOf}
 use Rattle.rules.specs.declared.Port.{Port}
 use Rattle.rules.specs.declared.Phase.the-variants.{Idle}
 use Rattle.rules.specs.declared.Root.the-variants.{Unissued}
 use Rattle.rules.specs.Ports.{pairs}
 use Rattle.rules.specs.Registration.{unoffered}
-use Rattle.memory.specs.Layout.{word, taken, idAt, startAt, depsAt, provsAt, realmsAt, part, rowWord, anchorWord, depPart, provPart, realmPart}
+use Rattle.memory.specs.Layout.{word, taken, idAt, startAt, depsAt, provsAt, realmsAt, part, rowWord, depPart, provPart, realmPart}
 use Rattle.memory.specs.View.{parentOf, lifeAt, decoded, valueAt, valued, pluginAt}
 use Rattle.memory.specs.Frames.{Kept, withLife, plugin-kept}
 use Rattle.memory.specs.Stores.{kept-frame}
-use Rattle.memory_rows.specs.Tiles.{sum-but, share, Tiled, tiled-added}
+use Rattle.memory_rows.specs.Tiles.{sum-but, share, tiled-added}
 use Rattle.memory_places.specs.Rows.{rowsAt}
 use Rattle.memory_places.specs.Taken.{taken-below}
 use Rattle.memory_rows.specs.Dense.{startWord, used, Dense, start-is}

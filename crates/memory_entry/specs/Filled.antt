@@ -1,11 +1,11 @@
 -- A filled place is an addition: of a dense memory, the registry afterwards is the rule's.
-use Prim.Native.Nat.{ℕ, zero, suc, _+_, _*_, _-_, _<_, _≤_, min}
+use Prim.Native.Nat.{ℕ, suc, _+_, _*_, _-_, _<_, _≤_}
 use native.Mathlib.Omega.{arith}
-use mathlib.Core.Path.{_≡_, refl, sym, ap, _∙_}
-use mathlib.Core.Bool.{Bool, true, false}
+use mathlib.Core.Path.{_≡_, sym, ap, _∙_}
+use mathlib.Core.Bool.{true, false}
 use mathlib.Core.Logic.{_≢_}
-use mathlib.Core.List.{List, [], _∷_}
-use mathlib.Core.Option.{none, some}
+use mathlib.Core.List.{List, _∷_}
+use mathlib.Core.Option.{some}
 use lib.Dec.{ltb, leb, lit<}
 use lib.ListN.{length, getD, set, length-set}
 use lib.Seq.{getD-set-same, getD-set-other}
@@ -13,16 +13,16 @@ use borrow.Author.Tests.{ltb-true, ltb-false, le-leb}
 use Rattle.rules.specs.Outcomes.{adds, after}
 use Rattle.rules.specs.Laws.Tests.{by-test}
 use Rattle.memory.specs.Layout.{word, taken, idAt, rowWord}
-use Rattle.memory.specs.View.{pluginAt, placeAt, placesFrom, view}
+use Rattle.memory.specs.View.{placeAt, view}
 use Rattle.memory.specs.Writes.{puts}
 use Rattle.memory.specs.Frames.{puts-length, puts-before, puts-after, puts-same}
 use Rattle.memory.specs.declared.Place.the-variants.{At}
 use Rattle.memory_places.specs.Changes.{freeAt, occupiedAt}
-use Rattle.memory_places.specs.Taken.{taken-below, occupied-length, occupied-word, occupied-here, occupied-others}
+use Rattle.memory_places.specs.Taken.{occupied-length, occupied-word, occupied-here, occupied-others}
 use Rattle.memory_places.specs.Free.{free-at}
 use Rattle.memory_places.specs.Placed.{taken-place, free-place, places-added}
 use Rattle.memory_entry.specs.Entries.{entryWords, filledPlace}
-use Rattle.memory_rows.specs.Dense.{startWord, used, Dense}
+use Rattle.memory_rows.specs.Dense.{used, Dense}
 use Rattle.memory_entry.specs.Addition.{Newcomer, newPluginOf, Sized, Adds, added-dense, added-other, added-plugin}
 use Rattle.memory_entry.specs.declared.Entry.{Entry}
 

@@ -8,7 +8,7 @@ use mathlib.Core.List.{List}
 use lib.ListN.{length}
 use Rattle.rules.specs.Holds.{rowsInUse}
 use Rattle.rules.specs.Outcomes.{Outcome, after}
-use Rattle.memory.specs.Layout.{word, taken, startAt, depsAt, provsAt}
+use Rattle.memory.specs.Layout.{word, taken, startAt}
 use Rattle.memory.specs.View.{view}
 use Rattle.memory_places.specs.Rows.{rowsAt, rowsFrom, rows-view}
 use Rattle.memory_places.specs.Taken.{taken-below}

@@ -1,24 +1,22 @@
 -- A freed place is a removal: of a dense memory, the registry afterwards is the rule's.
-use Prim.Native.Nat.{ℕ, zero, suc, _+_, _*_, _-_, _%_, _<_, _≤_, min}
+use Prim.Native.Nat.{ℕ, _+_, _*_, _-_, _<_, _≤_, min}
 use native.Mathlib.Omega.{arith}
-use mathlib.Core.Path.{_≡_, refl, sym, ap, _∙_}
-use mathlib.Core.Bool.{Bool, true, false}
+use mathlib.Core.Path.{_≡_, sym, ap, _∙_}
+use mathlib.Core.Bool.{true}
 use mathlib.Core.Logic.{_≢_}
 use mathlib.Core.List.{List}
 use mathlib.Core.Option.{none, some}
 use lib.ListN.{length}
-use lib.Dec.{eqb}
-use borrow.Author.Tests.{eqb-true, eqb-false}
 use Rattle.rules.specs.Holds.{rowsInUse}
-use Rattle.rules.specs.Outcomes.{removes, after, freedAt}
+use Rattle.rules.specs.Outcomes.{removes, after}
 use Rattle.rules.specs.Laws.Tests.{by-test}
-use Rattle.memory.specs.Layout.{word, occupancy, taken, idAt, startAt, rowWord}
-use Rattle.memory.specs.View.{pluginAt, placeAt, placesFrom, view}
+use Rattle.memory.specs.Layout.{word, taken, idAt, rowWord}
+use Rattle.memory.specs.View.{placeAt, view}
 use Rattle.memory_places.specs.Changes.{vacatedAt}
 use Rattle.memory_places.specs.Rows.{rowsAt}
 use Rattle.memory_places.specs.Taken.{taken-below, vacated-length, vacated-word, vacated-here, vacated-others}
 use Rattle.memory_places.specs.Placed.{taken-place, free-place, places-freed}
-use Rattle.memory_rows.specs.Moves.{moved, closedGap, lowered, lowerFrom, freedPlace}
+use Rattle.memory_rows.specs.Moves.{closedGap, lowered, lowerFrom, freedPlace}
 use Rattle.memory_rows.specs.Laws.{moved-length, moved-below, moved-within, lower-length, lower-other, lower-start}
 use Rattle.memory_rows.specs.Dense.{startWord, used, Dense, used-is, start-is}
 use Rattle.memory_rows.specs.Removal.{Removes, removed-dense, removed-plugin}

@@ -1,13 +1,13 @@
 -- A plugin's place and rows freed: what that does to the words, and that every other place reads as before.
-use Prim.Native.Nat.{ℕ, zero, suc, _+_, _*_, _-_, _<_, _≤_, min}
+use Prim.Native.Nat.{ℕ, _+_, _*_, _-_, _<_, _≤_}
 use native.Mathlib.Omega.{arith}
-use mathlib.Core.Path.{_≡_, refl, sym, ap, _∙_}
-use mathlib.Core.Bool.{Bool, true, false}
+use mathlib.Core.Path.{_≡_, sym, ap, _∙_}
+use mathlib.Core.Bool.{true, false}
 use mathlib.Core.Logic.{_≢_}
 use mathlib.Core.List.{List}
 use lib.ListN.{length}
-use Rattle.memory.specs.Layout.{word, taken, idAt, startAt, depsAt, provsAt, rowWord}
-use Rattle.memory.specs.View.{lifeAt, wordsAt, decoded, pluginAt}
+use Rattle.memory.specs.Layout.{word, taken}
+use Rattle.memory.specs.View.{lifeAt, decoded, pluginAt}
 use Rattle.memory.specs.Frames.{Kept, withLife, plugin-kept}
 use Rattle.memory.specs.Stores.{kept-frame}
 use Rattle.memory_rows.specs.Moves.{lowered}

@@ -5,7 +5,6 @@ use mathlib.Core.Path.{_≡_, refl, sym, ap, _∙_, subst}
 use mathlib.Core.Logic.{_≢_}
 use mathlib.Core.Bool.{true}
 use mathlib.Core.List.{List}
-use mathlib.Core.Option.{some}
 use lib.Dec.{eqb}
 use lib.ListN.{length}
 use borrow.Author.Tests.{eq-eqb, ne-eqb, eqb-true, eqb-false}
@@ -13,7 +12,7 @@ use Rattle.rules.specs.Basics.{pick}
 use Rattle.rules.specs.Refusals.{Refusal}
 use Rattle.rules.specs.Outcomes.{Outcome, refuses, answers, stores, storedAt, after}
 use Rattle.rules.specs.Laws.Tests.{by-test}
-use Rattle.memory.specs.Layout.{word, taken, idAt, depsAt, provsAt}
+use Rattle.memory.specs.Layout.{word, taken, idAt}
 use Rattle.memory.specs.View.{pluginAt, placeAt, view}
 use Rattle.memory.specs.Writes.{findAt, putLife}
 use Rattle.memory.specs.Frames.{withLife, OnlyLife, life-only}
@@ -23,7 +22,7 @@ use Rattle.memory.specs.declared.Life.{Life}
 use Rattle.memory.specs.declared.Place.the-variants.{At}
 use Rattle.memory_places.specs.Placed.{places-map, taken-place, free-place}
 use Rattle.memory_places.specs.Rows.{rowsAt}
-use Rattle.memory_rows.specs.Tiles.{sum, share, sum-same}
+use Rattle.memory_rows.specs.Tiles.{share, sum-same}
 use Rattle.memory_rows.specs.Dense.{startWord, used, Dense, Refines}
 
 -- What dense words say is in the occupancy word and, of each place, in its id, first row and counts.

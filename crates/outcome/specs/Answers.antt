@@ -1,5 +1,4 @@
 -- Two answers that say the same are equal, for the answers whose crates do not say so themselves.
-use Prim.Native.Nat.{ℕ}
 use mathlib.Core.Path.{_≡_, refl, ap}
 use Rattle.rules.specs.declared.Root.{Root}
 use Rattle.rules.specs.declared.Root.the-variants.{Unissued, Queued, Spent}

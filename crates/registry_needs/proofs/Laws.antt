@@ -1,17 +1,16 @@
 -- The steps of both searches, at a list that starts with q.
 use Prim.Native.Nat.{ℕ, _%_, _<_}
 use native.Mathlib.Nat.{mod-eq-of-lt}
-use mathlib.Core.Path.{_≡_, refl, sym, ap, _∙_}
-use mathlib.Core.Bool.{Bool, true, false, _&&_, _||_}
-use mathlib.Core.List.{List, [], _∷_}
-use Rattle.rules.specs.Basics.{any, all, holds}
-use Rattle.rules.specs.Holds.{Plugin, provides, provider, isActive, isLoading}
+use mathlib.Core.Path.{_≡_, sym, ap, _∙_}
+use mathlib.Core.Bool.{Bool, true, false, _||_}
+use mathlib.Core.List.{List, _∷_}
+use Rattle.rules.specs.Basics.{any, all}
+use Rattle.rules.specs.Holds.{isActive, isLoading}
 use Rattle.rules.specs.declared.Port.{Port}
 use Rattle.rules.specs.Phases.{available}
 use Rattle.rules.specs.Ports.{pairs}
 use Rattle.memory.specs.Layout.{depPart}
 use Rattle.memory.specs.View.{lifeAt, pluginAt, view}
-use Rattle.memory.specs.Lookups.{placed}
 use Rattle.memory.specs.declared.Life.{Life}
 use Rattle.memory.specs.declared.Place.{Place}
 use Rattle.memory.specs.declared.Place.the-variants.{At, Nowhere}

@@ -1,12 +1,11 @@
 // What a plugin needs of others, and others of it: an Active provider for each dependency, and no running plugin that depends on it.
 ghost use mathlib.Core.Path.{_≡_};
-ghost use mathlib.Core.Bool.{_&&_, _||_};
+ghost use mathlib.Core.Bool.{_||_};
 ghost use Prim.Native.Nat.{_%_, _<_};
-ghost use Rattle.rules.specs.Basics.{any, all};
+ghost use Rattle.rules.specs.Basics.{all};
 ghost use Rattle.rules.specs.Holds.{port, provides, isActive, isLoading};
 ghost use Rattle.rules.specs.Phases.{available, inUse};
 ghost use Rattle.rules.specs.Ports.{pairs};
-ghost use Rattle.memory.specs.Layout.{taken};
 ghost use Rattle.memory.specs.View.{pluginAt, view};
 ghost use Rattle.registry_needs.specs.Users.{depends, userAt};
 use memory::Life;

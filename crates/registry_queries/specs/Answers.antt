@@ -1,9 +1,6 @@
 -- What the answers to questions say in document 01's numbers; none is no number.
-use Prim.Native.Nat.{ℕ}
 use mathlib.Core.Path.{_≡_, refl, ap}
-use mathlib.Core.List.{List, [], _∷_}
-use Rattle.rules.specs.declared.Port.{Port}
-use Rattle.rules.specs.declared.Root.{Root}
+use mathlib.Core.List.{[], _∷_}
 use Rattle.rules.specs.Outcomes.{Answer, Refused, Accepted}
 use Rattle.rules.specs.Ports.{flat}
 use Rattle.rules.specs.Queries.{rootNumbers}

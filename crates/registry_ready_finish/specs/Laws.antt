@@ -1,9 +1,9 @@
 -- What ready and finish come to where the id is found in the words, and where it is not.
 use Prim.Native.Nat.{ℕ, _+_, _*_, _%_}
-use mathlib.Core.Path.{_≡_, refl, sym, ap, _∙_}
+use mathlib.Core.Path.{_≡_, sym, ap, _∙_}
 use mathlib.Core.Bool.{Bool, true, false, not}
 use mathlib.Core.List.{List, [], _∷_, map}
-use mathlib.Core.Option.{Option, none, some}
+use mathlib.Core.Option.{none, some}
 use lib.ListN.{set}
 use Rattle.rules.specs.Basics.{any, isNone}
 use Rattle.rules.specs.Holds.{Provision, Plugin, withProvisions, withRoot}

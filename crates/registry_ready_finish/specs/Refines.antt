@@ -3,7 +3,7 @@ use Prim.Native.Nat.{ℕ, _+_, _*_}
 use native.Mathlib.Omega.{arith}
 use mathlib.Core.Path.{_≡_, refl, sym, ap, _∙_}
 use mathlib.Core.Logic.{_≢_}
-use mathlib.Core.Bool.{true, false, not}
+use mathlib.Core.Bool.{not}
 use mathlib.Core.List.{List, [], _∷_, map}
 use lib.ListN.{length, set, length-set}
 use lib.Seq.{getD-set-other}
@@ -16,7 +16,7 @@ use Rattle.rules.specs.Laws.Tests.{checked-elim}
 use Rattle.memory.specs.Layout.{word, taken}
 use Rattle.memory.specs.View.{lifeAt, pluginAt, view}
 use Rattle.memory.specs.Writes.{findAt, putLife}
-use Rattle.memory.specs.Frames.{withLife, life-length, life-before}
+use Rattle.memory.specs.Frames.{life-length, life-before}
 use Rattle.memory.specs.Stores.{plugin-put, plugin-other}
 use Rattle.memory.specs.Known.{at-below, at-taken, at-id, storedLife}
 use Rattle.memory.specs.declared.Life.{Life}

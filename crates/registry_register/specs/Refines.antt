@@ -1,18 +1,17 @@
 -- Of dense words in which no plugin has the next id, the registry after a registration is the rules', and the words are dense again.
-use Prim.Native.Nat.{ℕ, _+_, _*_, _≤_}
+use Prim.Native.Nat.{ℕ, _+_, _≤_}
 use native.Mathlib.Omega.{arith}
-use mathlib.Core.Path.{_≡_, refl, sym, ap, _∙_}
+use mathlib.Core.Path.{_≡_, refl, ap, _∙_}
 use mathlib.Core.Logic.{_≢_}
-use mathlib.Core.Bool.{true, false}
+use mathlib.Core.Bool.{true}
 use mathlib.Core.List.{List, [], _∷_, map}
 use mathlib.Core.Option.{Option, none, some}
 use lib.Dec.{ltb}
 use lib.ListN.{length, length-map}
 use borrow.Author.Tests.{ltb-false}
-use Rattle.rules.specs.Holds.{Plugin, Registry, provided, rowsOf, rowsInUse}
+use Rattle.rules.specs.Holds.{Registry, rowsOf, rowsInUse}
 use Rattle.rules.specs.Ports.{pairs, flat, realmsOf, resolve}
-use Rattle.rules.specs.Refusals.{Refusal}
-use Rattle.rules.specs.Outcomes.{Outcome, refuses, adds, after}
+use Rattle.rules.specs.Outcomes.{Outcome, adds, after}
 use Rattle.rules.specs.Registration.{Definition, resolved, unoffered, dependenciesOf, newPlugin, registrationChecks, register}
 use Rattle.rules.specs.Built.{Built}
 use Rattle.rules.specs.Kept.New.{new-ports}
@@ -30,7 +29,7 @@ use Rattle.memory_rows.specs.Dense.{used, Dense, used-is, Refines}
 use Rattle.memory_entry.specs.Addition.{Newcomer, newPluginOf, Sized}
 use Rattle.memory_entry.specs.Filled.{entryOf, claimWords, filled-dense, filled-view}
 use Rattle.registry_prepare.specs.Parts.{tagOf, wordOf}
-use Rattle.registry_register.specs.Written.{newEntry, writtenAt, addedTo}
+use Rattle.registry_register.specs.Written.{addedTo}
 
 -- No registered plugin has the next id.
 abbrev pub Fresh : List ℕ → Type 0

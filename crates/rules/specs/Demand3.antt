@@ -12,16 +12,16 @@ use mathlib.Core.Logic.{_≢_}
 use lib.Dec.{eqb}
 use lib.ListN.{length}
 use borrow.Author.Tests.{eqb-true, eqb-false, not-true}
-use Rattle.rules.specs.Basics.{all, sameNumbers, isSome}
-use Rattle.rules.specs.Holds.{Plugin, Registry, lookup, opened, plugins, Root, Unissued, Queued, Spent, withRoot}
+use Rattle.rules.specs.Basics.{all, sameNumbers}
+use Rattle.rules.specs.Holds.{Plugin, Registry, lookup, opened, Queued, Spent, withRoot}
 use Rattle.rules.specs.Refusals.{Retired, InvalidState, Stale}
-use Rattle.rules.specs.Outcomes.{Answer, Refused, Accepted, Outcome, stores, answerOf, after, _⇒_, checked, found}
-use Rattle.rules.specs.Admission.{Invocation, five, receipt, isQueued, isLive, call}
-use Rattle.rules.specs.Steps.{Op, Call, Event, Run, run, runFresh, step, answerTo, goOn, goOnWith}
+use Rattle.rules.specs.Outcomes.{Answer, Refused, Accepted, Outcome, stores, answerOf, _⇒_, checked, found}
+use Rattle.rules.specs.Admission.{Invocation, five, receipt, isLive, call}
+use Rattle.rules.specs.Steps.{Op, Call, Run, run, runFresh, answerTo, goOn, goOnWith}
 use Rattle.rules.specs.History.{Told, registered, removed, replaced, settled, retired, admitted, called, toldAtStart, story, stored, ends, Open, refusalFor, Demand3}
 use Rattle.rules.specs.Laws.Tests.{by-test, both}
-use Rattle.rules.specs.Demand3.Link.{isAdmission, live, callable, Once, Agrees, Linked, Good}
-use Rattle.rules.specs.Demand3.Lives.{Facts, same-true, same-refl, would-accept, lives, not-callable, silent}
+use Rattle.rules.specs.Demand3.Link.{isAdmission, live, Once, Agrees, Linked, Good}
+use Rattle.rules.specs.Demand3.Lives.{same-true, same-refl, would-accept, lives, not-callable, silent}
 use Rattle.rules.specs.Demand3.Kept.{kept}
 
 -- What is asked of a start: 32 places, every id below the next one, and no root Queued.

@@ -13,8 +13,8 @@ use Rattle.rules.specs.Phases.{begin}
 use Rattle.rules.specs.Replacement.{replace, fits}
 use Rattle.rules.specs.Admission.{Ticket, Invocation, admit, isLive, call}
 use Rattle.rules.specs.Lists.{Dependencies, listing, list}
-use Rattle.rules.specs.Queries.{RowsInUse, askRegistry}
-use Rattle.rules.specs.Steps.{Op, ResolveKey, DependencyPort, Register, Begin, Replace, Fits, Admit, Call, Listed, AskRegistry, step, answerTo, afterStep, lentAfterStep, run}
+use Rattle.rules.specs.Queries.{RowsInUse}
+use Rattle.rules.specs.Steps.{Op, ResolveKey, DependencyPort, Register, Begin, Replace, Fits, Admit, Call, Listed, AskRegistry, answerTo, afterStep, lentAfterStep, run}
 
 -- a registration with payload 40
 abbrev pub registers : Option ℕ → Port → List ℕ → List ℕ → List ℕ → Op

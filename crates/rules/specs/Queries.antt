@@ -1,6 +1,5 @@
 -- What can be asked of a plugin and of the registry. R's getters are queries by id, answering 1 if it isn't registered.
 use Prim.Native.Nat.{ℕ}
-use mathlib.Core.Bool.{Bool}
 use mathlib.Core.List.{List, [], _∷_}
 use mathlib.Core.Option.{Option, none, some}
 use lib.Dec.{ltb, leb}

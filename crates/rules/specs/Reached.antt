@@ -23,7 +23,7 @@ use Rattle.rules.specs.Admission.{admit, admits, isAccepted, isLive, cal
 use Rattle.rules.specs.Retirement.{retire, retireChild, childIdentity, remove}
 use Rattle.rules.specs.Values.{offer, read, visible, own, missing, matching, declares}
 use Rattle.rules.specs.Lists.{listing, list}
-use Rattle.rules.specs.Queries.{askPlugin, askRegistry, idFrom}
+use Rattle.rules.specs.Queries.{askPlugin, idFrom}
 use Rattle.rules.specs.Steps.{Op, ResolveKey, DependencyPort, Register, Begin, Ready, Fail, Unload, Finish, Replace, Fits, Admit, Admits, Call}
 use Rattle.rules.specs.Steps.{Retire, RetireChild, ChildIdentity, Remove, Offer, Read, Visible, Own, FirstMissing, Matching, Declares}
 use Rattle.rules.specs.Steps.{Listed, AskPlugin, AskRegistry, IdFrom}

@@ -6,7 +6,7 @@ use mathlib.Core.Option.{Option, none, some}
 use lib.Dec.{eqb, ltb, leb}
 use lib.ListN.{length}
 use Rattle.rules.specs.Basics.{any, isSome, isNone, holds, last}
-use Rattle.rules.specs.Holds.{Port, Realms, Provision, Plugin, Registry, lookup, provider, count, rowsInUse, rowsOf, isIn, neverBegun}
+use Rattle.rules.specs.Holds.{Port, Provision, Plugin, Registry, lookup, provider, count, rowsInUse, rowsOf, isIn, neverBegun}
 use Rattle.rules.specs.Holds.{Idle, isUnloading, Unissued}
 use Rattle.rules.specs.Refusals.{Unknown, Retired, InvalidState, BadRealms, TooManyKeys, DuplicateDependency, DuplicateProvision, Taken}
 use Rattle.rules.specs.Refusals.{NoId, Full, TooLong, NoRows}

@@ -1,7 +1,6 @@
 use mathlib.Core.Path.{refl, sym}
 use lib.Seq.{take-all, length-take-le}
 use native.Mathlib.Omega.{arith}
-use borrow.Author.Needs.{needs}
 use Rattle.console_answer.proofs.front.Statement.{statement}
 use Rattle.console_answer.proofs.front.Tie as tie
 

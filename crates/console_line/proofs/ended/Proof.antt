@@ -1,6 +1,5 @@
-use mathlib.Core.Path.{refl, sym, ap, _∙_}
-use mathlib.Core.List.{List, [], _∷_}
-use Prim.Native.Nat.{ℕ}
+use mathlib.Core.Path.{refl, ap, _∙_}
+use mathlib.Core.List.{[], _∷_}
 use Rattle.slot.specs.Slots.{slotOf}
 use Rattle.console_answer.specs.Pages.{Page, upTo, putOn}
 use Rattle.console_line.specs.Console.{answered}

@@ -1,7 +1,6 @@
 use Prim.Native.Nat.{ℕ}
 use mathlib.Core.Path.{refl, ap}
 use mathlib.Core.List.{List}
-use native.Mathlib.Omega.{arith}
 use Rattle.console_operations.specs.Asked.{counted}
 use Rattle.console_operations.specs.Carried.{same}
 use Rattle.console_operations.proofs.Lists.{all-from, counted-more, none-keeps}

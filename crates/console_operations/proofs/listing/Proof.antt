@@ -1,8 +1,5 @@
-use Prim.Native.Nat.{ℕ}
-use mathlib.Core.Path.{refl, ap}
-use mathlib.Core.List.{List}
+use mathlib.Core.Path.{refl}
 use native.Mathlib.Omega.{arith}
-use Rattle.console_operations.specs.Asked.{listing}
 use Rattle.console_operations.proofs.Laws.{alike}
 use Rattle.console_operations.proofs.Lists.{no-list, list-resolve, list-matches}
 use borrow.Author.Needs.{needs}

@@ -1,14 +1,9 @@
-use mathlib.Core.Path.{refl, ap}
+use mathlib.Core.Path.{ap}
 use Rattle.memory_places.specs.Changes.{aboveAnswer}
 use Rattle.host_answers.specs.Told.{statusOf, wordsOf, told}
-use native.Mathlib.Omega.{arith}
 use borrow.Author.Needs.{needs}
 use Rattle.host_answers.proofs.above.Statement.{statement}
 use Rattle.host_answers.proofs.above.Tie as tie
-use Rattle.host_answers.proofs.above.Reads as reads
-use Rattle.host_answers.proofs.above.Lts as lts
-use Rattle.host_answers.proofs.none.Reads as none-reads
-use Rattle.host_answers.proofs.one.Reads as one-reads
 
 -- src/lib.rt:172:27
 enum-known-a : tie.Need-enum-known-a

@@ -1,13 +1,9 @@
 use mathlib.Core.Path.{refl, ap}
 use Rattle.host_answers.specs.Told.{statusOf, wordsOf, told}
 use Rattle.registry_admit.specs.Answers.{admittedAnswer}
-use native.Mathlib.Omega.{arith}
 use borrow.Author.Needs.{needs}
 use Rattle.host_answers.proofs.admitted.Statement.{statement}
 use Rattle.host_answers.proofs.admitted.Tie as tie
-use Rattle.host_answers.proofs.admitted.Reads as reads
-use Rattle.host_answers.proofs.admitted.Lts as lts
-use Rattle.host_answers.proofs.five.Reads as five-reads
 
 -- src/lib.rt:218:33
 enum-known-a : tie.Need-enum-known-a

@@ -1,13 +1,9 @@
 use mathlib.Core.Path.{refl, ap}
 use Rattle.host_answers.specs.Told.{statusOf, wordsOf, told}
 use Rattle.registry_steps.specs.Lives.{begunAnswer}
-use native.Mathlib.Omega.{arith}
 use borrow.Author.Needs.{needs}
 use Rattle.host_answers.proofs.begun.Statement.{statement}
 use Rattle.host_answers.proofs.begun.Tie as tie
-use Rattle.host_answers.proofs.begun.Reads as reads
-use Rattle.host_answers.proofs.begun.Lts as lts
-use Rattle.host_answers.proofs.four.Reads as four-reads
 
 -- src/lib.rt:190:33
 enum-known-a : tie.Need-enum-known-a

@@ -1,13 +1,9 @@
 use mathlib.Core.Path.{refl, ap}
 use Rattle.host_answers.specs.Told.{statusOf, wordsOf, told}
 use Rattle.registry_admit.specs.Answers.{calledAnswer}
-use native.Mathlib.Omega.{arith}
 use borrow.Author.Needs.{needs}
 use Rattle.host_answers.proofs.called.Statement.{statement}
 use Rattle.host_answers.proofs.called.Tie as tie
-use Rattle.host_answers.proofs.called.Reads as reads
-use Rattle.host_answers.proofs.called.Lts as lts
-use Rattle.host_answers.proofs.six.Reads as six-reads
 
 -- src/lib.rt:234:36
 enum-known-a : tie.Need-enum-known-a

@@ -1,14 +1,9 @@
 use mathlib.Core.Path.{refl, ap}
 use Rattle.host_answers.specs.Told.{statusOf, wordsOf, told}
 use Rattle.registry_retire.specs.Answers.{childAnswer}
-use native.Mathlib.Omega.{arith}
 use borrow.Author.Needs.{needs}
 use Rattle.host_answers.proofs.child.Statement.{statement}
 use Rattle.host_answers.proofs.child.Tie as tie
-use Rattle.host_answers.proofs.child.Reads as reads
-use Rattle.host_answers.proofs.child.Lts as lts
-use Rattle.host_answers.proofs.none.Reads as none-reads
-use Rattle.host_answers.proofs.three.Reads as three-reads
 
 -- src/lib.rt:251:29
 enum-known-a : tie.Need-enum-known-a

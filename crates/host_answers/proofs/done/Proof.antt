@@ -1,10 +1,7 @@
 use Rattle.host_answers.specs.Told.{statusOf}
-use native.Mathlib.Omega.{arith}
 use borrow.Author.Needs.{needs}
 use Rattle.host_answers.proofs.done.Statement.{statement}
 use Rattle.host_answers.proofs.done.Tie as tie
-use Rattle.host_answers.proofs.done.Reads as reads
-use Rattle.host_answers.proofs.done.Lts as lts
 
 -- src/lib.rt:26:35
 enum-told : tie.Need-enum-told

@@ -1,14 +1,9 @@
 use mathlib.Core.Path.{sym, ap, _∙_}
 use Rattle.host_answers.specs.Told.{counted}
 use Rattle.rules.specs.Queries.{rootNumbers}
-use native.Mathlib.Omega.{arith}
 use borrow.Author.Needs.{needs}
 use Rattle.host_answers.proofs.issued.Statement.{statement}
 use Rattle.host_answers.proofs.issued.Tie as tie
-use Rattle.host_answers.proofs.issued.Reads as reads
-use Rattle.host_answers.proofs.issued.Lts as lts
-use Rattle.host_answers.proofs.one.Reads as one-reads
-use Rattle.host_answers.proofs.three.Reads as three-reads
 
 -- src/lib.rt:279:41
 enum-told : tie.Need-enum-told

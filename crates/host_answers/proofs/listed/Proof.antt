@@ -1,13 +1,9 @@
 use mathlib.Core.Path.{refl, ap}
 use Rattle.ports_listed.specs.Answers.{listedAnswer}
 use Rattle.host_answers.specs.Told.{statusOf, wordsOf, told}
-use native.Mathlib.Omega.{arith}
 use borrow.Author.Needs.{needs}
 use Rattle.host_answers.proofs.listed.Statement.{statement}
 use Rattle.host_answers.proofs.listed.Tie as tie
-use Rattle.host_answers.proofs.listed.Reads as reads
-use Rattle.host_answers.proofs.listed.Lts as lts
-use Rattle.host_answers.proofs.one.Reads as one-reads
 
 -- src/lib.rt:163:32
 enum-known-a : tie.Need-enum-known-a

@@ -1,13 +1,9 @@
 use mathlib.Core.Path.{refl, ap}
 use Rattle.registry_queries.specs.Answers.{numberAnswer}
 use Rattle.host_answers.specs.Told.{statusOf, wordsOf, told}
-use native.Mathlib.Omega.{arith}
 use borrow.Author.Needs.{needs}
 use Rattle.host_answers.proofs.number.Statement.{statement}
 use Rattle.host_answers.proofs.number.Tie as tie
-use Rattle.host_answers.proofs.number.Reads as reads
-use Rattle.host_answers.proofs.number.Lts as lts
-use Rattle.host_answers.proofs.one.Reads as one-reads
 
 -- src/lib.rt:116:28
 enum-known-a : tie.Need-enum-known-a

@@ -1,14 +1,9 @@
 use mathlib.Core.Path.{refl, ap}
 use Rattle.registry_queries.specs.Answers.{perhapsAnswer}
 use Rattle.host_answers.specs.Told.{statusOf, wordsOf, told}
-use native.Mathlib.Omega.{arith}
 use borrow.Author.Needs.{needs}
 use Rattle.host_answers.proofs.perhaps.Statement.{statement}
 use Rattle.host_answers.proofs.perhaps.Tie as tie
-use Rattle.host_answers.proofs.perhaps.Reads as reads
-use Rattle.host_answers.proofs.perhaps.Lts as lts
-use Rattle.host_answers.proofs.none.Reads as none-reads
-use Rattle.host_answers.proofs.one.Reads as one-reads
 
 -- src/lib.rt:125:29
 enum-known-a : tie.Need-enum-known-a

@@ -1,14 +1,9 @@
 use mathlib.Core.Path.{refl, ap}
 use Rattle.host_answers.specs.Told.{statusOf, wordsOf, told}
 use Rattle.registry_queries.specs.Answers.{portAnswer}
-use native.Mathlib.Omega.{arith}
 use borrow.Author.Needs.{needs}
 use Rattle.host_answers.proofs.port.Statement.{statement}
 use Rattle.host_answers.proofs.port.Tie as tie
-use Rattle.host_answers.proofs.port.Reads as reads
-use Rattle.host_answers.proofs.port.Lts as lts
-use Rattle.host_answers.proofs.none.Reads as none-reads
-use Rattle.host_answers.proofs.two.Reads as two-reads
 
 -- src/lib.rt:135:27
 enum-known-a : tie.Need-enum-known-a

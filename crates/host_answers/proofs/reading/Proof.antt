@@ -1,13 +1,9 @@
 use mathlib.Core.Path.{refl, ap}
 use Rattle.host_answers.specs.Told.{statusOf, wordsOf, told}
 use Rattle.registry_values.specs.Answers.{readingAnswer}
-use native.Mathlib.Omega.{arith}
 use borrow.Author.Needs.{needs}
 use Rattle.host_answers.proofs.reading.Statement.{statement}
 use Rattle.host_answers.proofs.reading.Tie as tie
-use Rattle.host_answers.proofs.reading.Reads as reads
-use Rattle.host_answers.proofs.reading.Lts as lts
-use Rattle.host_answers.proofs.two.Reads as two-reads
 
 -- src/lib.rt:261:31
 enum-known-a : tie.Need-enum-known-a

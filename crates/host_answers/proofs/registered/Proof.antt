@@ -1,13 +1,9 @@
 use mathlib.Core.Path.{refl, ap}
 use Rattle.registry_register.specs.Written.{registeredAnswer}
 use Rattle.host_answers.specs.Told.{statusOf, wordsOf, told}
-use native.Mathlib.Omega.{arith}
 use borrow.Author.Needs.{needs}
 use Rattle.host_answers.proofs.registered.Statement.{statement}
 use Rattle.host_answers.proofs.registered.Tie as tie
-use Rattle.host_answers.proofs.registered.Reads as reads
-use Rattle.host_answers.proofs.registered.Lts as lts
-use Rattle.host_answers.proofs.one.Reads as one-reads
 
 -- src/lib.rt:181:37
 enum-known-a : tie.Need-enum-known-a

@@ -1,13 +1,9 @@
 use mathlib.Core.Path.{refl, ap}
 use Rattle.host_answers.specs.Told.{statusOf, wordsOf, told}
 use Rattle.registry_replace.specs.Answers.{replacedAnswer}
-use native.Mathlib.Omega.{arith}
 use borrow.Author.Needs.{needs}
 use Rattle.host_answers.proofs.replaced.Statement.{statement}
 use Rattle.host_answers.proofs.replaced.Tie as tie
-use Rattle.host_answers.proofs.replaced.Reads as reads
-use Rattle.host_answers.proofs.replaced.Lts as lts
-use Rattle.host_answers.proofs.one.Reads as one-reads
 
 -- src/lib.rt:206:37
 enum-known-a : tie.Need-enum-known-a

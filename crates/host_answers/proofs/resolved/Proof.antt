@@ -1,13 +1,9 @@
 use mathlib.Core.Path.{refl, ap}
 use Rattle.host_answers.specs.Told.{statusOf, wordsOf, told}
 use Rattle.ports.specs.Answers.{resolvedAnswer}
-use native.Mathlib.Omega.{arith}
 use borrow.Author.Needs.{needs}
 use Rattle.host_answers.proofs.resolved.Statement.{statement}
 use Rattle.host_answers.proofs.resolved.Tie as tie
-use Rattle.host_answers.proofs.resolved.Reads as reads
-use Rattle.host_answers.proofs.resolved.Lts as lts
-use Rattle.host_answers.proofs.two.Reads as two-reads
 
 -- src/lib.rt:154:29
 enum-known-a : tie.Need-enum-known-a

@@ -1,13 +1,9 @@
 use mathlib.Core.Path.{refl, ap}
 use Rattle.host_answers.specs.Told.{statusOf, wordsOf, told}
 use Rattle.registry_queries.specs.Answers.{rootAnswer}
-use native.Mathlib.Omega.{arith}
 use borrow.Author.Needs.{needs}
 use Rattle.host_answers.proofs.root.Statement.{statement}
 use Rattle.host_answers.proofs.root.Tie as tie
-use Rattle.host_answers.proofs.root.Reads as reads
-use Rattle.host_answers.proofs.root.Lts as lts
-use Rattle.host_answers.proofs.issued.Reads as issued-reads
 
 -- src/lib.rt:145:27
 enum-known-a : tie.Need-enum-known-a

@@ -1,14 +1,9 @@
-use mathlib.Core.Path.{refl, ap}
+use mathlib.Core.Path.{ap}
 use Rattle.host_answers.specs.Told.{statusOf, wordsOf, told}
 use Rattle.registry_values.specs.Answers.{valueAnswer}
-use native.Mathlib.Omega.{arith}
 use borrow.Author.Needs.{needs}
 use Rattle.host_answers.proofs.value.Statement.{statement}
 use Rattle.host_answers.proofs.value.Tie as tie
-use Rattle.host_answers.proofs.value.Reads as reads
-use Rattle.host_answers.proofs.value.Lts as lts
-use Rattle.host_answers.proofs.none.Reads as none-reads
-use Rattle.host_answers.proofs.one.Reads as one-reads
 
 -- src/lib.rt:270:28
 enum-known-a : tie.Need-enum-known-a

@@ -1,13 +1,9 @@
 use mathlib.Core.Path.{refl, ap}
 use Rattle.memory_life.specs.Told.{whetherAnswer}
 use Rattle.host_answers.specs.Told.{statusOf, wordsOf, told}
-use native.Mathlib.Omega.{arith}
 use borrow.Author.Needs.{needs}
 use Rattle.host_answers.proofs.whether.Statement.{statement}
 use Rattle.host_answers.proofs.whether.Tie as tie
-use Rattle.host_answers.proofs.whether.Reads as reads
-use Rattle.host_answers.proofs.whether.Lts as lts
-use Rattle.host_answers.proofs.one.Reads as one-reads
 
 -- src/lib.rt:106:40
 enum-told : tie.Need-enum-told

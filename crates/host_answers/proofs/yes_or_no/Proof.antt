@@ -1,13 +1,9 @@
 use mathlib.Core.Path.{ap}
 use Rattle.host_answers.specs.Told.{statusOf, wordsOf, told}
 use Rattle.registry_admit.specs.Answers.{admitsAnswer}
-use native.Mathlib.Omega.{arith}
 use borrow.Author.Needs.{needs}
 use Rattle.host_answers.proofs.yes_or_no.Statement.{statement}
 use Rattle.host_answers.proofs.yes_or_no.Tie as tie
-use Rattle.host_answers.proofs.yes_or_no.Reads as reads
-use Rattle.host_answers.proofs.yes_or_no.Lts as lts
-use Rattle.host_answers.proofs.one.Reads as one-reads
 
 -- src/lib.rt:288:12
 one-requires : tie.Need-one-requires

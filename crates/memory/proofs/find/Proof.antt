@@ -6,9 +6,6 @@ use native.Mathlib.Omega.{arith}
 use borrow.Author.Needs.{needs}
 use Rattle.memory.proofs.find.Statement.{statement}
 use Rattle.memory.proofs.find.Tie as tie
-use Rattle.memory.proofs.find.Reads as reads
-use Rattle.memory.proofs.find.Lts as lts
-use Rattle.memory.proofs.names.Reads as names-reads
 
 abbrev Inv-loop : tie.InvT-loop
 Inv-loop m id i₀ i = (i ≤ 32) × (findAt m id ≡ findFrom (32 - i) m id i)

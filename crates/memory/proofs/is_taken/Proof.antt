@@ -1,12 +1,8 @@
 use borrow.Author.Tests.{lt-ltb, le-ltb}
 use Rattle.memory.specs.Layout.{taken}
-use native.Mathlib.Omega.{arith}
 use borrow.Author.Needs.{needs}
 use Rattle.memory.proofs.is_taken.Statement.{statement}
 use Rattle.memory.proofs.is_taken.Tie as tie
-use Rattle.memory.proofs.is_taken.Reads as reads
-use Rattle.memory.proofs.is_taken.Lts as lts
-use Rattle.memory.proofs.occupied.Reads as occupied-reads
 
 -- src/lib.rt:58:10
 occupied-requires : tie.Need-occupied-requires

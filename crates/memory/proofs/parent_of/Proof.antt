@@ -1,10 +1,7 @@
 use Rattle.memory.proofs.Codes.{parent-rest}
-use native.Mathlib.Omega.{arith}
 use borrow.Author.Needs.{needs}
 use Rattle.memory.proofs.parent_of.Statement.{statement}
 use Rattle.memory.proofs.parent_of.Tie as tie
-use Rattle.memory.proofs.parent_of.Reads as reads
-use Rattle.memory.proofs.parent_of.Lts as lts
 
 -- src/lib.rt:109:13
 mul-b : tie.Need-mul-b

@@ -1,14 +1,8 @@
 use Prim.Native.Nat.{_%_}
 use Rattle.memory_entry.proofs.Laws.{fill-steps, fill-not, fill-long}
-use native.Mathlib.Omega.{arith}
 use borrow.Author.Needs.{needs}
 use Rattle.memory_entry.proofs.fill_place.Statement.{statement}
 use Rattle.memory_entry.proofs.fill_place.Tie as tie
-use Rattle.memory_entry.proofs.fill_place.Reads as reads
-use Rattle.memory_entry.proofs.fill_place.Lts as lts
-use Rattle.memory_entry.proofs.put_words.Reads as put-words-reads
-use Rattle.memory_entry.proofs.store_entry.Reads as store-entry-reads
-use Rattle.memory_places.proofs.occupy.Reads as occupy-reads
 
 -- src/lib.rt:142:9
 returns : tie.Need-returns

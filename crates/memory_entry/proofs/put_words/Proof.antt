@@ -7,9 +7,6 @@ use native.Mathlib.Omega.{arith}
 use borrow.Author.Needs.{needs}
 use Rattle.memory_entry.proofs.put_words.Statement.{statement}
 use Rattle.memory_entry.proofs.put_words.Tie as tie
-use Rattle.memory_entry.proofs.put_words.Reads as reads
-use Rattle.memory_entry.proofs.put_words.Lts as lts
-use Rattle.memory_entry.proofs.known.Reads as known-reads
 
 abbrev Inv-loop : tie.InvT-loop
 Inv-loop m₀ from words k₀ m k = (length m ≡ 4488) × (puts m₀ from 0 words ≡ puts m from k (drop k words))

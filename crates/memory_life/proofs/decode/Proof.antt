@@ -1,12 +1,7 @@
 use Rattle.memory.specs.View.{decoded}
-use native.Mathlib.Omega.{arith}
 use borrow.Author.Needs.{needs}
 use Rattle.memory_life.proofs.decode.Statement.{statement}
 use Rattle.memory_life.proofs.decode.Tie as tie
-use Rattle.memory_life.proofs.decode.Reads as reads
-use Rattle.memory_life.proofs.decode.Lts as lts
-use Rattle.memory_life.proofs.phase_of.Reads as phase-of-reads
-use Rattle.memory_life.proofs.root_of.Reads as root-of-reads
 
 -- src/lib.rt:183:9
 phase-of-requires : tie.Need-phase-of-requires

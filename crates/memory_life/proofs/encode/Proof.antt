@@ -1,14 +1,7 @@
 use Rattle.memory.specs.Writes.{encoded}
-use native.Mathlib.Omega.{arith}
 use borrow.Author.Needs.{needs}
 use Rattle.memory_life.proofs.encode.Statement.{statement}
 use Rattle.memory_life.proofs.encode.Tie as tie
-use Rattle.memory_life.proofs.encode.Reads as reads
-use Rattle.memory_life.proofs.encode.Lts as lts
-use Rattle.memory_life.proofs.phase_word.Reads as phase-word-reads
-use Rattle.memory_life.proofs.root_argument.Reads as root-argument-reads
-use Rattle.memory_life.proofs.root_revision.Reads as root-revision-reads
-use Rattle.memory_life.proofs.root_tag.Reads as root-tag-reads
 
 -- src/lib.rt:203:16
 phase-word-requires : tie.Need-phase-word-requires

@@ -1,13 +1,8 @@
 use mathlib.Core.Path.{_∙_, ap}
 use Rattle.memory.specs.View.{decoded, lifeAt}
-use native.Mathlib.Omega.{arith}
 use borrow.Author.Needs.{needs}
 use Rattle.memory_life.proofs.load.Statement.{statement}
 use Rattle.memory_life.proofs.load.Tie as tie
-use Rattle.memory_life.proofs.load.Reads as reads
-use Rattle.memory_life.proofs.load.Lts as lts
-use Rattle.memory_life.proofs.decode.Reads as decode-reads
-use Rattle.memory_life.proofs.load_words.Reads as load-words-reads
 
 -- src/lib.rt:215:12
 load-words-requires : tie.Need-load-words-requires

@@ -1,10 +1,7 @@
 use Rattle.memory_life.proofs.Codes.{phase-rest}
-use native.Mathlib.Omega.{arith}
 use borrow.Author.Needs.{needs}
 use Rattle.memory_life.proofs.phase_of.Statement.{statement}
 use Rattle.memory_life.proofs.phase_of.Tie as tie
-use Rattle.memory_life.proofs.phase_of.Reads as reads
-use Rattle.memory_life.proofs.phase_of.Lts as lts
 
 -- src/lib.rt:74:1
 returns : tie.Need-returns

@@ -1,10 +1,7 @@
 use Rattle.memory_life.proofs.Codes.{root-rest}
-use native.Mathlib.Omega.{arith}
 use borrow.Author.Needs.{needs}
 use Rattle.memory_life.proofs.root_of.Statement.{statement}
 use Rattle.memory_life.proofs.root_of.Tie as tie
-use Rattle.memory_life.proofs.root_of.Reads as reads
-use Rattle.memory_life.proofs.root_of.Lts as lts
 
 -- src/lib.rt:96:1
 returns : tie.Need-returns

@@ -1,12 +1,7 @@
 use Rattle.memory.specs.Writes.{putLife}
-use native.Mathlib.Omega.{arith}
 use borrow.Author.Needs.{needs}
 use Rattle.memory_life.proofs.store.Statement.{statement}
 use Rattle.memory_life.proofs.store.Tie as tie
-use Rattle.memory_life.proofs.store.Reads as reads
-use Rattle.memory_life.proofs.store.Lts as lts
-use Rattle.memory_life.proofs.encode.Reads as encode-reads
-use Rattle.memory_life.proofs.store_words.Reads as store-words-reads
 
 -- src/lib.rt:221:32
 encode-requires : tie.Need-encode-requires

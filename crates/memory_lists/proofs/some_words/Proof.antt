@@ -1,10 +1,7 @@
 use Rattle.memory_lists.proofs.Parts.{part-past, part-rest, part-whole}
-use native.Mathlib.Omega.{arith}
 use borrow.Author.Needs.{needs}
 use Rattle.memory_lists.proofs.some_words.Statement.{statement}
 use Rattle.memory_lists.proofs.some_words.Tie as tie
-use Rattle.memory_lists.proofs.some_words.Reads as reads
-use Rattle.memory_lists.proofs.some_words.Lts as lts
 
 -- src/lib.rt:111:16
 mul-result : tie.Need-mul-result

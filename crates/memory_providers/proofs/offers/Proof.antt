@@ -4,10 +4,6 @@ use native.Mathlib.Omega.{arith}
 use borrow.Author.Needs.{needs}
 use Rattle.memory_providers.proofs.offers.Statement.{statement}
 use Rattle.memory_providers.proofs.offers.Tie as tie
-use Rattle.memory_providers.proofs.offers.Reads as reads
-use Rattle.memory_providers.proofs.offers.Lts as lts
-use Rattle.memory.proofs.is_taken.Reads as is-taken-reads
-use Rattle.memory_providers.proofs.provides.Reads as provides-reads
 
 -- src/lib.rt:38:8
 is-taken-requires : tie.Need-is-taken-requires

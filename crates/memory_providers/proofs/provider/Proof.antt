@@ -8,9 +8,6 @@ use native.Mathlib.Omega.{arith}
 use borrow.Author.Needs.{needs}
 use Rattle.memory_providers.proofs.provider.Statement.{statement}
 use Rattle.memory_providers.proofs.provider.Tie as tie
-use Rattle.memory_providers.proofs.provider.Reads as reads
-use Rattle.memory_providers.proofs.provider.Lts as lts
-use Rattle.memory_providers.proofs.offers.Reads as offers-reads
 
 abbrev Inv-loop : tie.InvT-loop
 Inv-loop m key realm i₀ i =

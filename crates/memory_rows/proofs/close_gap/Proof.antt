@@ -6,8 +6,6 @@ use native.Mathlib.Omega.{arith}
 use borrow.Author.Needs.{needs}
 use Rattle.memory_rows.proofs.close_gap.Statement.{statement}
 use Rattle.memory_rows.proofs.close_gap.Tie as tie
-use Rattle.memory_rows.proofs.close_gap.Reads as reads
-use Rattle.memory_rows.proofs.close_gap.Lts as lts
 
 abbrev Inv-loop : tie.InvT-loop
 Inv-loop m₀ start count end k stop j₀ m j =

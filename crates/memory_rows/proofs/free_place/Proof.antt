@@ -5,17 +5,6 @@ use native.Mathlib.Omega.{arith}
 use borrow.Author.Needs.{needs}
 use Rattle.memory_rows.proofs.free_place.Statement.{statement}
 use Rattle.memory_rows.proofs.free_place.Tie as tie
-use Rattle.memory_rows.proofs.free_place.Reads as reads
-use Rattle.memory_rows.proofs.free_place.Lts as lts
-use Rattle.memory_rows.proofs.at_most.Reads as at-most-reads
-use Rattle.memory_rows.proofs.close_gap.Reads as close-gap-reads
-use Rattle.memory_rows.proofs.lower_starts.Reads as lower-starts-reads
-use Rattle.memory_lists.proofs.dependencies.Reads as dependencies-reads
-use Rattle.memory.proofs.is_taken.Reads as is-taken-reads
-use Rattle.memory_lists.proofs.provisions.Reads as provisions-reads
-use Rattle.memory_lists.proofs.start.Reads as start-reads
-use Rattle.memory_places.proofs.rows_in_use.Reads as rows-in-use-reads
-use Rattle.memory_places.proofs.vacate.Reads as vacate-reads
 
 -- src/lib.rt:120:8
 is-taken-requires : tie.Need-is-taken-requires

@@ -1,5 +1,5 @@
 -- No port before place i - 1 is provided.
-use Prim.Native.Nat.{_+_, _-_, _≤_, _%_}
+use Prim.Native.Nat.{_-_, _≤_, _%_}
 use native.Mathlib.Omega.{arith}
 use mathlib.Core.Path.{_≡_, sym, ap, _∙_}
 use mathlib.Core.Bool.{Bool}
