@@ -18,9 +18,6 @@ rules-Port-new κs a r s ms ns p q = by-equation p q
 pub rules-Port-in-default-realm : One rules.Port.«in_default_realm».ended rules.Port.«in_default_realm».Reads.Learnt
 rules-Port-in-default-realm κs a r s ms ns p q = by-equation p q
 
-pub rules-Generation-never-begun : One rules.Generation.«never_begun».ended rules.Generation.«never_begun».Reads.Learnt
-rules-Generation-never-begun κs a r s ms ns p q = by-equation p q
-
 pub rules-Generation-of : One rules.Generation.of.ended rules.Generation.of.Reads.Learnt
 rules-Generation-of κs a r s ms ns p q = by-equation p q
 

@@ -1,6 +1,6 @@
 // The types of document 01 that the rules and the code share.
 ghost use mathlib.Core.Path.{_≡_};
-ghost use Rattle.rules.specs.Holds.{port, defaultRealm, neverBegun};
+ghost use Rattle.rules.specs.Holds.{port, defaultRealm};
 ghost use Rattle.rules.specs.Generations.{generationOf, nextGeneration};
 
 pub mod refusal;
@@ -35,12 +35,6 @@ impl Generation {
     pub const NEVER_BEGUN: Generation = Generation(0);
 
     pub const LAST: Generation = Generation(18446744073709551615);
-
-    pub fn never_begun() -> Generation
-        ensures { λ r. ⌜ r ≡ generationOf neverBegun ⌝ }
-    {
-        Generation::NEVER_BEGUN
-    }
 
     pub fn of(number: u64) -> Generation
         ensures { λ r. ⌜ r ≡ generationOf number ⌝ }
