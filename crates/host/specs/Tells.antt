@@ -1,14 +1,33 @@
--- What the engine answers to an operation on a memory's words.
+-- What the engine answers to an operation on a memory's words, and what it leaves.
 use Prim.Native.Nat.{ℕ}
 use mathlib.Core.Path.{_≡_, sym, ap, _∙_}
 use mathlib.Core.List.{List}
 use Rattle.rules.specs.Outcomes.{Answer}
-use Rattle.rules.specs.Steps.{Op, answerTo}
+use Rattle.rules.specs.Slot as rules
+use Rattle.rules.specs.Steps.{Op, answerTo, lentAfterStep}
 use Rattle.memory.specs.View.{view}
+use Rattle.slot_words.specs.Words.{slotAfter}
+use Rattle.demands.specs.Leaves.{leaves}
 use Rattle.host_answers.specs.Told.{statusOf, Tells, told}
 
 abbrev pub answer : List ℕ → Op → Answer
 answer m o = answerTo (view m) o
+
+-- what a function for an operation does: it states the answer, and leaves the memory so
+abbrev pub Does : List ℕ → Op → ℕ → List ℕ → Type 0
+Does m o status m′ = (status ≡ statusOf (answer m o)) × (m′ ≡ leaves m o)
+
+-- the same where the answer's numbers are told too
+abbrev pub DoesAndTells : List ℕ → Op → List ℕ → ℕ → List ℕ → List ℕ → Type 0
+DoesAndTells m o out status out′ m′ = Tells (answer m o) out status out′ × (m′ ≡ leaves m o)
+
+-- a listing changes the lent buffer, and not the memory
+abbrev pub ListsAndTells : List ℕ → Op → List ℕ → ℕ → List ℕ → List ℕ → Type 0
+ListsAndTells m o out status out′ buffer′ = Tells (answer m o) out status out′ × (buffer′ ≡ lentAfterStep (view m) o)
+
+-- a decision on a child slot in the host's words
+abbrev pub Decides : rules.Decided → List ℕ → ℕ → List ℕ → Type 0
+Decides d slot status slot′ = (status ≡ statusOf (d .answer)) × (slot′ ≡ slotAfter slot d)
 
 -- what is told of a function's answer is told of the answer that it promises
 pub heard : (x y : Answer) (out : List ℕ) (r : ℕ) (out′ : List ℕ) → x ≡ y → Tells x out r out′ → Tells y out r out′

@@ -1,9 +1,8 @@
 // Admission and call.
-ghost use mathlib.Core.Path.{_≡_};
 ghost use Rattle.rules.specs.Steps.{Admit, Admits, Call};
+ghost use Rattle.registry_admit.specs.Answers.{ticket, invocation};
 ghost use Rattle.host_answers.specs.Told.{Tells};
-ghost use Rattle.demands.specs.Leaves.{leaves};
-ghost use Rattle.host.specs.Tells.{answer};
+ghost use Rattle.host.specs.Tells.{answer, DoesAndTells};
 use host_answers::ANSWER;
 use memory::WORDS;
 
@@ -18,7 +17,8 @@ pub extern "C" fn vaskelbi_admit(
     argument: u64,
     out: &mut [u64; ANSWER],
 ) -> u64
-    ensures { λ r. ⌜ Tells (answer (now (m .entry)) (Admit (record { domain = domain; id = id; generation = generation; kind = kind }) argument)) (now (out .entry)) r (now (out .exit)) ⌝ ∗ ⌜ now (m .exit) ≡ leaves (now (m .entry)) (Admit (record { domain = domain; id = id; generation = generation; kind = kind }) argument) ⌝ }
+    ensures { λ r. ⌜ DoesAndTells (now (m .entry)) (Admit (ticket domain id generation kind) argument)
+        (now (out .entry)) r (now (out .exit)) (now (m .exit)) ⌝ }
 {
     host_answers::admitted(
         registry_admit::admit(m, domain, id, generation, kind, argument),
@@ -36,7 +36,7 @@ pub extern "C" fn vaskelbi_admits(
     kind: u64,
     out: &mut [u64; ANSWER],
 ) -> u64
-    ensures { λ r. ⌜ Tells (answer (now (m .entry)) (Admits (record { domain = domain; id = id; generation = generation; kind = kind }))) (now (out .entry)) r (now (out .exit)) ⌝ }
+    ensures { λ r. ⌜ Tells (answer (now (m .entry)) (Admits (ticket domain id generation kind))) (now (out .entry)) r (now (out .exit)) ⌝ }
 {
     host_answers::yes_or_no(registry_admit::admits(m, domain, id, generation, kind), out)
 }
@@ -52,7 +52,8 @@ pub extern "C" fn vaskelbi_call(
     argument: u64,
     out: &mut [u64; ANSWER],
 ) -> u64
-    ensures { λ r. ⌜ Tells (answer (now (m .entry)) (Call (record { domain = domain; id = id; generation = generation; revision = revision; argument = argument }))) (now (out .entry)) r (now (out .exit)) ⌝ ∗ ⌜ now (m .exit) ≡ leaves (now (m .entry)) (Call (record { domain = domain; id = id; generation = generation; revision = revision; argument = argument })) ⌝ }
+    ensures { λ r. ⌜ DoesAndTells (now (m .entry)) (Call (invocation domain id generation revision argument))
+        (now (out .entry)) r (now (out .exit)) (now (m .exit)) ⌝ }
 {
     host_answers::called(
         registry_admit::call(m, domain, id, generation, revision, argument),

@@ -2,8 +2,9 @@
 ghost use mathlib.Core.Path.{_≡_};
 ghost use Rattle.rules.specs.Slot as rules;
 ghost use Rattle.slot.specs.Slots.{slotOf};
-ghost use Rattle.slot_words.specs.Words.{slotAt, putSlot, slotAfter};
-ghost use Rattle.host_answers.specs.Told.{statusOf};
+ghost use Rattle.slot_words.specs.Words.{slotAt, putSlot};
+ghost use Rattle.registry_retire.specs.Answers.{identified};
+ghost use Rattle.host.specs.Tells.{Decides};
 use slot::Identity;
 use slot::Slot;
 use slot_words::SLOT;
@@ -25,7 +26,7 @@ pub extern "C" fn vaskelbi_slot_pending(
 // A slot made Assigned has no generation.
 #[no_mangle]
 pub extern "C" fn vaskelbi_slot_assigned(slot: &mut [u64; SLOT], domain: u64, parent: u64, id: u64)
-    ensures { λ _. ⌜ now (slot .exit) ≡ putSlot (now (slot .entry)) (rules.assigned (record { domain = domain; parent = parent; id = id })) ⌝ }
+    ensures { λ _. ⌜ now (slot .exit) ≡ putSlot (now (slot .entry)) (rules.assigned (identified domain parent id)) ⌝ }
 {
     slot_words::store(
         slot,
@@ -44,7 +45,8 @@ pub extern "C" fn vaskelbi_slot_assign(
     parent: u64,
     id: u64,
 ) -> u64
-    ensures { λ r. ⌜ r ≡ statusOf (rules.assign (slotOf (slotAt (now (slot .entry)))) (record { domain = domain; parent = parent; id = id }) .answer) ⌝ ∗ ⌜ now (slot .exit) ≡ slotAfter (now (slot .entry)) (rules.assign (slotOf (slotAt (now (slot .entry)))) (record { domain = domain; parent = parent; id = id })) ⌝ }
+    ensures { λ r. ⌜ Decides (rules.assign (slotOf (slotAt (now (slot .entry)))) (identified domain parent id))
+        (now (slot .entry)) r (now (slot .exit)) ⌝ }
 {
     host_answers::verdict(slot_words::assign(
         slot,
@@ -58,14 +60,14 @@ pub extern "C" fn vaskelbi_slot_assign(
 
 #[no_mangle]
 pub extern "C" fn vaskelbi_slot_reject(slot: &mut [u64; SLOT]) -> u64
-    ensures { λ r. ⌜ r ≡ statusOf (rules.reject (slotOf (slotAt (now (slot .entry)))) .answer) ⌝ ∗ ⌜ now (slot .exit) ≡ slotAfter (now (slot .entry)) (rules.reject (slotOf (slotAt (now (slot .entry))))) ⌝ }
+    ensures { λ r. ⌜ Decides (rules.reject (slotOf (slotAt (now (slot .entry))))) (now (slot .entry)) r (now (slot .exit)) ⌝ }
 {
     host_answers::verdict(slot_words::reject(slot))
 }
 
 #[no_mangle]
 pub extern "C" fn vaskelbi_slot_cancel(slot: &mut [u64; SLOT]) -> u64
-    ensures { λ r. ⌜ r ≡ statusOf (rules.cancel (slotOf (slotAt (now (slot .entry)))) .answer) ⌝ ∗ ⌜ now (slot .exit) ≡ slotAfter (now (slot .entry)) (rules.cancel (slotOf (slotAt (now (slot .entry))))) ⌝ }
+    ensures { λ r. ⌜ Decides (rules.cancel (slotOf (slotAt (now (slot .entry))))) (now (slot .entry)) r (now (slot .exit)) ⌝ }
 {
     host_answers::verdict(slot_words::cancel(slot))
 }

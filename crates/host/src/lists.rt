@@ -1,10 +1,7 @@
 // Lists: a plugin's ports and realm rows into the host's buffer.
-ghost use mathlib.Core.Path.{_≡_};
 ghost use Rattle.rules.specs.Lists.{Dependencies, Provisions, RealmRows};
-ghost use Rattle.rules.specs.Steps.{lentAfterStep, Listed};
-ghost use Rattle.memory.specs.View.{view};
-ghost use Rattle.host_answers.specs.Told.{Tells};
-ghost use Rattle.host.specs.Tells.{answer};
+ghost use Rattle.rules.specs.Steps.{Listed};
+ghost use Rattle.host.specs.Tells.{ListsAndTells};
 use host_answers::ANSWER;
 use memory::WORDS;
 
@@ -17,7 +14,8 @@ pub extern "C" fn vaskelbi_list_dependencies(
     buffer: &mut [u64],
     out: &mut [u64; ANSWER],
 ) -> u64
-    ensures { λ r. ⌜ Tells (answer (now (m .entry)) (Listed Dependencies id place (now (buffer .entry)))) (now (out .entry)) r (now (out .exit)) ⌝ ∗ ⌜ now (buffer .exit) ≡ lentAfterStep (view (now (m .entry))) (Listed Dependencies id place (now (buffer .entry))) ⌝ }
+    ensures { λ r. ⌜ ListsAndTells (now (m .entry)) (Listed Dependencies id place (now (buffer .entry)))
+        (now (out .entry)) r (now (out .exit)) (now (buffer .exit)) ⌝ }
 {
     host_answers::listed(
         registry_queries::list_dependencies(m, id, place, buffer),
@@ -33,7 +31,8 @@ pub extern "C" fn vaskelbi_list_provisions(
     buffer: &mut [u64],
     out: &mut [u64; ANSWER],
 ) -> u64
-    ensures { λ r. ⌜ Tells (answer (now (m .entry)) (Listed Provisions id place (now (buffer .entry)))) (now (out .entry)) r (now (out .exit)) ⌝ ∗ ⌜ now (buffer .exit) ≡ lentAfterStep (view (now (m .entry))) (Listed Provisions id place (now (buffer .entry))) ⌝ }
+    ensures { λ r. ⌜ ListsAndTells (now (m .entry)) (Listed Provisions id place (now (buffer .entry)))
+        (now (out .entry)) r (now (out .exit)) (now (buffer .exit)) ⌝ }
 {
     host_answers::listed(registry_queries::list_provisions(m, id, place, buffer), out)
 }
@@ -46,7 +45,8 @@ pub extern "C" fn vaskelbi_list_realms(
     buffer: &mut [u64],
     out: &mut [u64; ANSWER],
 ) -> u64
-    ensures { λ r. ⌜ Tells (answer (now (m .entry)) (Listed RealmRows id place (now (buffer .entry)))) (now (out .entry)) r (now (out .exit)) ⌝ ∗ ⌜ now (buffer .exit) ≡ lentAfterStep (view (now (m .entry))) (Listed RealmRows id place (now (buffer .entry))) ⌝ }
+    ensures { λ r. ⌜ ListsAndTells (now (m .entry)) (Listed RealmRows id place (now (buffer .entry)))
+        (now (out .entry)) r (now (out .exit)) (now (buffer .exit)) ⌝ }
 {
     host_answers::listed(registry_queries::list_realms(m, id, place, buffer), out)
 }

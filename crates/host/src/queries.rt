@@ -2,7 +2,8 @@
 ghost use mathlib.Core.Path.{_≡_};
 ghost use mathlib.Core.List.{[], _∷_};
 ghost use Rattle.rules.specs.Outcomes.{Accepted};
-ghost use Rattle.rules.specs.Queries.{Parent, Anchor, PhaseOf, RetiredMark, Generation, Revision, Payload, RootOf, Domain, FirstId, NextId, Registered, RowsInUse};
+ghost use Rattle.rules.specs.Queries.{Parent, Anchor, PhaseOf, RetiredMark, Generation, Revision, Payload, RootOf};
+ghost use Rattle.rules.specs.Queries.{Domain, FirstId, NextId, Registered, RowsInUse};
 ghost use Rattle.rules.specs.Steps.{AskPlugin, AskRegistry, IdFrom};
 ghost use Rattle.host_answers.specs.Told.{Tells};
 ghost use Rattle.host.specs.Tells.{answer};

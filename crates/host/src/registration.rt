@@ -1,12 +1,9 @@
 // Registration, without a parent and under one.
-ghost use mathlib.Core.Path.{_≡_};
 ghost use Rattle.rules.specs.Holds.{port};
 ghost use Rattle.rules.specs.Steps.{Register};
 ghost use Rattle.memory.specs.declared.Parent.the-variants.{Of, Nobody};
 ghost use Rattle.registry_register.specs.Written.{definition};
-ghost use Rattle.host_answers.specs.Told.{Tells};
-ghost use Rattle.demands.specs.Leaves.{leaves};
-ghost use Rattle.host.specs.Tells.{answer};
+ghost use Rattle.host.specs.Tells.{DoesAndTells};
 use host_answers::ANSWER;
 use memory::WORDS;
 use rules::Port;
@@ -23,7 +20,9 @@ pub extern "C" fn vaskelbi_register(
     provisions: &[u64],
     out: &mut [u64; ANSWER],
 ) -> u64
-    ensures { λ r. ⌜ Tells (answer (now (m .entry)) (Register (definition Nobody (port key realm) (now (realms .entry)) (now (dependencies .entry)) (now (provisions .entry)) payload))) (now (out .entry)) r (now (out .exit)) ⌝ ∗ ⌜ now (m .exit) ≡ leaves (now (m .entry)) (Register (definition Nobody (port key realm) (now (realms .entry)) (now (dependencies .entry)) (now (provisions .entry)) payload)) ⌝ }
+    ensures { λ r. ⌜ DoesAndTells (now (m .entry)) (Register
+        (definition Nobody (port key realm) (now (realms .entry)) (now (dependencies .entry)) (now (provisions .entry)) payload))
+        (now (out .entry)) r (now (out .exit)) (now (m .exit)) ⌝ }
 {
     host_answers::registered(
         registry_register::register(
@@ -55,7 +54,9 @@ pub extern "C" fn vaskelbi_register_child(
     provisions: &[u64],
     out: &mut [u64; ANSWER],
 ) -> u64
-    ensures { λ r. ⌜ Tells (answer (now (m .entry)) (Register (definition (Of parent) (port key realm) (now (realms .entry)) (now (dependencies .entry)) (now (provisions .entry)) payload))) (now (out .entry)) r (now (out .exit)) ⌝ ∗ ⌜ now (m .exit) ≡ leaves (now (m .entry)) (Register (definition (Of parent) (port key realm) (now (realms .entry)) (now (dependencies .entry)) (now (provisions .entry)) payload)) ⌝ }
+    ensures { λ r. ⌜ DoesAndTells (now (m .entry)) (Register
+        (definition (Of parent) (port key realm) (now (realms .entry)) (now (dependencies .entry)) (now (provisions .entry)) payload))
+        (now (out .entry)) r (now (out .exit)) (now (m .exit)) ⌝ }
 {
     host_answers::registered(
         registry_register::register(

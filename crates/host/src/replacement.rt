@@ -1,9 +1,7 @@
 // Replacement of a payload, and whether a count of replacements fits.
-ghost use mathlib.Core.Path.{_≡_};
 ghost use Rattle.rules.specs.Steps.{Replace, Fits};
 ghost use Rattle.host_answers.specs.Told.{Tells};
-ghost use Rattle.demands.specs.Leaves.{leaves};
-ghost use Rattle.host.specs.Tells.{answer};
+ghost use Rattle.host.specs.Tells.{answer, DoesAndTells};
 use host_answers::ANSWER;
 use memory::WORDS;
 
@@ -15,7 +13,7 @@ pub extern "C" fn vaskelbi_replace(
     payload: u64,
     out: &mut [u64; ANSWER],
 ) -> u64
-    ensures { λ r. ⌜ Tells (answer (now (m .entry)) (Replace id payload)) (now (out .entry)) r (now (out .exit)) ⌝ ∗ ⌜ now (m .exit) ≡ leaves (now (m .entry)) (Replace id payload) ⌝ }
+    ensures { λ r. ⌜ DoesAndTells (now (m .entry)) (Replace id payload) (now (out .entry)) r (now (out .exit)) (now (m .exit)) ⌝ }
 {
     host_answers::replaced(registry_replace::replace(m, id, payload), out)
 }

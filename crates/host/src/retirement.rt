@@ -1,15 +1,14 @@
 // Retirement by id and by child identity, a plugin's child identity, and removal.
-ghost use mathlib.Core.Path.{_≡_};
 ghost use Rattle.rules.specs.Steps.{Retire, RetireChild, ChildIdentity, Remove};
-ghost use Rattle.host_answers.specs.Told.{statusOf, Tells};
-ghost use Rattle.demands.specs.Leaves.{leaves};
-ghost use Rattle.host.specs.Tells.{answer};
+ghost use Rattle.registry_retire.specs.Answers.{identified};
+ghost use Rattle.host_answers.specs.Told.{Tells};
+ghost use Rattle.host.specs.Tells.{answer, Does};
 use host_answers::ANSWER;
 use memory::WORDS;
 
 #[no_mangle]
 pub extern "C" fn vaskelbi_retire(m: &mut [u64; WORDS], id: u64) -> u64
-    ensures { λ r. ⌜ r ≡ statusOf (answer (now (m .entry)) (Retire id)) ⌝ ∗ ⌜ now (m .exit) ≡ leaves (now (m .entry)) (Retire id) ⌝ }
+    ensures { λ r. ⌜ Does (now (m .entry)) (Retire id) r (now (m .exit)) ⌝ }
 {
     host_answers::done(registry_retire::retire(m, id))
 }
@@ -21,7 +20,7 @@ pub extern "C" fn vaskelbi_retire_child(
     parent: u64,
     id: u64,
 ) -> u64
-    ensures { λ r. ⌜ r ≡ statusOf (answer (now (m .entry)) (RetireChild (record { domain = domain; parent = parent; id = id }))) ⌝ ∗ ⌜ now (m .exit) ≡ leaves (now (m .entry)) (RetireChild (record { domain = domain; parent = parent; id = id })) ⌝ }
+    ensures { λ r. ⌜ Does (now (m .entry)) (RetireChild (identified domain parent id)) r (now (m .exit)) ⌝ }
 {
     host_answers::done(registry_retire::retire_child(m, domain, parent, id))
 }
@@ -36,7 +35,7 @@ pub extern "C" fn vaskelbi_child(m: &[u64; WORDS], id: u64, out: &mut [u64; ANSW
 
 #[no_mangle]
 pub extern "C" fn vaskelbi_remove(m: &mut [u64; WORDS], id: u64) -> u64
-    ensures { λ r. ⌜ r ≡ statusOf (answer (now (m .entry)) (Remove id)) ⌝ ∗ ⌜ now (m .exit) ≡ leaves (now (m .entry)) (Remove id) ⌝ }
+    ensures { λ r. ⌜ Does (now (m .entry)) (Remove id) r (now (m .exit)) ⌝ }
 {
     host_answers::done(registry_remove::remove(m, id))
 }

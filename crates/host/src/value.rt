@@ -1,10 +1,8 @@
 // Values: they are offered and read, and what a plugin declares or still lacks is asked.
-ghost use mathlib.Core.Path.{_≡_};
 ghost use Rattle.rules.specs.Holds.{port};
 ghost use Rattle.rules.specs.Steps.{Offer, Read, Visible, Own, FirstMissing, Matching, Declares};
-ghost use Rattle.host_answers.specs.Told.{statusOf, Tells};
-ghost use Rattle.demands.specs.Leaves.{leaves};
-ghost use Rattle.host.specs.Tells.{answer};
+ghost use Rattle.host_answers.specs.Told.{Tells};
+ghost use Rattle.host.specs.Tells.{answer, Does};
 use host_answers::ANSWER;
 use memory::WORDS;
 
@@ -16,7 +14,7 @@ pub extern "C" fn vaskelbi_offer(
     realm: u64,
     value: u64,
 ) -> u64
-    ensures { λ r. ⌜ r ≡ statusOf (answer (now (m .entry)) (Offer id (port key realm) value)) ⌝ ∗ ⌜ now (m .exit) ≡ leaves (now (m .entry)) (Offer id (port key realm) value) ⌝ }
+    ensures { λ r. ⌜ Does (now (m .entry)) (Offer id (port key realm) value) r (now (m .exit)) ⌝ }
 {
     host_answers::done(registry_offer::offer(m, id, key, realm, value))
 }

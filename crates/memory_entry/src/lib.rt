@@ -84,7 +84,8 @@ pub fn fill_place(
     claims: &[u64],
     realms: &[u64],
 )
-    ensures { λ _. ⌜ now (m .exit) ≡ filledPlace (now (m .entry)) (place % 32) e (now (dependencies .entry)) (now (claims .entry)) (now (realms .entry)) ⌝ }
+    ensures { λ _. ⌜ now (m .exit) ≡ filledPlace (now (m .entry)) (place % 32) e
+        (now (dependencies .entry)) (now (claims .entry)) (now (realms .entry)) ⌝ }
 {
     let start = e.start;
     if 1024 < start {

@@ -25,15 +25,16 @@ whetherAnswer whether.Yes = Accepted (1 ∷ [])
 whetherAnswer whether.No = Accepted (0 ∷ [])
 whetherAnswer (whether.Refused n) = Refused n []
 
--- an answer, and the words after an outcome that stores a life
-abbrev pub Told : Outcome → List ℕ → Answer → List ℕ → Type 0
-Told o m a m′ = (a ≡ answerOf o) × (m′ ≡ storedLife m o)
+-- What a function promises by an outcome of the rules: it answers as the outcome does, and leaves what it was lent as this way of
+-- storing does. Every operation that stores, and every listing, cites it.
+abbrev pub Meets : (List ℕ → Outcome → List ℕ) → Outcome → List ℕ → Answer → List ℕ → Type 0
+Meets leaves o m a m′ = (a ≡ answerOf o) × (m′ ≡ leaves m o)
 
-pub told-refused : (o : Outcome) (m : List ℕ) (x : Refusal) (vs : List ℕ) → o ≡ refuses x vs → Told o m (Refused (number x) vs) m
+pub told-refused : (o : Outcome) (m : List ℕ) (x : Refusal) (vs : List ℕ) → o ≡ refuses x vs → Meets storedLife o m (Refused (number x) vs) m
 unfolding storedLife
 told-refused o m x vs e = (rw e, rw e)
 
-pub told-same : (o : Outcome) (m vs : List ℕ) → o ≡ answers vs → Told o m (Accepted vs) m
+pub told-same : (o : Outcome) (m vs : List ℕ) → o ≡ answers vs → Meets storedLife o m (Accepted vs) m
 unfolding storedLife
 told-same o m vs e = (rw e, rw e)
 
@@ -47,7 +48,7 @@ generation-found m id i e l h = sym (ap (λ (x : Life). x .generation .0) (life-
 
 -- a found plugin's life was stored
 pub told-stored : (o : Outcome) (m : List ℕ) (id i : ℕ) (vs : List ℕ) (l : Life) (m′ : List ℕ) → findAt m id ≡ At i
-    → o ≡ stores (withLife (pluginAt m i) l) vs → m′ ≡ putLife m (i % 32) l → Told o m (Accepted vs) m′
+    → o ≡ stores (withLife (pluginAt m i) l) vs → m′ ≡ putLife m (i % 32) l → Meets storedLife o m (Accepted vs) m′
 told-stored o m id i vs l m′ e k p =
     (rw k, rw k (p ∙ ap (λ j. putLife m j l) (at-place m id i e) ∙ sym (stored-at m id i e l vs)))
 

@@ -116,7 +116,8 @@ fn meets(claims: &[u64], bits: u64, offered: &[u64]) -> bool
 // Whether this place is taken and one of the ports of its plugin is claimed.
 fn offers_one(m: &[u64; WORDS], place: usize, claims: &[u64], bits: u64) -> bool
     requires { ⌜ place < 32 ⌝ }
-    ensures { λ r. ⌜ r ≡ (taken (now (m .entry)) place && any (λ q. wanted bits (pairs (now (claims .entry))) q) (pairs (offeredPart (now (m .entry)) place))) ⌝ }
+    ensures { λ r. ⌜ r ≡ (taken (now (m .entry)) place
+        && any (λ q. wanted bits (pairs (now (claims .entry))) q) (pairs (offeredPart (now (m .entry)) place))) ⌝ }
 {
     if memory::is_taken(m, place) {
         meets(claims, bits, offered_words(m, place))

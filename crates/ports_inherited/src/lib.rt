@@ -22,7 +22,8 @@ pub fn dependency_list(
     keys: &[u64],
     parents: &[u64],
 ) -> Dependencies
-    ensures { λ r. ⌜ r ≡ fitted (dependencyList (realmsWith other (now (realms .entry))) (pairs (now (provisions .entry))) (take 16 (now (keys .entry))) (pairs (now (parents .entry)))) ⌝ }
+    ensures { λ r. ⌜ r ≡ fitted (dependencyList (realmsWith other (now (realms .entry))) (pairs (now (provisions .entry)))
+        (take 16 (now (keys .entry))) (pairs (now (parents .entry)))) ⌝ }
 {
     let mut ports = [0u64; 96];
     let mut n = ports_resolved::declared(realms, other, keys, &mut ports);

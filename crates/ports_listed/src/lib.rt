@@ -3,10 +3,8 @@ ghost use mathlib.Core.Path.{_≡_};
 ghost use mathlib.Core.List.{_++_};
 ghost use Prim.Native.Nat.{_≤_};
 ghost use lib.ListN.{length, drop};
-ghost use Rattle.rules.specs.Outcomes.{answerOf, lentAfter};
 ghost use Rattle.rules.specs.Ports.{pairs, flat};
-ghost use Rattle.rules.specs.Lists.{listing};
-ghost use Rattle.ports_listed.specs.Answers.{listedAnswer};
+ghost use Rattle.ports_listed.specs.Answers.{listedAnswer, Lists};
 use rules::refusal;
 
 pub enum Listed {
@@ -28,7 +26,7 @@ fn put_pairs(ports: &[u64], out: &mut [u64])
 
 // 23 if the place is past the end or the room from it to the end is too small; nothing is written then.
 pub fn list_ports(ports: &[u64], buffer: &mut [u64], place: usize) -> Listed
-    ensures { λ r. ⌜ listedAnswer r ≡ answerOf (listing (pairs (now (ports .entry))) place (now (buffer .entry))) ⌝ ∗ ⌜ now (buffer .exit) ≡ lentAfter (now (buffer .entry)) (listing (pairs (now (ports .entry))) place (now (buffer .entry))) ⌝ }
+    ensures { λ r. ⌜ Lists (pairs (now (ports .entry))) place (now (buffer .entry)) (listedAnswer r) (now (buffer .exit)) ⌝ }
 {
     let count = ports.len() / 2;
     if buffer.len() < place {

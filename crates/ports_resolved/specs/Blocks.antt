@@ -20,6 +20,10 @@ unfoldable pub stored : List ℕ → ℕ → List Port → List ℕ
 stored array k [] = array
 stored array k (q ∷ qs) = stored (set (set array (k * 2) (q .key)) (k * 2 + 1) (q .realm)) (k + 1) qs
 
+-- a count of ports, and an array with them in front
+abbrev pub Stores : List Port → List ℕ → ℕ → List ℕ → Type 0
+Stores qs array n array′ = (n ≡ length qs) × (array′ ≡ stored array 0 qs)
+
 -- behind ports that stand in front they stand in front too
 pub stored-lists : {size k : ℕ} {array : List ℕ} {ps : List Port} (qs : List Port) → Lists size k array ps → (k + length qs) * 2 ≤ size
     → Lists size (k + length qs) (stored array k qs) (ps ++ qs)

@@ -1,13 +1,12 @@
 // Document 01, "Dependency list": what its keys resolve to, the declared ones and those of the parent's list.
 ghost use mathlib.Core.Path.{_≡_};
-ghost use lib.ListN.{length};
 ghost use Rattle.rules.specs.Ports.{pairs};
-ghost use Rattle.ports_resolved.specs.Blocks.{declaredOf, stored, candidateRealm};
+ghost use Rattle.ports_resolved.specs.Blocks.{declaredOf, Stores, candidateRealm};
 use rules::Port;
 
 // The first 16 declared keys, resolved, in the front of an array that a finished list of 48 ports fits into; their count.
 pub fn declared(realms: &[u64], other: u64, keys: &[u64], ports: &mut [u64; 96]) -> usize
-    ensures { λ r. ⌜ r ≡ length (declaredOf other (pairs (now (realms .entry))) (now (keys .entry))) ⌝ ∗ ⌜ now (ports .exit) ≡ stored (now (ports .entry)) 0 (declaredOf other (pairs (now (realms .entry))) (now (keys .entry))) ⌝ }
+    ensures { λ r. ⌜ Stores (declaredOf other (pairs (now (realms .entry))) (now (keys .entry))) (now (ports .entry)) r (now (ports .exit)) ⌝ }
 {
     let mut i: usize = 0;
     while i < keys.len() {

@@ -1,13 +1,23 @@
--- What admission and call answer in document 01's numbers.
+-- What admission and call take and answer in document 01's numbers.
+use Prim.Native.Nat.{ℕ}
 use mathlib.Core.Path.{_≡_, refl}
 use mathlib.Core.Bool.{Bool, true, false}
 use mathlib.Core.List.{[], _∷_}
 use Rattle.rules.specs.Basics.{yesNo}
 use Rattle.rules.specs.Outcomes.{Answer, Refused, Accepted}
+use Rattle.rules.specs.Admission.{Ticket, Invocation}
 use Rattle.registry_admit.specs.declared.Admitted.{Admitted}
 use Rattle.registry_admit.specs.declared.Admitted.the-variants as admitted
 use Rattle.registry_admit.specs.declared.Called.{Called}
 use Rattle.registry_admit.specs.declared.Called.the-variants as called
+
+-- the rules' ticket and invocation of their numbers
+abbrev pub ticket : ℕ → ℕ → ℕ → ℕ → Ticket
+ticket domain id generation kind = record { domain = domain; id = id; generation = generation; kind = kind }
+
+abbrev pub invocation : ℕ → ℕ → ℕ → ℕ → ℕ → Invocation
+invocation domain id generation revision argument =
+    record { domain = domain; id = id; generation = generation; revision = revision; argument = argument }
 
 abbrev pub admittedAnswer : Admitted → Answer
 admittedAnswer (admitted.Is domain id generation revision argument) = Accepted (domain ∷ id ∷ generation ∷ revision ∷ argument ∷ [])

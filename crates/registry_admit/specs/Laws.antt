@@ -21,7 +21,7 @@ use Rattle.memory.specs.Frames.{withLife}
 use Rattle.memory.specs.Known.{at-id, at-known, none-known, lifeOf, life-of, storedLife}
 use Rattle.memory.specs.declared.Life.{Life}
 use Rattle.memory.specs.declared.Place.the-variants.{At, Nowhere}
-use Rattle.memory_life.specs.Told.{Told, told-stored, life-found}
+use Rattle.memory_life.specs.Told.{Meets, told-stored, life-found}
 use Rattle.registry_admit.specs.Answers.{admitsAnswer}
 use Rattle.registry_live.specs.Lives.{verdict, verdictOf, liveOf}
 use Rattle.registry_admit.specs.Lives.{rootedLife}
@@ -36,7 +36,7 @@ module _ (m : List ℕ) (id i : ℕ) (life : Life) (e : findAt m id ≡ At i) (l
 
   -- its life was stored with another root
   told-rooted : (o : Outcome) (r : Root) (vs : List ℕ) (l′ : Life) (m′ : List ℕ) → o ≡ stores (withRoot r (pluginAt m i)) vs
-      → l′ ≡ rootedLife r life → m′ ≡ putLife m (i % 32) l′ → Told o m (Accepted vs) m′
+      → l′ ≡ rootedLife r life → m′ ≡ putLife m (i % 32) l′ → Meets storedLife o m (Accepted vs) m′
   told-rooted o r vs l′ m′ k s p =
       told-stored o m id i vs (rootedLife r life) m′ e (k ∙ ap (λ x. stores x vs) (rooted-plugin r)) (p ∙ ap (putLife m (i % 32)) s)
 
@@ -48,7 +48,7 @@ tests retired loading same unissued =
 -- What a verdict says of what they come to, with the outcome where they all pass.
 record Says (m : List ℕ) (same : Bool) (v : ℕ) (comes o : Outcome) : Type 0 where
   passes : v ≡ 0 → (same ≡ true) × (comes ≡ o)
-  stops : v ≢ 0 → Told comes m (Refused v []) m
+  stops : v ≢ 0 → Meets storedLife comes m (Refused v []) m
   accepts : isAccepted (answerOf o) ≡ true → isAccepted (answerOf comes) ≡ eqb v 0
 
 module _ (m : List ℕ) (o : Outcome) where
@@ -119,7 +119,7 @@ module _ (m : List ℕ) (t : Ticket) (a d : ℕ) (domain : d ≡ word m 0) where
             let p = pluginAt m i in
             rw (admit-found, said) (verdict-says m (queues (word m 0) a p) (p .retired) (isLoading (p .phase)) (eqb (p .generation) (t .generation)) (isUnissued (p .root)))
 
-        pub told-verdict : v ≢ 0 → Told (admit (view m) t a) m (Refused v []) m
+        pub told-verdict : v ≢ 0 → Meets storedLife (admit (view m) t a) m (Refused v []) m
         told-verdict n = says .stops n
 
         pub admit-accepts : isAccepted (answerOf (admit (view m) t a)) ≡ eqb v 0
@@ -138,7 +138,7 @@ module _ (m : List ℕ) (t : Ticket) (a d : ℕ) (domain : d ≡ word m 0) where
         }
 
         pub told-admitted : (l′ : Life) (m′ : List ℕ) → v ≡ 0 → l′ ≡ rootedLife (Queued (life .revision) a) life → m′ ≡ putLife m (i % 32) l′
-            → Told (admit (view m) t a) m (Accepted (five given)) m′
+            → Meets storedLife (admit (view m) t a) m (Accepted (five given)) m′
         told-admitted l′ m′ z s p =
             told-rooted m (t .id) i life e l (admit (view m) t a) (Queued (life .revision) a) (five given) l′ m′
             (says .passes z .1 ∙ ap (queued (pluginAt m i)) (gives z)) s p
@@ -197,7 +197,7 @@ module _ (m : List ℕ) (t : Invocation) (d : ℕ) (domain : d ≡ word m 0) whe
         call-spends y = call-found ∙ rw (live ∙ y, marked ∙ f)
 
         pub told-called : (l′ : Life) (m′ : List ℕ) → b ≡ true → l′ ≡ rootedLife Spent life → m′ ≡ putLife m (i % 32) l′
-            → Told (call (view m) t) m (Accepted (receipt t (life .payload))) m′
+            → Meets storedLife (call (view m) t) m (Accepted (receipt t (life .payload))) m′
         told-called l′ m′ y s p =
             told-rooted m (t .id) i life e l (call (view m) t) Spent (receipt t (life .payload)) l′ m′
             (call-spends y ∙ ap (λ x. stores (withRoot Spent (pluginAt m i)) (receipt t (x .payload))) (loaded m (t .id) i life e l)) s p

@@ -3,8 +3,9 @@ ghost use mathlib.Core.Path.{_≡_};
 ghost use Rattle.rules.specs.Outcomes.{answerOf};
 ghost use Rattle.rules.specs.Admission.{admit, admits, call};
 ghost use Rattle.memory.specs.View.{view};
+ghost use Rattle.memory_life.specs.Told.{Meets};
 ghost use Rattle.memory.specs.Known.{storedLife};
-ghost use Rattle.registry_admit.specs.Answers.{admittedAnswer, admitsAnswer, calledAnswer};
+ghost use Rattle.registry_admit.specs.Answers.{ticket, invocation, admittedAnswer, admitsAnswer, calledAnswer};
 ghost use Rattle.registry_admit.specs.Lives.{rootedLife};
 use memory::Life;
 use memory::Place;
@@ -52,7 +53,8 @@ pub fn admit(
     kind: u64,
     argument: u64,
 ) -> Admitted
-    ensures { λ r. ⌜ admittedAnswer r ≡ answerOf (admit (view (now (m .entry))) (record { domain = domain; id = id; generation = generation; kind = kind }) argument) ⌝ ∗ ⌜ now (m .exit) ≡ storedLife (now (m .entry)) (admit (view (now (m .entry))) (record { domain = domain; id = id; generation = generation; kind = kind }) argument) ⌝ }
+    ensures { λ r. ⌜ Meets storedLife (admit (view (now (m .entry))) (ticket domain id generation kind) argument)
+        (now (m .entry)) (admittedAnswer r) (now (m .exit)) ⌝ }
 {
     if domain != memory::domain(m) {
         return Admitted::Refused(refusal::INVALID_STATE);
@@ -75,7 +77,7 @@ pub fn admit(
 
 // Whether a ticket would be admitted (R's accepts_root_invocation).
 pub fn admits(m: &[u64; WORDS], domain: u64, id: u64, generation: u64, kind: u64) -> bool
-    ensures { λ r. ⌜ admitsAnswer r ≡ answerOf (admits (view (now (m .entry))) (record { domain = domain; id = id; generation = generation; kind = kind })) ⌝ }
+    ensures { λ r. ⌜ admitsAnswer r ≡ answerOf (admits (view (now (m .entry))) (ticket domain id generation kind)) ⌝ }
 {
     if domain != memory::domain(m) {
         return false;
@@ -98,7 +100,8 @@ pub fn call(
     revision: u64,
     argument: u64,
 ) -> Called
-    ensures { λ r. ⌜ calledAnswer r ≡ answerOf (call (view (now (m .entry))) (record { domain = domain; id = id; generation = generation; revision = revision; argument = argument })) ⌝ ∗ ⌜ now (m .exit) ≡ storedLife (now (m .entry)) (call (view (now (m .entry))) (record { domain = domain; id = id; generation = generation; revision = revision; argument = argument })) ⌝ }
+    ensures { λ r. ⌜ Meets storedLife (call (view (now (m .entry))) (invocation domain id generation revision argument))
+        (now (m .entry)) (calledAnswer r) (now (m .exit)) ⌝ }
 {
     if domain != memory::domain(m) {
         return Called::Refused(refusal::INVALID_STATE);

@@ -55,7 +55,8 @@ pub fn early_verdict(
     dependencies: &[u64],
     provisions: &[u64],
 ) -> Early
-    ensures { λ r. ⌜ r ≡ under (placeAbove (now (m .entry)) parent) (verdict (askedChecks (view (now (m .entry))) (asked parent (now (realms .entry)) (now (dependencies .entry)) (now (provisions .entry))))) ⌝ }
+    ensures { λ r. ⌜ r ≡ under (placeAbove (now (m .entry)) parent) (verdict (askedChecks (view (now (m .entry)))
+        (asked parent (now (realms .entry)) (now (dependencies .entry)) (now (provisions .entry))))) ⌝ }
 {
     if ports::bad_realms(realms) {
         return Early::Refused(refusal::BAD_REALMS);

@@ -1,15 +1,18 @@
--- The words after an offer.
+-- What an offer answers, and the words after it.
 use Prim.Native.Nat.{ℕ}
 use mathlib.Core.Path.{_≡_, refl}
 use mathlib.Core.List.{List}
 use lib.ListN.{length}
 use Rattle.rules.specs.declared.Port.{Port}
-use Rattle.rules.specs.Outcomes.{Outcome, refuses, answers, writes, stores, adds, removes}
+use Rattle.rules.specs.Outcomes.{Answer, Outcome, refuses, answers, writes, stores, adds, removes}
 use Rattle.rules.specs.Ports.{pairs}
+use Rattle.rules.specs.Values.{offer}
 use Rattle.memory.specs.Layout.{provPart}
+use Rattle.memory.specs.View.{view}
 use Rattle.memory.specs.Writes.{findAt}
 use Rattle.memory.specs.declared.Place.{Place}
 use Rattle.memory.specs.declared.Place.the-variants.{At, Nowhere}
+use Rattle.memory_life.specs.Told.{Meets}
 use Rattle.ports.specs.declared.Found.{Found}
 use Rattle.ports.specs.declared.Found.the-variants as found
 use Rattle.memory_values.specs.Values.{portFrom, withValue}
@@ -33,6 +36,10 @@ offeredTo m id q v (writes place l vs) = m
 offeredTo m id q v (stores p vs) = portPut m q v (findAt m id)
 offeredTo m id q v (adds p vs) = m
 offeredTo m id q v (removes n vs) = m
+
+-- what an offer answers and leaves
+abbrev pub Offers : List ℕ → ℕ → Port → ℕ → Answer → List ℕ → Type 0
+Offers m id q v a m′ = Meets (λ w o. offeredTo w id q v o) (offer (view m) id q v) m a m′
 
 put-size : (m : List ℕ) (i v : ℕ) (f : Found) → length (valuePut m i v f) ≡ length m
 put-size m i v (found.At j) = set-length m i j v

@@ -3,12 +3,9 @@ ghost use mathlib.Core.Path.{_≡_};
 ghost use mathlib.Core.Bool.{not, _&&_};
 ghost use Rattle.rules.specs.Basics.{isSome};
 ghost use Rattle.rules.specs.Holds.{port, isLoading};
-ghost use Rattle.rules.specs.Outcomes.{answerOf};
-ghost use Rattle.rules.specs.Values.{offer};
-ghost use Rattle.memory.specs.View.{view};
 ghost use Rattle.memory_life.specs.Told.{doneAnswer};
 ghost use Rattle.memory_values.specs.Values.{valueOf};
-ghost use Rattle.registry_offer.specs.Words.{offeredTo};
+ghost use Rattle.registry_offer.specs.Words.{Offers};
 use memory::Life;
 use memory::Place;
 use memory::WORDS;
@@ -42,7 +39,7 @@ fn is_given(value: Value) -> bool
 
 // Offer: 1, 19 unless Loading and not retired, 20 if the port is not in provisions, 21 if it has a value.
 pub fn offer(m: &mut [u64; WORDS], id: u64, key: u64, realm: u64, value: u64) -> Done
-    ensures { λ r. ⌜ doneAnswer r ≡ answerOf (offer (view (now (m .entry))) id (port key realm) value) ⌝ ∗ ⌜ now (m .exit) ≡ offeredTo (now (m .entry)) id (port key realm) value (offer (view (now (m .entry))) id (port key realm) value) ⌝ }
+    ensures { λ r. ⌜ Offers (now (m .entry)) id (port key realm) value (doneAnswer r) (now (m .exit)) ⌝ }
 {
     let Place::At(at) = memory::find(m, id) else {
         return Done::Refused(refusal::UNKNOWN);

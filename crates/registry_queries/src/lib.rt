@@ -9,6 +9,7 @@ ghost use Rattle.rules.specs.Outcomes.{answerOf, lentAfter};
 ghost use Rattle.rules.specs.Queries.{askPlugin, Parent, Anchor, PhaseOf, RetiredMark, Generation, Revision, Payload, RootOf};
 ghost use Rattle.ports_listed.specs.Answers.{listedAnswer};
 ghost use Rattle.memory.specs.View.{view};
+ghost use Rattle.memory_life.specs.Told.{Meets};
 ghost use Rattle.registry_queries.specs.Answers.{numberAnswer, perhapsAnswer, portAnswer, rootAnswer};
 use memory::Place;
 use memory::WORDS;
@@ -158,7 +159,8 @@ pub fn dependency_port(m: &[u64; WORDS], id: u64, key: u64) -> APort
 
 // Dependencies, provisions and realm rows, listed into a lent buffer from a place.
 pub fn list_dependencies(m: &[u64; WORDS], id: u64, place: usize, buffer: &mut [u64]) -> Listed
-    ensures { λ r. ⌜ listedAnswer r ≡ answerOf (list (view (now (m .entry))) Dependencies id place (now (buffer .entry))) ⌝ ∗ ⌜ now (buffer .exit) ≡ lentAfter (now (buffer .entry)) (list (view (now (m .entry))) Dependencies id place (now (buffer .entry))) ⌝ }
+    ensures { λ r. ⌜ Meets lentAfter (list (view (now (m .entry))) Dependencies id place (now (buffer .entry)))
+        (now (buffer .entry)) (listedAnswer r) (now (buffer .exit)) ⌝ }
 {
     let Place::At(at) = memory::find(m, id) else {
         return Listed::Refused(refusal::UNKNOWN);
@@ -167,7 +169,8 @@ pub fn list_dependencies(m: &[u64; WORDS], id: u64, place: usize, buffer: &mut [
 }
 
 pub fn list_provisions(m: &[u64; WORDS], id: u64, place: usize, buffer: &mut [u64]) -> Listed
-    ensures { λ r. ⌜ listedAnswer r ≡ answerOf (list (view (now (m .entry))) Provisions id place (now (buffer .entry))) ⌝ ∗ ⌜ now (buffer .exit) ≡ lentAfter (now (buffer .entry)) (list (view (now (m .entry))) Provisions id place (now (buffer .entry))) ⌝ }
+    ensures { λ r. ⌜ Meets lentAfter (list (view (now (m .entry))) Provisions id place (now (buffer .entry)))
+        (now (buffer .entry)) (listedAnswer r) (now (buffer .exit)) ⌝ }
 {
     let Place::At(at) = memory::find(m, id) else {
         return Listed::Refused(refusal::UNKNOWN);
@@ -176,7 +179,8 @@ pub fn list_provisions(m: &[u64; WORDS], id: u64, place: usize, buffer: &mut [u6
 }
 
 pub fn list_realms(m: &[u64; WORDS], id: u64, place: usize, buffer: &mut [u64]) -> Listed
-    ensures { λ r. ⌜ listedAnswer r ≡ answerOf (list (view (now (m .entry))) RealmRows id place (now (buffer .entry))) ⌝ ∗ ⌜ now (buffer .exit) ≡ lentAfter (now (buffer .entry)) (list (view (now (m .entry))) RealmRows id place (now (buffer .entry))) ⌝ }
+    ensures { λ r. ⌜ Meets lentAfter (list (view (now (m .entry))) RealmRows id place (now (buffer .entry)))
+        (now (buffer .entry)) (listedAnswer r) (now (buffer .exit)) ⌝ }
 {
     let Place::At(at) = memory::find(m, id) else {
         return Listed::Refused(refusal::UNKNOWN);

@@ -1,10 +1,9 @@
 // Document 01, "Phases": ready, which asks for every value, and finish, which drops them.
 ghost use mathlib.Core.Path.{_≡_};
-ghost use Rattle.rules.specs.Outcomes.{answerOf};
 ghost use Rattle.rules.specs.Phases.{isSpent, ready, finish};
 ghost use Rattle.memory.specs.View.{view};
 ghost use Rattle.memory.specs.Known.{storedLife};
-ghost use Rattle.memory_life.specs.Told.{doneAnswer};
+ghost use Rattle.memory_life.specs.Told.{Meets, doneAnswer};
 ghost use Rattle.registry_ready_finish.specs.Finished.{restedLife, finishedTo};
 use memory::Life;
 use memory::Place;
@@ -45,7 +44,7 @@ fn at_rest(life: Life, phase: Phase) -> Life
 
 // 1, 2, phase, 17, 22 if a provision has no value.
 pub fn ready(m: &mut [u64; WORDS], id: u64) -> Done
-    ensures { λ r. ⌜ doneAnswer r ≡ answerOf (ready (view (now (m .entry))) id) ⌝ ∗ ⌜ now (m .exit) ≡ storedLife (now (m .entry)) (ready (view (now (m .entry))) id) ⌝ }
+    ensures { λ r. ⌜ Meets storedLife (ready (view (now (m .entry))) id) (now (m .entry)) (doneAnswer r) (now (m .exit)) ⌝ }
 {
     let Place::At(at) = memory::find(m, id) else {
         return Done::Refused(refusal::UNKNOWN);
@@ -70,7 +69,7 @@ pub fn ready(m: &mut [u64; WORDS], id: u64) -> Done
 
 // 1, phase; values are dropped and root is Unissued.
 pub fn finish(m: &mut [u64; WORDS], id: u64) -> Done
-    ensures { λ r. ⌜ doneAnswer r ≡ answerOf (finish (view (now (m .entry))) id) ⌝ ∗ ⌜ now (m .exit) ≡ finishedTo (now (m .entry)) (finish (view (now (m .entry))) id) ⌝ }
+    ensures { λ r. ⌜ Meets finishedTo (finish (view (now (m .entry))) id) (now (m .entry)) (doneAnswer r) (now (m .exit)) ⌝ }
 {
     let Place::At(at) = memory::find(m, id) else {
         return Done::Refused(refusal::UNKNOWN);

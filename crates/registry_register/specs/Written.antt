@@ -91,6 +91,11 @@ settledWords m parent payload count dependencies claims realms =
     leftBy (lateVerdict m count claims) m
     (writtenAt m (freeAt m) (newEntry m parent payload count (length claims / 2 - 1) (length realms / 2)) dependencies claims realms)
 
+-- what the late checks and the writing answer and leave
+abbrev pub Settles : List ℕ → Option ℕ → ℕ → ℕ → List ℕ → List ℕ → List ℕ → Answer → List ℕ → Type 0
+Settles m parent payload count dependencies claims realms a m′ =
+    (a ≡ settledAnswer m count claims) × (m′ ≡ settledWords m parent payload count dependencies claims realms)
+
 -- On any words, there are as many after a registration.
 pub added-size : (m : List ℕ) (o : Outcome) → length (addedTo m o) ≡ length m
 unfolding addedTo

@@ -2,12 +2,12 @@
 ghost use mathlib.Core.Path.{_≡_};
 ghost use mathlib.Core.Logic.{_≢_};
 ghost use Rattle.rules.specs.Holds.{rowsInUse};
-ghost use Rattle.rules.specs.Outcomes.{answerOf};
 ghost use Rattle.rules.specs.Registration.{register};
 ghost use Rattle.memory.specs.Layout.{word};
 ghost use Rattle.memory.specs.View.{view};
+ghost use Rattle.memory_life.specs.Told.{Meets};
 ghost use Rattle.memory.specs.Writes.{parentId};
-ghost use Rattle.registry_register.specs.Written.{registeredAnswer, definition, newEntry, settledAnswer, settledWords, addedTo};
+ghost use Rattle.registry_register.specs.Written.{registeredAnswer, definition, newEntry, Settles, addedTo};
 use memory::Parent;
 use memory::Place;
 use memory::WORDS;
@@ -60,7 +60,8 @@ fn settle(
     claims: &[u64],
     realms: &[u64],
 ) -> Registered
-    ensures { λ r. ⌜ registeredAnswer r ≡ settledAnswer (now (m .entry)) count (now (claims .entry)) ⌝ ∗ ⌜ now (m .exit) ≡ settledWords (now (m .entry)) (parentId parent) payload count (now (dependencies .entry)) (now (claims .entry)) (now (realms .entry)) ⌝ }
+    ensures { λ r. ⌜ Settles (now (m .entry)) (parentId parent) payload count
+        (now (dependencies .entry)) (now (claims .entry)) (now (realms .entry)) (registeredAnswer r) (now (m .exit)) ⌝ }
 {
     let claimed = claims.len() / 2;
     let rows = memory_places::rows_in_use(m);
@@ -93,7 +94,9 @@ pub fn register(
     provisions: &[u64],
     payload: u64,
 ) -> Registered
-    ensures { λ r. ⌜ registeredAnswer r ≡ answerOf (register (view (now (m .entry))) (definition parent anchor (now (realms .entry)) (now (dependencies .entry)) (now (provisions .entry)) payload)) ⌝ ∗ ⌜ now (m .exit) ≡ addedTo (now (m .entry)) (register (view (now (m .entry))) (definition parent anchor (now (realms .entry)) (now (dependencies .entry)) (now (provisions .entry)) payload)) ⌝ }
+    ensures { λ r. ⌜ Meets addedTo (register (view (now (m .entry)))
+        (definition parent anchor (now (realms .entry)) (now (dependencies .entry)) (now (provisions .entry)) payload))
+        (now (m .entry)) (registeredAnswer r) (now (m .exit)) ⌝ }
 {
     let above = match registry_checks::early_verdict(m, parent, realms, dependencies, provisions) {
         Early::Passed(place) => place,

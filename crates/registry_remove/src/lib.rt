@@ -4,11 +4,10 @@ ghost use mathlib.Core.Bool.{_&&_};
 ghost use mathlib.Core.List.{[], _∷_};
 ghost use Rattle.rules.specs.Basics.{any};
 ghost use Rattle.rules.specs.Holds.{plugins, isIdle};
-ghost use Rattle.rules.specs.Outcomes.{answerOf};
 ghost use Rattle.rules.specs.Retirement.{isChildOf, remove};
 ghost use Rattle.memory.specs.View.{view};
 ghost use Rattle.memory.specs.Writes.{puts};
-ghost use Rattle.memory_life.specs.Told.{doneAnswer};
+ghost use Rattle.memory_life.specs.Told.{Meets, doneAnswer};
 ghost use Rattle.registry_remove.specs.Words.{removedFrom};
 use memory::Life;
 use memory::Place;
@@ -44,7 +43,7 @@ fn has_children(m: &[u64; WORDS], id: u64) -> bool
 
 // Removal: 1, 3 unless Idle and retired, 18; frees place and rows.
 pub fn remove(m: &mut [u64; WORDS], id: u64) -> Done
-    ensures { λ r. ⌜ doneAnswer r ≡ answerOf (remove (view (now (m .entry))) id) ⌝ ∗ ⌜ now (m .exit) ≡ removedFrom (now (m .entry)) (remove (view (now (m .entry))) id) ⌝ }
+    ensures { λ r. ⌜ Meets removedFrom (remove (view (now (m .entry))) id) (now (m .entry)) (doneAnswer r) (now (m .exit)) ⌝ }
 {
     let Place::At(at) = memory::find(m, id) else {
         return Done::Refused(refusal::UNKNOWN);

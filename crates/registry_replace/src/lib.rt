@@ -3,7 +3,7 @@ ghost use mathlib.Core.Path.{_≡_};
 ghost use Rattle.rules.specs.Outcomes.{answerOf};
 ghost use Rattle.rules.specs.Replacement.{replace, fits};
 ghost use Rattle.memory.specs.View.{view};
-ghost use Rattle.memory_life.specs.Told.{whetherAnswer};
+ghost use Rattle.memory_life.specs.Told.{Meets, whetherAnswer};
 ghost use Rattle.registry_replace.specs.Answers.{replacedAnswer};
 ghost use Rattle.registry_replace.specs.Recipes.{changeOf, fitsBehind};
 ghost use Rattle.registry_replace.specs.Words.{replacedIn};
@@ -76,7 +76,7 @@ fn by_lending(r: Recipe, payload: u64) -> Change
 
 // 1, 16, each with the offered payload; else the former payload, in any phase, retired or not.
 pub fn replace(m: &mut [u64; WORDS], id: u64, payload: u64) -> Replaced
-    ensures { λ r. ⌜ replacedAnswer r ≡ answerOf (replace (view (now (m .entry))) id payload) ⌝ ∗ ⌜ now (m .exit) ≡ replacedIn (now (m .entry)) (replace (view (now (m .entry))) id payload) ⌝ }
+    ensures { λ r. ⌜ Meets replacedIn (replace (view (now (m .entry))) id payload) (now (m .entry)) (replacedAnswer r) (now (m .exit)) ⌝ }
 {
     let Place::At(at) = memory::find(m, id) else {
         return Replaced::Refused(refusal::UNKNOWN, payload);

@@ -17,12 +17,12 @@ use Rattle.memory.specs.Layout.{word}
 use Rattle.memory.specs.View.{parentAt, lifeAt, pluginAt, view}
 use Rattle.memory.specs.Writes.{parentId, findAt, putLife}
 use Rattle.memory.specs.Frames.{withLife}
-use Rattle.memory.specs.Known.{at-place, at-lookup, at-known, none-lookup, none-known}
+use Rattle.memory.specs.Known.{at-place, at-lookup, at-known, none-lookup, none-known, storedLife}
 use Rattle.memory.specs.declared.Life.{Life}
 use Rattle.memory.specs.declared.Parent.{Parent}
 use Rattle.memory.specs.declared.Parent.the-variants.{Of, Nobody}
 use Rattle.memory.specs.declared.Place.the-variants.{At, Nowhere}
-use Rattle.memory_life.specs.Told.{Told, told-refused, told-stored, life-found}
+use Rattle.memory_life.specs.Told.{Meets, told-refused, told-stored, life-found}
 use Rattle.registry_retire.specs.Answers.{childAnswer}
 use Rattle.registry_retire.specs.Marks.{markedLife}
 use Rattle.registry_retire.specs.declared.Child.the-variants as child
@@ -45,10 +45,10 @@ module _ (m : List ℕ) (id i : ℕ) (o : Outcome) (life : Life) (e : findAt m i
   loaded : life ≡ lifeAt m i
   loaded = life-found m id i e life l
 
-  pub told-retired : life .retired ≡ true → Told o m (Refused 2 []) m
+  pub told-retired : life .retired ≡ true → Meets storedLife o m (Refused 2 []) m
   told-retired t = told-refused o m Retired [] (g ∙ mark-retired m i (rw loaded at t))
 
-  pub told-marked : (l′ : Life) (m′ : List ℕ) → life .retired ≡ false → l′ ≡ markedLife life → m′ ≡ putLife m (i % 32) l′ → Told o m (Accepted []) m′
+  pub told-marked : (l′ : Life) (m′ : List ℕ) → life .retired ≡ false → l′ ≡ markedLife life → m′ ≡ putLife m (i % 32) l′ → Meets storedLife o m (Accepted []) m′
   told-marked l′ m′ f s p =
       let k : o ≡ stores (withLife (pluginAt m i) (markedLife (lifeAt m i))) [] = g ∙ mark-stores m i (rw loaded at f) in
       told-stored o m id i [] (markedLife (lifeAt m i)) m′ e k (p ∙ ap (putLife m (i % 32)) (s ∙ ap markedLife loaded))

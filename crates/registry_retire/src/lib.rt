@@ -4,8 +4,8 @@ ghost use Rattle.rules.specs.Outcomes.{answerOf};
 ghost use Rattle.rules.specs.Retirement.{retire, retireChild, childIdentity};
 ghost use Rattle.memory.specs.View.{view};
 ghost use Rattle.memory.specs.Known.{storedLife};
-ghost use Rattle.memory_life.specs.Told.{doneAnswer};
-ghost use Rattle.registry_retire.specs.Answers.{childAnswer};
+ghost use Rattle.memory_life.specs.Told.{Meets, doneAnswer};
+ghost use Rattle.registry_retire.specs.Answers.{identified, childAnswer};
 ghost use Rattle.registry_retire.specs.Marks.{markedLife};
 use memory::Life;
 use memory::Place;
@@ -22,7 +22,7 @@ pub enum Child {
 
 // By id: 1, 2; else the retired mark is set.
 pub fn retire(m: &mut [u64; WORDS], id: u64) -> Done
-    ensures { λ r. ⌜ doneAnswer r ≡ answerOf (retire (view (now (m .entry))) id) ⌝ ∗ ⌜ now (m .exit) ≡ storedLife (now (m .entry)) (retire (view (now (m .entry))) id) ⌝ }
+    ensures { λ r. ⌜ Meets storedLife (retire (view (now (m .entry))) id) (now (m .entry)) (doneAnswer r) (now (m .exit)) ⌝ }
 {
     let Place::At(at) = memory::find(m, id) else {
         return Done::Refused(refusal::UNKNOWN);
@@ -53,7 +53,8 @@ fn marked(life: Life) -> Life
 
 // By child identity: domain 3; never issued 1; not registered: accepted, nothing changes; parent differs or none 3; then 2; else the mark.
 pub fn retire_child(m: &mut [u64; WORDS], domain: u64, parent: u64, id: u64) -> Done
-    ensures { λ r. ⌜ doneAnswer r ≡ answerOf (retireChild (view (now (m .entry))) (record { domain = domain; parent = parent; id = id })) ⌝ ∗ ⌜ now (m .exit) ≡ storedLife (now (m .entry)) (retireChild (view (now (m .entry))) (record { domain = domain; parent = parent; id = id })) ⌝ }
+    ensures { λ r. ⌜ Meets storedLife (retireChild (view (now (m .entry))) (identified domain parent id))
+        (now (m .entry)) (doneAnswer r) (now (m .exit)) ⌝ }
 {
     if domain != memory::domain(m) {
         return Done::Refused(refusal::INVALID_STATE);

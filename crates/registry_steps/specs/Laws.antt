@@ -20,10 +20,10 @@ use Rattle.memory.specs.Layout.{word, depPart}
 use Rattle.memory.specs.View.{lifeAt, pluginAt, view}
 use Rattle.memory.specs.Writes.{findAt, putLife}
 use Rattle.memory.specs.Frames.{withLife}
-use Rattle.memory.specs.Known.{at-place, at-known, none-known}
+use Rattle.memory.specs.Known.{at-place, at-known, none-known, storedLife}
 use Rattle.memory.specs.declared.Life.{Life}
 use Rattle.memory.specs.declared.Place.the-variants.{At, Nowhere}
-use Rattle.memory_life.specs.Told.{Told, life-found, generation-found, told-stored}
+use Rattle.memory_life.specs.Told.{Meets, life-found, generation-found, told-stored}
 use Rattle.registry_steps.specs.Lives.{movedLife, begunLife}
 
 -- the outcomes, once the plugin is found
@@ -135,7 +135,7 @@ module _ (m : List ℕ) (id i : ℕ) (e : findAt m id ≡ At i) (l : Life) (h : 
         begin-moves y = begin-found m id i e ∙ rw (← same) (rw (n, f, not-last, ready-for ∙ y, of-generation, ne-eqb (l .generation .0) last g))
 
         pub begin-told : b ≡ true → (dm : ℕ) → dm ≡ word m 0 → (l′ : Life) → l′ ≡ begunLife l p → (m′ : List ℕ) → m′ ≡ putLife m (i % 32) l′
-            → Told (rules.begin (view m) id) m (Accepted (dm ∷ id ∷ l′ .generation .0 ∷ 1 ∷ [])) m′
+            → Meets storedLife (rules.begin (view m) id) m (Accepted (dm ∷ id ∷ l′ .generation .0 ∷ 1 ∷ [])) m′
         begin-told y dm w l′ k m′ s =
             let t = told-stored (rules.begin (view m) id) m id i _ (begunLife l p) m′ e (begin-moves y) (s ∙ ap (putLife m (i % 32)) k) in
             ((λ j. Accepted (w j ∷ id ∷ k j .generation .0 ∷ 1 ∷ [])) ∙ t .0, t .1)

@@ -1,10 +1,9 @@
 // Document 01, "Phases": each step looks the id up once, and the table of phases and steps says where it leads.
 ghost use mathlib.Core.Path.{_≡_};
-ghost use Rattle.rules.specs.Outcomes.{answerOf};
 ghost use Rattle.rules.specs.Phases.{begin, fail, unload};
 ghost use Rattle.memory.specs.View.{view};
 ghost use Rattle.memory.specs.Known.{storedLife};
-ghost use Rattle.memory_life.specs.Told.{doneAnswer};
+ghost use Rattle.memory_life.specs.Told.{Meets, doneAnswer};
 ghost use Rattle.registry_steps.specs.Lives.{begunAnswer, movedLife, begunLife};
 use memory::Life;
 use memory::Place;
@@ -53,7 +52,7 @@ fn with_begun(life: Life, phase: Phase) -> Life
 
 // 1, 2, phase, 16, 14; generation + 1, root Unissued; it answers a ticket.
 pub fn begin(m: &mut [u64; WORDS], id: u64) -> Begun
-    ensures { λ r. ⌜ begunAnswer r ≡ answerOf (begin (view (now (m .entry))) id) ⌝ ∗ ⌜ now (m .exit) ≡ storedLife (now (m .entry)) (begin (view (now (m .entry))) id) ⌝ }
+    ensures { λ r. ⌜ Meets storedLife (begin (view (now (m .entry))) id) (now (m .entry)) (begunAnswer r) (now (m .exit)) ⌝ }
 {
     let Place::At(at) = memory::find(m, id) else {
         return Begun::Refused(refusal::UNKNOWN);
@@ -80,7 +79,7 @@ pub fn begin(m: &mut [u64; WORDS], id: u64) -> Begun
 
 // 1, phase.
 pub fn fail(m: &mut [u64; WORDS], id: u64) -> Done
-    ensures { λ r. ⌜ doneAnswer r ≡ answerOf (fail (view (now (m .entry))) id) ⌝ ∗ ⌜ now (m .exit) ≡ storedLife (now (m .entry)) (fail (view (now (m .entry))) id) ⌝ }
+    ensures { λ r. ⌜ Meets storedLife (fail (view (now (m .entry))) id) (now (m .entry)) (doneAnswer r) (now (m .exit)) ⌝ }
 {
     let Place::At(at) = memory::find(m, id) else {
         return Done::Refused(refusal::UNKNOWN);
@@ -96,7 +95,7 @@ pub fn fail(m: &mut [u64; WORDS], id: u64) -> Done
 
 // 1, phase, 15.
 pub fn unload(m: &mut [u64; WORDS], id: u64) -> Done
-    ensures { λ r. ⌜ doneAnswer r ≡ answerOf (unload (view (now (m .entry))) id) ⌝ ∗ ⌜ now (m .exit) ≡ storedLife (now (m .entry)) (unload (view (now (m .entry))) id) ⌝ }
+    ensures { λ r. ⌜ Meets storedLife (unload (view (now (m .entry))) id) (now (m .entry)) (doneAnswer r) (now (m .exit)) ⌝ }
 {
     let Place::At(at) = memory::find(m, id) else {
         return Done::Refused(refusal::UNKNOWN);
