@@ -1,4 +1,4 @@
--- What ready and finish come to where the id is found in the words, and where it is not.
+-- What ready and finish come to where the id is found in the words and its life loaded.
 use Prim.Native.Nat.{ℕ, _+_, _*_, _%_}
 use mathlib.Core.Path.{_≡_, sym, ap, _∙_}
 use mathlib.Core.Bool.{Bool, true, false}

@@ -1,4 +1,4 @@
--- What each step of the rules comes to where the id is found in the words, and where it is not.
+-- What each step of the rules comes to where the id is found in the words and its life loaded.
 use Prim.Native.Nat.{ℕ, _%_}
 use mathlib.Core.Path.{_≡_, sym, ap, _∙_}
 use mathlib.Core.Logic.{_≢_}
