@@ -1,25 +1,32 @@
 -- Of dense words, the registry after one plugin is changed where it stands is the rules', and the words are dense again.
 use Prim.Native.Nat.{ℕ, _+_, _*_, _<_}
 use native.Mathlib.Omega.{arith}
-use mathlib.Core.Path.{_≡_, refl, sym, ap, _∙_, subst}
+use mathlib.Core.Path.{_≡_, refl, sym, ap, _∙_, subst, subst⁻¹}
 use mathlib.Core.Logic.{_≢_}
 use mathlib.Core.Bool.{true}
-use mathlib.Core.List.{List}
+use mathlib.Core.List.{List, []}
+use mathlib.Core.Option.{some, Option·none-ne-some, Option·some-injective}
 use lib.Dec.{eqb}
 use lib.ListN.{length}
 use borrow.Author.Tests.{eq-eqb, ne-eqb, eqb-true, eqb-false}
 use Rattle.rules.specs.Basics.{pick}
-use Rattle.rules.specs.Refusals.{Refusal}
-use Rattle.rules.specs.Outcomes.{Outcome, refuses, answers, stores, storedAt, after}
+use Rattle.rules.specs.Holds.{Plugin, lookup}
+use Rattle.rules.specs.Refusals.{Unknown}
+use Rattle.rules.specs.Outcomes.{Outcome, refuses, answers, writes, stores, adds, removes, known, storedAt, after}
+use Rattle.rules.specs.Steps.{Op, step}
+use Rattle.rules.specs.Kept.Plugins.{Alike}
+use Rattle.rules.specs.Kept.Reach.{life, reach, Within}
+use Rattle.rules.specs.Kept.Operations.{Lawful, lawful}
 use Rattle.rules.specs.Laws.Tests.{by-test}
 use Rattle.memory.specs.Layout.{word, taken, idAt}
 use Rattle.memory.specs.View.{pluginAt, placeAt, view}
 use Rattle.memory.specs.Writes.{findAt, putLife}
 use Rattle.memory.specs.Frames.{withLife, OnlyLife, life-only}
 use Rattle.memory.specs.Stores.{Alone}
-use Rattle.memory.specs.Known.{storedLife, stored-at, stored-view}
+use Rattle.memory.specs.Known.{at-lookup, at-known, none-lookup, none-known, lifeOf, storedLife, stored-at, stored-view}
 use Rattle.memory.specs.declared.Life.{Life}
-use Rattle.memory.specs.declared.Place.the-variants.{At}
+use Rattle.memory.specs.declared.Place.{Place}
+use Rattle.memory.specs.declared.Place.the-variants.{At, Nowhere}
 use Rattle.memory_places.specs.Placed.{places-map, taken-place, free-place}
 use Rattle.memory_places.specs.Rows.{rowsAt}
 use Rattle.memory_rows.specs.Tiles.{share, sum-same}
@@ -100,20 +107,60 @@ module _ (m m′ : List ℕ) (i : ℕ) (alone : Alone m) (there : taken m i ≡ 
     places = places-map (storedAt (pluginAt m′ i)) m m′ 32 0 (λ j a b. one-place j b) x;
   }
 
+-- An operation on the plugin of an id: the words have it, or they don't.
+pub known-elim : (m : List ℕ) (P : Outcome → Type 0) (id : ℕ) (f : Plugin → Outcome) → P (refuses Unknown [])
+    → ((i : ℕ) → findAt m id ≡ At i → P (f (pluginAt m i))) → P (known (view m) id f)
+known-elim m P id f a b = go (findAt m id) refl
+  where
+    go : (p : Place) → findAt m id ≡ p → P (known (view m) id f)
+    go Nowhere e = subst⁻¹ P (none-known m id e f) a
+    go (At i) e = subst⁻¹ P (at-known m id i e f) (b i e)
+
+other-life : (p q : Plugin) → Alike p q → q .provisions ≡ p .provisions → q ≡ withLife p (lifeOf q)
+other-life p q a v = λ x. record {
+  id = a .id x;
+  parent = a .parent x;
+  anchor = a .anchor x;
+  realms = a .realms x;
+  dependencies = a .dependencies x;
+  provisions = v x;
+  revision = q .revision;
+  payload = q .payload;
+  phase = q .phase;
+  retired = q .retired;
+  generation = q .generation;
+  root = q .root;
+}
+
 module _ (m : List ℕ) (d : Dense m) where
-  abbrev pub Stored : Outcome → Type 0
+  abbrev Stored : Outcome → Type 0
   Stored o = Refines m (storedLife m o) o
 
-  pub stored-refused : (x : Refusal) (vs : List ℕ) → Stored (refuses x vs)
-  unfolding storedLife after
-  stored-refused x vs = record { registry = refl; dense = d }
-
-  pub stored-nothing : (vs : List ℕ) → Stored (answers vs)
-  unfolding storedLife after
-  stored-nothing vs = record { registry = refl; dense = d }
-
-  pub stored-life : (id i : ℕ) → findAt m id ≡ At i → (l : Life) (vs : List ℕ) → Stored (stores (withLife (pluginAt m i) l) vs)
+  stored-life : (id i : ℕ) → findAt m id ≡ At i → (l : Life) (vs : List ℕ) → Stored (stores (withLife (pluginAt m i) l) vs)
   stored-life id i e l vs = record {
     registry = stored-view m (d .size) (d .alone) id i e l vs;
     dense = rw (stored-at m id i e l vs) (life-dense m i l d);
   }
+
+  -- a registered plugin with another life
+  stored-alike : (p q : Plugin) (vs : List ℕ) → lookup (view m) (q .id) ≡ some p → Alike p q → q .provisions ≡ p .provisions → Stored (stores q vs)
+  stored-alike p q vs e a v = go (findAt m (q .id)) refl
+    where
+      go : (x : Place) → findAt m (q .id) ≡ x → Stored (stores q vs)
+      go Nowhere f = absurd (Option·none-ne-some p (sym (none-lookup m (q .id) f) ∙ e))
+      go (At i) f =
+          let s : p ≡ pluginAt m i = Option·some-injective p (pluginAt m i) (sym e ∙ at-lookup m (q .id) i f) in
+          subst⁻¹ (λ x. Stored (stores x vs)) (other-life p q a v ∙ ap (λ x. withLife x (lifeOf q)) s) (stored-life (q .id) i f (lifeOf q) vs)
+
+  -- Whatever operation stores a life and nothing else.
+  pub life-refines : (o : Op) → reach o ≡ life → Refines m (storedLife m (step (view m) o)) (step (view m) o)
+  unfolding Lawful storedLife after
+  life-refines o e = go (step (view m) o) (lawful (view m) o)
+    where
+      go : (u : Outcome) → Lawful (view m) o u → Stored u
+      go (refuses x vs) w = record { registry = refl; dense = d }
+      go (answers vs) w = record { registry = refl; dense = d }
+      go (writes place l vs) w = record { registry = refl; dense = d }
+      go (stores q vs) w = stored-alike (w .0) q vs (w .2) (w .3 .alike) (subst (λ x. Within x (w .0) q) e (w .4))
+      go (adds q vs) w = absurd (subst (λ x. Within x q q) (sym e ∙ w .5) refl)
+      go (removes id vs) w = absurd (subst (λ x. Within x (w .0) (w .0)) (sym e ∙ w .4) refl)

@@ -11,7 +11,7 @@ use Rattle.rules.specs.Holds.{Plugin, isLoading, withRoot}
 use Rattle.rules.specs.declared.Root.{Root}
 use Rattle.rules.specs.declared.Root.the-variants.{Queued, Spent}
 use Rattle.rules.specs.Refusals.{Refusal, number, Unknown, Retired, InvalidState, Stale}
-use Rattle.rules.specs.Outcomes.{Refused, Accepted, Outcome, refuses, stores, Check, _⇒_, checked, known, answerOf}
+use Rattle.rules.specs.Outcomes.{Refused, Accepted, Outcome, refuses, stores, Check, _⇒_, checked, answerOf}
 use Rattle.rules.specs.Phases.{setup}
 use Rattle.rules.specs.Admission.{Ticket, Invocation, five, isUnissued, admit, isAccepted, admits, isLive, receipt, call}
 use Rattle.memory.specs.Layout.{word}
@@ -68,21 +68,12 @@ module _ (m : List ℕ) (o : Outcome) where
   verdict-says false true false u = refusal-says false Stale (λ e. omega arith)
   verdict-says false false s u = refusal-says s Stale (λ e. omega arith)
 
--- Admission of a found plugin, with the domain and the argument.
-abbrev pub asks : ℕ → Plugin → List Check
-asks g p = tests (p .retired) (isLoading (p .phase)) (eqb (p .generation) g) (isUnissued (p .root))
-
+-- What an admission answers of a plugin, with the domain and the argument; and what it comes to where it is accepted.
 abbrev invocation : ℕ → ℕ → Plugin → Invocation
 invocation d a p = record { domain = d; id = p .id; generation = p .generation; revision = p .revision; argument = a }
 
 abbrev queued : Plugin → Invocation → Outcome
 queued p t = stores (withRoot (Queued (t .revision) (t .argument)) p) (five t)
-
-abbrev pub queues : ℕ → ℕ → Plugin → Outcome
-queues d a p = queued p (invocation d a p)
-
-abbrev pub admission : ℕ → ℕ → ℕ → Plugin → Outcome
-admission d g a p = checked (asks g p) (queues d a p)
 
 -- over the header's word as it was read
 module _ (m : List ℕ) (t : Ticket) (a d : ℕ) (domain : d ≡ word m 0) where
@@ -99,25 +90,20 @@ module _ (m : List ℕ) (t : Ticket) (a d : ℕ) (domain : d ≡ word m 0) where
     admit-kind n = rw (own, ne-eqb (t .kind) setup n)
 
     module _ (kind : t .kind ≡ setup) where
-      admit-known : admit (view m) t a ≡ known (view m) (t .id) (admission (word m 0) (t .generation) a)
-      unfolding admit checked view
-      admit-known = rw (own, eq-eqb (t .kind) setup kind)
-
       pub admit-none : findAt m (t .id) ≡ Nowhere → admit (view m) t a ≡ refuses Unknown []
-      admit-none e = admit-known ∙ none-known m (t .id) e (admission (word m 0) (t .generation) a)
+      unfolding admit checked view
+      admit-none e = rw (own, eq-eqb (t .kind) setup kind) (none-known m (t .id) e _)
 
       module _ (i : ℕ) (life : Life) (v : ℕ) (e : findAt m (t .id) ≡ At i) (l : life ≡ lifeAt m (i % 32)) (k : v ≡ verdictOf life (t .generation)) where
-        admit-found : admit (view m) t a ≡ admission (word m 0) (t .generation) a (pluginAt m i)
-        admit-found = admit-known ∙ at-known m (t .id) i e (admission (word m 0) (t .generation) a)
-
         said : v ≡ verdictOf (lifeOf (pluginAt m i)) (t .generation)
         said = k ∙ ap (λ x. verdictOf x (t .generation)) (sym (loaded m (t .id) i life e l))
 
-        says : Says m (eqb (pluginAt m i .generation) (t .generation)) v (admit (view m) t a) (queues (word m 0) a (pluginAt m i))
-        unfolding verdictOf
+        says : Says m (eqb (pluginAt m i .generation) (t .generation)) v (admit (view m) t a) (queued (pluginAt m i) (invocation (word m 0) a (pluginAt m i)))
+        unfolding admit checked view verdictOf
         says =
             let p = pluginAt m i in
-            rw (admit-found, said) (verdict-says m (queues (word m 0) a p) (p .retired) (isLoading (p .phase)) (eqb (p .generation) (t .generation)) (isUnissued (p .root)))
+            rw (own, eq-eqb (t .kind) setup kind) (rw (at-known m (t .id) i e _, said)
+            (verdict-says m (queued p (invocation (word m 0) a p)) (p .retired) (isLoading (p .phase)) (eqb (p .generation) (t .generation)) (isUnissued (p .root))))
 
         pub told-verdict : v ≢ 0 → Meets storedLife (admit (view m) t a) m (Refused v []) m
         told-verdict n = says .stops n
@@ -152,36 +138,27 @@ module _ (m : List ℕ) (t : Ticket) where
   pub admits-refused : (x : Refusal) → admit (view m) t 0 ≡ refuses x [] → admitsAnswer false ≡ answerOf (admits (view m) t)
   admits-refused x e = admits-as false (rw e)
 
--- A call of a found plugin.
-abbrev pub spends : Invocation → Plugin → Outcome
-spends t p = stores (withRoot Spent p) (receipt t (p .payload))
-
-abbrev pub calls : Invocation → Plugin → Outcome
-calls t p = checked ((p .retired ⇒ Retired) ∷ (not (isLive p t) ⇒ Stale) ∷ []) (spends t p)
-
+-- A call.
 module _ (m : List ℕ) (t : Invocation) (d : ℕ) (domain : d ≡ word m 0) where
   pub call-foreign : t .domain ≢ d → call (view m) t ≡ refuses InvalidState []
   unfolding call checked view
   call-foreign n = rw (ne-eqb (t .domain) (word m 0) (λ s. n (s ∙ sym domain)))
 
   module _ (same : t .domain ≡ d) where
-    call-known : call (view m) t ≡ known (view m) (t .id) (calls t)
-    unfolding call checked view
-    call-known = rw (eq-eqb (t .domain) (word m 0) (same ∙ domain))
+    ours : eqb (t .domain) (word m 0) ≡ true
+    ours = eq-eqb (t .domain) (word m 0) (same ∙ domain)
 
     pub call-none : findAt m (t .id) ≡ Nowhere → call (view m) t ≡ refuses Unknown []
-    call-none e = call-known ∙ none-known m (t .id) e (calls t)
+    unfolding call checked view
+    call-none e = rw ours (none-known m (t .id) e _)
 
     module _ (i : ℕ) (life : Life) (e : findAt m (t .id) ≡ At i) (l : life ≡ lifeAt m (i % 32)) where
-      call-found : call (view m) t ≡ calls t (pluginAt m i)
-      call-found = call-known ∙ at-known m (t .id) i e (calls t)
-
       marked : pluginAt m i .retired ≡ life .retired
       marked = ap (λ x. x .retired) (loaded m (t .id) i life e l)
 
       pub call-retired : life .retired ≡ true → call (view m) t ≡ refuses Retired []
-      unfolding checked
-      call-retired y = call-found ∙ rw (marked ∙ y)
+      unfolding call checked view
+      call-retired y = rw ours (at-known m (t .id) i e _ ∙ rw (marked ∙ y))
 
       module _ (b : Bool) (f : life .retired ≡ false) (k : b ≡ liveOf life (t .generation) (t .revision) (t .argument)) where
         live : isLive (pluginAt m i) t ≡ b
@@ -189,12 +166,12 @@ module _ (m : List ℕ) (t : Invocation) (d : ℕ) (domain : d ≡ word m 0) whe
         live = ap (λ x. liveOf x (t .generation) (t .revision) (t .argument)) (loaded m (t .id) i life e l) ∙ sym k
 
         pub call-stale : b ≡ false → call (view m) t ≡ refuses Stale []
-        unfolding checked
-        call-stale n = call-found ∙ rw (live ∙ n, marked ∙ f)
+        unfolding call checked view
+        call-stale n = rw ours (at-known m (t .id) i e _ ∙ rw (live ∙ n, marked ∙ f))
 
-        call-spends : b ≡ true → call (view m) t ≡ spends t (pluginAt m i)
-        unfolding checked
-        call-spends y = call-found ∙ rw (live ∙ y, marked ∙ f)
+        call-spends : b ≡ true → call (view m) t ≡ stores (withRoot Spent (pluginAt m i)) (receipt t (pluginAt m i .payload))
+        unfolding call checked view
+        call-spends y = rw ours (at-known m (t .id) i e _ ∙ rw (live ∙ y, marked ∙ f))
 
         pub told-called : (l′ : Life) (m′ : List ℕ) → b ≡ true → l′ ≡ rootedLife Spent life → m′ ≡ putLife m (i % 32) l′
             → Meets storedLife (call (view m) t) m (Accepted (receipt t (life .payload))) m′

@@ -1,25 +1,25 @@
--- What ready and finish come to where the id is found in the words, and where it is not.
+-- What ready and finish come to where the id is found in the words and its life loaded.
 use Prim.Native.Nat.{ℕ, _+_, _*_, _%_}
 use mathlib.Core.Path.{_≡_, sym, ap, _∙_}
-use mathlib.Core.Bool.{Bool, true, false, not}
-use mathlib.Core.List.{List, [], _∷_, map}
+use mathlib.Core.Bool.{Bool, true, false}
+use mathlib.Core.List.{List, [], map}
 use mathlib.Core.Option.{none, some}
 use lib.ListN.{set}
 use Rattle.rules.specs.Basics.{any, isNone}
 use Rattle.rules.specs.Holds.{Provision, Plugin, withProvisions, withRoot}
 use Rattle.rules.specs.declared.Phase.{Phase}
 use Rattle.rules.specs.declared.Root.the-variants.{Unissued}
-use Rattle.rules.specs.Refusals.{Refusal, number, Unknown, Retired, InvalidState, NotRun, Missing}
+use Rattle.rules.specs.Refusals.{Refusal, number, Retired, InvalidState, NotRun, Missing}
 use Rattle.rules.specs.Ports.{pairs}
-use Rattle.rules.specs.Outcomes.{Refused, Accepted, Outcome, refuses, stores, _⇒_, checked, answerOf}
+use Rattle.rules.specs.Outcomes.{Refused, Accepted, Outcome, refuses, stores, checked, answerOf}
 use Rattle.rules.specs.Phases as rules
 use Rattle.memory.specs.Layout.{provPart}
 use Rattle.memory.specs.View.{lifeAt, pluginAt, view}
 use Rattle.memory.specs.Writes.{findAt, putLife}
 use Rattle.memory.specs.Frames.{withLife}
-use Rattle.memory.specs.Known.{at-place, at-id, at-known, none-known}
+use Rattle.memory.specs.Known.{at-place, at-id, at-known}
 use Rattle.memory.specs.declared.Life.{Life}
-use Rattle.memory.specs.declared.Place.the-variants.{At, Nowhere}
+use Rattle.memory.specs.declared.Place.the-variants.{At}
 use Rattle.memory_life.specs.Told.{life-found, generation-found}
 use Rattle.registry_steps.specs.Lives.{movedLife}
 use Rattle.ports.specs.declared.Found.{Found}
@@ -44,81 +44,49 @@ pub finished-refused : (o : Outcome) (m : List ℕ) (x : Refusal) → o ≡ refu
 unfolding finishedTo
 finished-refused o m x e = (rw e, rw e)
 
--- the outcomes, once the plugin is found
-abbrev pub readying : Plugin → Outcome
-readying p =
-    checked
-    ((p .retired ⇒ Retired)
-    ∷ (rules.stuck rules.Ready p ⇒ InvalidState)
-    ∷ (not (rules.isSpent (p .root)) ⇒ NotRun)
-    ∷ (lacks p ⇒ Missing)
-    ∷ [])
-    (stores (rules.moved rules.Ready p) [])
-
 -- a plugin at rest, without values
 abbrev pub rested : Plugin → Plugin
 rested p = rules.moved rules.Finish (withProvisions (map rules.dropped (p .provisions)) (withRoot Unissued p))
-
-abbrev pub finishing : Plugin → Outcome
-finishing p = checked ((rules.stuck rules.Finish p ⇒ InvalidState) ∷ []) (stores (rested p) [])
-
-module _ (m : List ℕ) (id : ℕ) (e : findAt m id ≡ Nowhere) where
-  pub ready-none : rules.ready (view m) id ≡ refuses Unknown []
-  unfolding rules.ready
-  ready-none = none-known m id e readying
-
-  pub finish-none : rules.finish (view m) id ≡ refuses Unknown []
-  unfolding rules.finish
-  finish-none = none-known m id e finishing
-
-module _ (m : List ℕ) (id i : ℕ) (e : findAt m id ≡ At i) where
-  pub ready-found : rules.ready (view m) id ≡ readying (pluginAt m i)
-  unfolding rules.ready
-  ready-found = at-known m id i e readying
-
-  pub finish-found : rules.finish (view m) id ≡ finishing (pluginAt m i)
-  unfolding rules.finish
-  finish-found = at-known m id i e finishing
 
 module _ (m : List ℕ) (id i : ℕ) (e : findAt m id ≡ At i) (l : Life) (h : l ≡ lifeAt m (i % 32)) where
   same : l ≡ lifeAt m i
   same = life-found m id i e l h
 
   pub ready-retired : l .retired ≡ true → rules.ready (view m) id ≡ refuses Retired []
-  unfolding checked pluginAt
-  ready-retired t = ready-found m id i e ∙ rw (← same) (rw t)
+  unfolding rules.ready checked pluginAt
+  ready-retired t = at-known m id i e _ ∙ rw (← same) (rw t)
 
   module _ (n : l .retired ≡ false) where
     pub ready-stuck : rules.cell (l .phase) rules.Ready ≡ none → rules.ready (view m) id ≡ refuses InvalidState []
-    unfolding checked pluginAt
-    ready-stuck f = ready-found m id i e ∙ rw (← same) (rw (n, f))
+    unfolding rules.ready checked pluginAt
+    ready-stuck f = at-known m id i e _ ∙ rw (← same) (rw (n, f))
 
     module _ (p : Phase) (f : rules.cell (l .phase) rules.Ready ≡ some p) (s : Bool) (g : s ≡ rules.isSpent (l .root)) where
       pub ready-not-run : s ≡ false → rules.ready (view m) id ≡ refuses NotRun []
-      unfolding checked pluginAt
-      ready-not-run z = ready-found m id i e ∙ rw (← same) (rw (n, f, sym g ∙ z))
+      unfolding rules.ready checked pluginAt
+      ready-not-run z = at-known m id i e _ ∙ rw (← same) (rw (n, f, sym g ∙ z))
 
       module _ (y : s ≡ true) where
         pub ready-lacks : lacks (pluginAt m (i % 32)) ≡ true → rules.ready (view m) id ≡ refuses Missing []
-        unfolding checked pluginAt
+        unfolding rules.ready checked pluginAt
         ready-lacks k =
             let k′ : lacks (pluginAt m i) ≡ true = sym (ap (λ j. lacks (pluginAt m j)) (at-place m id i e)) ∙ k in
-            ready-found m id i e ∙ rw (← same) (rw (n, f, sym g ∙ y, k′))
+            at-known m id i e _ ∙ rw (← same) (rw (n, f, sym g ∙ y, k′))
 
         pub ready-moves : lacks (pluginAt m (i % 32)) ≡ false → rules.ready (view m) id ≡ stores (withLife (pluginAt m i) (movedLife l p)) []
-        unfolding checked pluginAt
+        unfolding rules.ready checked pluginAt
         ready-moves k =
             let k′ : lacks (pluginAt m i) ≡ false = sym (ap (λ j. lacks (pluginAt m j)) (at-place m id i e)) ∙ k in
-            ready-found m id i e ∙ rw (← same) (rw (n, f, sym g ∙ y, k′, generation-found m id i e l h))
+            at-known m id i e _ ∙ rw (← same) (rw (n, f, sym g ∙ y, k′, generation-found m id i e l h))
 
   pub finish-stuck : rules.cell (l .phase) rules.Finish ≡ none → rules.finish (view m) id ≡ refuses InvalidState []
-  unfolding checked pluginAt
-  finish-stuck f = finish-found m id i e ∙ rw (← same) (rw f)
+  unfolding rules.finish checked pluginAt
+  finish-stuck f = at-known m id i e _ ∙ rw (← same) (rw f)
 
   module _ (p : Phase) (f : rules.cell (l .phase) rules.Finish ≡ some p) where
     pub finish-rests : rules.finish (view m) id ≡ stores (rested (pluginAt m i)) []
-    unfolding checked pluginAt
-    finish-rests = finish-found m id i e ∙ rw (← same) (rw f)
+    unfolding rules.finish checked pluginAt
+    finish-rests = at-known m id i e _ ∙ rw (← same) (rw f)
 
     pub finish-told : (l′ : Life) → l′ ≡ restedLife l p → (m′ : List ℕ) → m′ ≡ putLife m (i % 32) l′ → (m″ : List ℕ) → m″ ≡ set m′ (i % 32 * 72 + 23) 0
         → (Accepted [] ≡ answerOf (rules.finish (view m) id)) × (m″ ≡ finishedTo m (rules.finish (view m) id))

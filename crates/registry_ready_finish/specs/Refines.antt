@@ -1,16 +1,15 @@
--- Of dense words, the registry after ready or finish is the rules', and the words are dense again.
+-- Of dense words, the registry after a finish is the rules', and the words are dense again.
 use Prim.Native.Nat.{ℕ, _+_, _*_}
 use native.Mathlib.Omega.{arith}
 use mathlib.Core.Path.{_≡_, refl, sym, ap, _∙_}
 use mathlib.Core.Logic.{_≢_}
-use mathlib.Core.Bool.{not}
-use mathlib.Core.List.{List, [], _∷_, map}
+use mathlib.Core.List.{List, [], map}
 use lib.ListN.{length, set, length-set}
 use lib.Seq.{getD-set-other}
 use Rattle.rules.specs.Basics.{orElse}
 use Rattle.rules.specs.Holds.{Plugin, withProvisions}
-use Rattle.rules.specs.Refusals.{Refusal, Unknown, Retired, InvalidState, NotRun, Missing}
-use Rattle.rules.specs.Outcomes.{Outcome, refuses, stores, _⇒_, after}
+use Rattle.rules.specs.Refusals.{Refusal, Unknown}
+use Rattle.rules.specs.Outcomes.{Outcome, refuses, stores, after}
 use Rattle.rules.specs.Phases as rules
 use Rattle.rules.specs.Laws.Tests.{checked-elim}
 use Rattle.memory.specs.Layout.{word, taken}
@@ -18,35 +17,16 @@ use Rattle.memory.specs.View.{lifeAt, pluginAt, view}
 use Rattle.memory.specs.Writes.{findAt, putLife}
 use Rattle.memory.specs.Frames.{life-length, life-before}
 use Rattle.memory.specs.Stores.{plugin-put, plugin-other}
-use Rattle.memory.specs.Known.{at-below, at-taken, at-id, storedLife}
+use Rattle.memory.specs.Known.{at-below, at-taken, at-id}
 use Rattle.memory.specs.declared.Life.{Life}
-use Rattle.memory.specs.declared.Place.{Place}
-use Rattle.memory.specs.declared.Place.the-variants.{At, Nowhere}
+use Rattle.memory.specs.declared.Place.the-variants.{At}
 use Rattle.memory_rows.specs.Dense.{Dense, Refines}
-use Rattle.memory_rows.specs.Stored.{same-dense, life-dense, changed-view, Stored, stored-refused, stored-life}
+use Rattle.memory_rows.specs.Stored.{same-dense, life-dense, changed-view, known-elim}
 use Rattle.memory_values.specs.After.{drop-taken, drop-elsewhere, drop-plugin}
-use Rattle.registry_steps.specs.Lives.{movedLife}
 use Rattle.registry_ready_finish.specs.Finished.{restedLife, finishedTo}
-use Rattle.registry_ready_finish.specs.Laws.{lacks, rested, ready-none, ready-found, finish-none, finish-found}
+use Rattle.registry_ready_finish.specs.Laws.{rested}
 
 module _ (m : List ℕ) (d : Dense m) where
-  pub ready-refines : (id : ℕ) → Refines m (storedLife m (rules.ready (view m) id)) (rules.ready (view m) id)
-  unfolding pluginAt
-  ready-refines id = go (findAt m id) refl
-    where
-      go : (p : Place) → findAt m id ≡ p → Stored m d (rules.ready (view m) id)
-      go Nowhere e = rw (ready-none m id e) (stored-refused m d Unknown [])
-      go (At i) e =
-          let l = lifeAt m i in
-          rw (ready-found m id i e)
-          (checked-elim (Stored m d)
-          ((l .retired ⇒ Retired)
-          ∷ (rules.stuck rules.Ready (pluginAt m i) ⇒ InvalidState)
-          ∷ (not (rules.isSpent (l .root)) ⇒ NotRun)
-          ∷ (lacks (pluginAt m i) ⇒ Missing)
-          ∷ [])
-          _ (λ x. stored-refused m d x []) (λ h. stored-life m d id i e (movedLife l (orElse (rules.cell (l .phase) rules.Ready) (l .phase))) []))
-
   abbrev Finished : Outcome → Type 0
   Finished o = Refines m (finishedTo m o) o
 
@@ -111,10 +91,5 @@ module _ (m : List ℕ) (d : Dense m) where
   finished-refused x = record { registry = refl; dense = d }
 
   pub finish-refines : (id : ℕ) → Refines m (finishedTo m (rules.finish (view m) id)) (rules.finish (view m) id)
-  finish-refines id = go (findAt m id) refl
-    where
-      go : (p : Place) → findAt m id ≡ p → Finished (rules.finish (view m) id)
-      go Nowhere e = rw (finish-none m id e) (finished-refused Unknown)
-      go (At i) e = rw (finish-found m id i e)
-          (checked-elim Finished ((rules.stuck rules.Finish (pluginAt m i) ⇒ InvalidState) ∷ []) (stores (rested (pluginAt m i)) [])
-          finished-refused (λ h. finished id i e))
+  unfolding rules.finish
+  finish-refines id = known-elim m Finished id _ (finished-refused Unknown) λ i e. checked-elim Finished _ _ finished-refused λ h. finished id i e

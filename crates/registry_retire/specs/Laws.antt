@@ -4,19 +4,18 @@ use native.Mathlib.Omega.{arith}
 use mathlib.Core.Path.{_≡_, sym, ap, _∙_}
 use mathlib.Core.Logic.{_≢_}
 use mathlib.Core.Bool.{Bool, true, false}
-use mathlib.Core.List.{List, [], _∷_}
+use mathlib.Core.List.{List, []}
 use mathlib.Core.Option.{some}
 use lib.Dec.{eqb, ltb}
 use borrow.Author.Tests.{lt-ltb, le-ltb, le-leb, lt-leb, eq-eqb, ne-eqb}
 use Rattle.rules.specs.Basics.{holds}
-use Rattle.rules.specs.Holds.{Plugin, withRetired, lookup}
+use Rattle.rules.specs.Holds.{lookup}
 use Rattle.rules.specs.Refusals.{Unknown, Retired, InvalidState}
-use Rattle.rules.specs.Outcomes.{Refused, Accepted, Outcome, refuses, answers, stores, _⇒_, checked, answerOf}
+use Rattle.rules.specs.Outcomes.{Refused, Accepted, Outcome, refuses, answers, checked, answerOf}
 use Rattle.rules.specs.Retirement.{Identity, isChildOf, retire, retireFound, retireChild, identity, childIdentity}
 use Rattle.memory.specs.Layout.{word}
 use Rattle.memory.specs.View.{parentAt, lifeAt, pluginAt, view}
 use Rattle.memory.specs.Writes.{parentId, findAt, putLife}
-use Rattle.memory.specs.Frames.{withLife}
 use Rattle.memory.specs.Known.{at-place, at-lookup, at-known, none-lookup, none-known, storedLife}
 use Rattle.memory.specs.declared.Life.{Life}
 use Rattle.memory.specs.declared.Parent.{Parent}
@@ -27,40 +26,19 @@ use Rattle.registry_retire.specs.Answers.{childAnswer}
 use Rattle.registry_retire.specs.Marks.{markedLife}
 use Rattle.registry_retire.specs.declared.Child.the-variants as child
 
--- what retiring comes to once the plugin is found
-abbrev pub mark : Plugin → Outcome
-mark p = checked ((p .retired ⇒ Retired) ∷ []) (stores (withRetired true p) [])
-
-module _ (m : List ℕ) (i : ℕ) where
-  pub mark-retired : lifeAt m i .retired ≡ true → mark (pluginAt m i) ≡ refuses Retired []
-  unfolding checked pluginAt
-  mark-retired t = rw t
-
-  pub mark-stores : lifeAt m i .retired ≡ false → mark (pluginAt m i) ≡ stores (withLife (pluginAt m i) (markedLife (lifeAt m i))) []
-  unfolding checked pluginAt
-  mark-stores f = rw f
-
--- a plugin found, its life loaded, and perhaps a marked one stored
-module _ (m : List ℕ) (id i : ℕ) (o : Outcome) (life : Life) (e : findAt m id ≡ At i) (g : o ≡ mark (pluginAt m i)) (l : life ≡ lifeAt m (i % 32)) where
+-- A plugin found, its life loaded, and perhaps a marked one stored: retired by id, or by what comes to the same.
+module _ (m : List ℕ) (id i : ℕ) (o : Outcome) (life : Life) (e : findAt m id ≡ At i) (g : o ≡ retire (view m) id) (l : life ≡ lifeAt m (i % 32)) where
   loaded : life ≡ lifeAt m i
   loaded = life-found m id i e life l
 
   pub told-retired : life .retired ≡ true → Meets storedLife o m (Refused 2 []) m
-  told-retired t = told-refused o m Retired [] (g ∙ mark-retired m i (rw loaded at t))
+  unfolding retire checked pluginAt
+  told-retired t = told-refused o m Retired [] (g ∙ at-known m id i e _ ∙ rw (rw loaded at t))
 
   pub told-marked : (l′ : Life) (m′ : List ℕ) → life .retired ≡ false → l′ ≡ markedLife life → m′ ≡ putLife m (i % 32) l′ → Meets storedLife o m (Accepted []) m′
+  unfolding retire checked pluginAt
   told-marked l′ m′ f s p =
-      let k : o ≡ stores (withLife (pluginAt m i) (markedLife (lifeAt m i))) [] = g ∙ mark-stores m i (rw loaded at f) in
-      told-stored o m id i [] (markedLife (lifeAt m i)) m′ e k (p ∙ ap (putLife m (i % 32)) (s ∙ ap markedLife loaded))
-
--- by id
-pub retire-none : (m : List ℕ) (id : ℕ) → findAt m id ≡ Nowhere → retire (view m) id ≡ refuses Unknown []
-unfolding retire
-retire-none m id e = none-known m id e mark
-
-pub retire-found : (m : List ℕ) (id i : ℕ) → findAt m id ≡ At i → retire (view m) id ≡ mark (pluginAt m i)
-unfolding retire
-retire-found m id i e = at-known m id i e mark
+      told-stored o m id i [] (markedLife (lifeAt m i)) m′ e (g ∙ at-known m id i e _ ∙ rw (rw loaded at f)) (p ∙ ap (putLife m (i % 32)) (s ∙ ap markedLife loaded))
 
 -- by child identity, over the header's words as they were read
 module _ (m : List ℕ) (c : Identity) (d : ℕ) (domain : d ≡ word m 0) where
@@ -104,9 +82,9 @@ module _ (m : List ℕ) (c : Identity) (d : ℕ) (domain : d ≡ word m 0) where
           unfolding checked
           child-other k = child-there ∙ rw (tested ∙ k)
 
-          pub child-marks : b ≡ true → retireChild (view m) c ≡ mark (pluginAt m i)
-          unfolding checked
-          child-marks y = child-there ∙ rw (tested ∙ y)
+          pub child-own : b ≡ true → retireChild (view m) c ≡ retire (view m) (c .id)
+          unfolding checked retire
+          child-own y = rw child-there (rw (tested ∙ y) (sym (at-known m (c .id) i e _)))
 
 -- asking a child identity
 module _ (m : List ℕ) (id : ℕ) where

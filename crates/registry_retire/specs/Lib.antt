@@ -1,4 +1,3 @@
 pub mod Answers
 pub mod Marks
 pub mod Laws
-pub mod Refines

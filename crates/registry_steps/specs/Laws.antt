@@ -1,73 +1,28 @@
--- What each step of the rules comes to where the id is found in the words, and where it is not.
-use Prim.Native.Nat.{ℕ, _+_, _%_}
+-- What each step of the rules comes to where the id is found in the words and its life loaded.
+use Prim.Native.Nat.{ℕ, _%_}
 use mathlib.Core.Path.{_≡_, sym, ap, _∙_}
 use mathlib.Core.Logic.{_≢_}
-use mathlib.Core.Bool.{Bool, true, false, not}
+use mathlib.Core.Bool.{Bool, true, false}
 use mathlib.Core.List.{List, [], _∷_}
 use mathlib.Core.Option.{Option, none, some}
 use lib.Dec.{eqb}
 use borrow.Author.Tests.{eq-eqb, ne-eqb}
 use Rattle.rules.specs.Basics.{all, last}
-use Rattle.rules.specs.Holds.{Plugin, withGeneration, withRoot}
 use Rattle.rules.specs.Generations.{nextGeneration}
-use Rattle.rules.specs.declared.Root.the-variants.{Unissued}
 use Rattle.rules.specs.declared.Phase.{Phase}
-use Rattle.rules.specs.Refusals.{Unknown, Retired, InvalidState, Exhausted, Unavailable, InUse}
-use Rattle.rules.specs.Outcomes.{Accepted, Outcome, refuses, stores, _⇒_, checked}
+use Rattle.rules.specs.Refusals.{Retired, InvalidState, Exhausted, Unavailable, InUse}
+use Rattle.rules.specs.Outcomes.{Accepted, refuses, stores, checked}
 use Rattle.rules.specs.Ports.{pairs}
 use Rattle.rules.specs.Phases as rules
 use Rattle.memory.specs.Layout.{word, depPart}
 use Rattle.memory.specs.View.{lifeAt, pluginAt, view}
 use Rattle.memory.specs.Writes.{findAt, putLife}
 use Rattle.memory.specs.Frames.{withLife}
-use Rattle.memory.specs.Known.{at-place, at-known, none-known, storedLife}
+use Rattle.memory.specs.Known.{at-place, at-known, storedLife}
 use Rattle.memory.specs.declared.Life.{Life}
-use Rattle.memory.specs.declared.Place.the-variants.{At, Nowhere}
+use Rattle.memory.specs.declared.Place.the-variants.{At}
 use Rattle.memory_life.specs.Told.{Meets, life-found, generation-found, told-stored}
 use Rattle.registry_steps.specs.Lives.{movedLife, begunLife}
-
--- the outcomes, once the plugin is found
-abbrev pub failing : Plugin → Outcome
-failing p = checked ((rules.stuck rules.Fail p ⇒ InvalidState) ∷ []) (stores (rules.moved rules.Fail p) [])
-
-abbrev pub unloading : List ℕ → Plugin → Outcome
-unloading m p = checked ((rules.stuck rules.Unload p ⇒ InvalidState) ∷ (rules.inUse (view m) p ⇒ InUse) ∷ []) (stores (rules.moved rules.Unload p) [])
-
-abbrev pub beginning : List ℕ → ℕ → Plugin → Outcome
-beginning m id p =
-    checked
-    ((p .retired ⇒ Retired)
-    ∷ (rules.stuck rules.Begin p ⇒ InvalidState)
-    ∷ (eqb (p .generation) last ⇒ Exhausted)
-    ∷ (not (all (rules.available (view m)) (p .dependencies)) ⇒ Unavailable)
-    ∷ [])
-    (stores (rules.moved rules.Begin (withGeneration (p .generation + 1) (withRoot Unissued p))) (view m .domain ∷ id ∷ (p .generation + 1) ∷ rules.setup ∷ []))
-
-module _ (m : List ℕ) (id : ℕ) (e : findAt m id ≡ Nowhere) where
-  pub fail-none : rules.fail (view m) id ≡ refuses Unknown []
-  unfolding rules.fail
-  fail-none = none-known m id e failing
-
-  pub unload-none : rules.unload (view m) id ≡ refuses Unknown []
-  unfolding rules.unload
-  unload-none = none-known m id e (unloading m)
-
-  pub begin-none : rules.begin (view m) id ≡ refuses Unknown []
-  unfolding rules.begin
-  begin-none = none-known m id e (beginning m id)
-
-module _ (m : List ℕ) (id i : ℕ) (e : findAt m id ≡ At i) where
-  pub fail-found : rules.fail (view m) id ≡ failing (pluginAt m i)
-  unfolding rules.fail
-  fail-found = at-known m id i e failing
-
-  pub unload-found : rules.unload (view m) id ≡ unloading m (pluginAt m i)
-  unfolding rules.unload
-  unload-found = at-known m id i e (unloading m)
-
-  pub begin-found : rules.begin (view m) id ≡ beginning m id (pluginAt m i)
-  unfolding rules.begin
-  begin-found = at-known m id i e (beginning m id)
 
 module _ (m : List ℕ) (id i : ℕ) (e : findAt m id ≡ At i) (l : Life) (h : l ≡ lifeAt m (i % 32)) where
   same : l ≡ lifeAt m i
@@ -79,45 +34,45 @@ module _ (m : List ℕ) (id i : ℕ) (e : findAt m id ≡ At i) (l : Life) (h : 
   at-phase s c f = sym (ap (λ (x : Life). rules.cell (x .phase) s) same) ∙ f
 
   pub fail-stuck : rules.cell (l .phase) rules.Fail ≡ none → rules.fail (view m) id ≡ refuses InvalidState []
-  unfolding checked
-  fail-stuck f = fail-found m id i e ∙ rw (at-phase rules.Fail none f)
+  unfolding rules.fail checked
+  fail-stuck f = at-known m id i e _ ∙ rw (at-phase rules.Fail none f)
 
   pub fail-moves : (p : Phase) → rules.cell (l .phase) rules.Fail ≡ some p → rules.fail (view m) id ≡ stores (withLife (pluginAt m i) (movedLife l p)) []
-  unfolding checked pluginAt
-  fail-moves p f = fail-found m id i e ∙ rw (at-phase rules.Fail (some p) f) (rw same)
+  unfolding rules.fail checked pluginAt
+  fail-moves p f = at-known m id i e _ ∙ rw (at-phase rules.Fail (some p) f) (rw same)
 
   pub unload-stuck : rules.cell (l .phase) rules.Unload ≡ none → rules.unload (view m) id ≡ refuses InvalidState []
-  unfolding checked
-  unload-stuck f = unload-found m id i e ∙ rw (at-phase rules.Unload none f)
+  unfolding rules.unload checked
+  unload-stuck f = at-known m id i e _ ∙ rw (at-phase rules.Unload none f)
 
   module _ (p : Phase) (f : rules.cell (l .phase) rules.Unload ≡ some p) (b : Bool) (u : b ≡ rules.inUse (view m) (pluginAt m (i % 32))) where
     used : rules.inUse (view m) (pluginAt m i) ≡ b
     used = sym (u ∙ ap (λ k. rules.inUse (view m) (pluginAt m k)) (at-place m id i e))
 
     pub unload-used : b ≡ true → rules.unload (view m) id ≡ refuses InUse []
-    unfolding checked
-    unload-used t = unload-found m id i e ∙ rw (at-phase rules.Unload (some p) f, used ∙ t)
+    unfolding rules.unload checked
+    unload-used t = at-known m id i e _ ∙ rw (at-phase rules.Unload (some p) f, used ∙ t)
 
     pub unload-moves : b ≡ false → rules.unload (view m) id ≡ stores (withLife (pluginAt m i) (movedLife l p)) []
-    unfolding checked pluginAt
-    unload-moves n = unload-found m id i e ∙ rw (at-phase rules.Unload (some p) f, used ∙ n) (rw same)
+    unfolding rules.unload checked pluginAt
+    unload-moves n = at-known m id i e _ ∙ rw (at-phase rules.Unload (some p) f, used ∙ n) (rw same)
 
   of-generation : pluginAt m i .generation ≡ l .generation .0
   of-generation = generation-found m id i e l h
 
   pub begin-retired : l .retired ≡ true → rules.begin (view m) id ≡ refuses Retired []
-  unfolding checked pluginAt
-  begin-retired t = begin-found m id i e ∙ rw (← same) (rw t)
+  unfolding rules.begin checked pluginAt
+  begin-retired t = at-known m id i e _ ∙ rw (← same) (rw t)
 
   module _ (n : l .retired ≡ false) where
     pub begin-stuck : rules.cell (l .phase) rules.Begin ≡ none → rules.begin (view m) id ≡ refuses InvalidState []
-    unfolding checked pluginAt
-    begin-stuck f = begin-found m id i e ∙ rw (← same) (rw (n, f))
+    unfolding rules.begin checked pluginAt
+    begin-stuck f = at-known m id i e _ ∙ rw (← same) (rw (n, f))
 
     module _ (p : Phase) (f : rules.cell (l .phase) rules.Begin ≡ some p) where
       pub begin-last : l .generation .0 ≡ last → rules.begin (view m) id ≡ refuses Exhausted []
-      unfolding checked pluginAt
-      begin-last g = begin-found m id i e ∙ rw (← same) (rw (n, f, eq-eqb (pluginAt m i .generation) last (of-generation ∙ g)))
+      unfolding rules.begin checked pluginAt
+      begin-last g = at-known m id i e _ ∙ rw (← same) (rw (n, f, eq-eqb (pluginAt m i .generation) last (of-generation ∙ g)))
 
       module _ (g : l .generation .0 ≢ last) (ws : List ℕ) (d : ws ≡ depPart m (i % 32)) (b : Bool) (u : b ≡ all (rules.available (view m)) (pairs ws)) where
         not-last : eqb (pluginAt m i .generation) last ≡ false
@@ -127,12 +82,12 @@ module _ (m : List ℕ) (id i : ℕ) (e : findAt m id ≡ At i) (l : Life) (h : 
         ready-for = sym (u ∙ ap (λ x. all (rules.available (view m)) (pairs x)) (d ∙ ap (depPart m) (at-place m id i e)))
 
         pub begin-lacks : b ≡ false → rules.begin (view m) id ≡ refuses Unavailable []
-        unfolding checked pluginAt
-        begin-lacks z = begin-found m id i e ∙ rw (← same) (rw (n, f, not-last, ready-for ∙ z))
+        unfolding rules.begin checked pluginAt
+        begin-lacks z = at-known m id i e _ ∙ rw (← same) (rw (n, f, not-last, ready-for ∙ z))
 
         pub begin-moves : b ≡ true → rules.begin (view m) id ≡ stores (withLife (pluginAt m i) (begunLife l p)) (word m 0 ∷ id ∷ nextGeneration (l .generation) .0 ∷ 1 ∷ [])
-        unfolding checked pluginAt view
-        begin-moves y = begin-found m id i e ∙ rw (← same) (rw (n, f, not-last, ready-for ∙ y, of-generation, ne-eqb (l .generation .0) last g))
+        unfolding rules.begin checked pluginAt view
+        begin-moves y = at-known m id i e _ ∙ rw (← same) (rw (n, f, not-last, ready-for ∙ y, of-generation, ne-eqb (l .generation .0) last g))
 
         pub begin-told : b ≡ true → (dm : ℕ) → dm ≡ word m 0 → (l′ : Life) → l′ ≡ begunLife l p → (m′ : List ℕ) → m′ ≡ putLife m (i % 32) l′
             → Meets storedLife (rules.begin (view m) id) m (Accepted (dm ∷ id ∷ l′ .generation .0 ∷ 1 ∷ [])) m′

@@ -1,3 +1,2 @@
 pub mod Lives
 pub mod Laws
-pub mod Refines

@@ -8,6 +8,7 @@ pub mod Providers
 pub mod Moves
 pub mod New
 pub mod Ids
+pub mod Reach
 pub mod Operations
 use Prim.Native.Nat.{ℕ, _≤_}
 use native.Mathlib.Omega.{arith}

@@ -1,9 +1,10 @@
 -- `finish` meets its contract: each return is a case of the rule.
 use mathlib.Core.Path.{sym, _∙_}
 use Rattle.rules.specs.Refusals.{Unknown, InvalidState}
-use Rattle.rules.specs.Phases.{cell, Finish}
+use Rattle.rules.specs.Phases as rules
+use Rattle.memory.specs.Known.{none-known}
 use Rattle.registry_table.specs.Table.{cell-to, cell-empty}
-use Rattle.registry_ready_finish.specs.Laws.{finished-refused, finish-none, finish-stuck, finish-told}
+use Rattle.registry_ready_finish.specs.Laws.{finished-refused, finish-stuck, finish-told}
 use borrow.Author.Needs.{needs}
 use Rattle.registry_ready_finish.proofs.finish.Statement.{statement}
 use Rattle.registry_ready_finish.proofs.finish.Tie as tie
@@ -18,7 +19,8 @@ enum-told : tie.Need-enum-told
 enum-told c = search needs
 
 returns : tie.Need-returns
-returns c = finished-refused _ _ Unknown (finish-none _ _ (sym (c .before .before .find .ensures) ∙ c .enum-told .given .1))
+unfolding rules.finish
+returns c = finished-refused _ _ Unknown (none-known _ _ (sym (c .before .before .find .ensures) ∙ c .enum-told .given .1) _)
 
 load-requires : tie.Need-load-requires
 load-requires c κs = search needs
@@ -38,7 +40,7 @@ returns-2 c =
     let l = n .before in
     let a = l .before .before .before in
     let e = sym (a .before .before .find .ensures) ∙ a .at .given .1 in
-    finished-refused _ _ InvalidState (finish-stuck _ _ _ e _ (l .load .ensures) (cell-empty (cell (l .load .result .phase) Finish) _ (n .next .ensures) (c .enum-told2 .given .1)))
+    finished-refused _ _ InvalidState (finish-stuck _ _ _ e _ (l .load .ensures) (cell-empty (rules.cell (l .load .result .phase) rules.Finish) _ (n .next .ensures) (c .enum-told2 .given .1)))
 
 at-rest-requires : tie.Need-at-rest-requires
 at-rest-requires c κs = search needs
@@ -57,7 +59,7 @@ returns-3 c =
     let l = n .before in
     let a = l .before .before .before in
     let e = sym (a .before .before .find .ensures) ∙ a .at .given .1 in
-    let f = cell-to (cell (l .load .result .phase) Finish) _ _ (n .next .ensures) (k .next2 .given .1) in
+    let f = cell-to (rules.cell (l .load .result .phase) rules.Finish) _ _ (n .next .ensures) (k .next2 .given .1) in
     finish-told _ _ _ e _ (l .load .ensures) _ f _ (s .before .at-rest .ensures) _ (s .store .ensures) _ (c .drop-values .ensures)
 
 pub finish-spec : {M : Type 1} → statement M

@@ -2,11 +2,12 @@
 use mathlib.Core.Path.{sym, ap, _∙_}
 use mathlib.Core.List.{[]}
 use Rattle.rules.specs.Refusals.{Unknown, Retired, InvalidState, NotRun, Missing}
-use Rattle.rules.specs.Phases.{cell, Ready}
+use Rattle.rules.specs.Phases as rules
+use Rattle.memory.specs.Known.{none-known}
 use Rattle.memory.specs.Writes.{putLife}
 use Rattle.memory_life.specs.Told.{told-refused, told-stored}
 use Rattle.registry_table.specs.Table.{cell-to, cell-empty}
-use Rattle.registry_ready_finish.specs.Laws.{ready-none, ready-retired, ready-stuck, ready-not-run, ready-lacks, ready-moves, lacks-one, lacks-none}
+use Rattle.registry_ready_finish.specs.Laws.{ready-retired, ready-stuck, ready-not-run, ready-lacks, ready-moves, lacks-one, lacks-none}
 use borrow.Author.Needs.{needs}
 use Rattle.registry_ready_finish.proofs.ready.Statement.{statement}
 use Rattle.registry_ready_finish.proofs.ready.Tie as tie
@@ -21,7 +22,8 @@ enum-told : tie.Need-enum-told
 enum-told c = search needs
 
 returns : tie.Need-returns
-returns c = told-refused _ _ Unknown [] (ready-none _ _ (sym (c .before .before .find .ensures) ∙ c .enum-told .given .1))
+unfolding rules.ready
+returns c = told-refused _ _ Unknown [] (none-known _ _ (sym (c .before .before .find .ensures) ∙ c .enum-told .given .1) _)
 
 load-requires : tie.Need-load-requires
 load-requires c κs = search needs
@@ -49,7 +51,7 @@ returns-3 c =
     let l = r .before in
     let a = l .before .before .before in
     let e = sym (a .before .before .find .ensures) ∙ a .at .given .1 in
-    told-refused _ _ InvalidState [] (ready-stuck _ _ _ e _ (l .load .ensures) (r .if1 .left) (cell-empty (cell (l .load .result .phase) Ready) _ (n .next .ensures) (c .enum-told2 .given .1)))
+    told-refused _ _ InvalidState [] (ready-stuck _ _ _ e _ (l .load .ensures) (r .if1 .left) (cell-empty (rules.cell (l .load .result .phase) rules.Ready) _ (n .next .ensures) (c .enum-told2 .given .1)))
 
 is-spent-requires : tie.Need-is-spent-requires
 is-spent-requires c κs = search needs
@@ -81,7 +83,7 @@ returns-4 c =
     let l = r .before in
     let a = l .before .before .before in
     let e = sym (a .before .before .find .ensures) ∙ a .at .given .1 in
-    let f = cell-to (cell (l .load .result .phase) Ready) _ _ (n .next .ensures) (k .next2 .given .1) in
+    let f = cell-to (rules.cell (l .load .result .phase) rules.Ready) _ _ (n .next .ensures) (k .next2 .given .1) in
     let x = lacks-none _ _ _ (w .first-lacking .ensures) (t .enum-told4 .given .1) in
     told-stored _ _ _ _ [] _ _ e (ready-moves _ _ _ e _ (l .load .ensures) (r .if1 .left) _ f _ (sp .is-spent .ensures) (y .if2 .taken) x) (c .store .ensures ∙ ap (putLife _ _) (c .before .with-phase .ensures))
 
@@ -96,7 +98,7 @@ returns-5 c =
     let l = r .before in
     let a = l .before .before .before in
     let e = sym (a .before .before .find .ensures) ∙ a .at .given .1 in
-    let f = cell-to (cell (l .load .result .phase) Ready) _ _ (n .next .ensures) (k .next2 .given .1) in
+    let f = cell-to (rules.cell (l .load .result .phase) rules.Ready) _ _ (n .next .ensures) (k .next2 .given .1) in
     let x = lacks-one _ _ _ (w .first-lacking .ensures) _ (c .enum-told3 .given .1) in
     told-refused _ _ Missing [] (ready-lacks _ _ _ e _ (l .load .ensures) (r .if1 .left) _ f _ (sp .is-spent .ensures) (y .if2 .taken) x)
 
@@ -110,7 +112,7 @@ returns-6 c =
     let l = r .before in
     let a = l .before .before .before in
     let e = sym (a .before .before .find .ensures) ∙ a .at .given .1 in
-    let f = cell-to (cell (l .load .result .phase) Ready) _ _ (n .next .ensures) (k .next2 .given .1) in
+    let f = cell-to (rules.cell (l .load .result .phase) rules.Ready) _ _ (n .next .ensures) (k .next2 .given .1) in
     told-refused _ _ NotRun [] (ready-not-run _ _ _ e _ (l .load .ensures) (r .if1 .left) _ f _ (sp .is-spent .ensures) (c .if2 .left))
 
 pub ready-spec : {M : Type 1} → statement M

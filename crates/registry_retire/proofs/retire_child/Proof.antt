@@ -3,7 +3,7 @@ use mathlib.Core.Path.{sym, _∙_}
 use Rattle.rules.specs.Refusals.{Unknown, InvalidState}
 use mathlib.Core.List.{[]}
 use Rattle.memory_life.specs.Told.{told-refused, told-same}
-use Rattle.registry_retire.specs.Laws.{told-retired, told-marked, child-foreign, child-below, child-above, child-gone, child-other, child-marks}
+use Rattle.registry_retire.specs.Laws.{told-retired, told-marked, child-foreign, child-below, child-above, child-gone, child-other, child-own}
 use native.Mathlib.Omega.{arith}
 use borrow.Author.Needs.{needs}
 use Rattle.registry_retire.proofs.retire_child.Statement.{statement}
@@ -64,7 +64,7 @@ returns-5 c =
     let p = n .before .before .before in
     let s = p .before .before .before in
     let e = sym (f .find .ensures) ∙ a .child .given .1 in
-    told-retired _ _ _ _ _ e (child-marks _ _ _ (s .before .domain .ensures) _ (s .if1 .left) (p .before .first-id .ensures) _ (p .if2 .left) (n .before .next-id .ensures) (n .if3 .left) _ _ e (t .before .is-child-of .ensures) (t .if4 .taken)) (c .before .load .ensures) (c .if5 .taken)
+    told-retired _ _ _ _ _ e (child-own _ _ _ (s .before .domain .ensures) _ (s .if1 .left) (p .before .first-id .ensures) _ (p .if2 .left) (n .before .next-id .ensures) (n .if3 .left) _ _ e (t .before .is-child-of .ensures) (t .if4 .taken)) (c .before .load .ensures) (c .if5 .taken)
 
 marked-requires : tie.Need-marked-requires
 marked-requires c κs = search needs
@@ -82,7 +82,7 @@ returns-6 c =
     let p = n .before .before .before in
     let s = p .before .before .before in
     let e = sym (f .find .ensures) ∙ a .child .given .1 in
-    told-marked _ _ _ _ _ e (child-marks _ _ _ (s .before .domain .ensures) _ (s .if1 .left) (p .before .first-id .ensures) _ (p .if2 .left) (n .before .next-id .ensures) (n .if3 .left) _ _ e (t .before .is-child-of .ensures) (t .if4 .taken)) (w .before .load .ensures) _ _ (w .if5 .left) (c .before .marked .ensures) (c .store .ensures)
+    told-marked _ _ _ _ _ e (child-own _ _ _ (s .before .domain .ensures) _ (s .if1 .left) (p .before .first-id .ensures) _ (p .if2 .left) (n .before .next-id .ensures) (n .if3 .left) _ _ e (t .before .is-child-of .ensures) (t .if4 .taken)) (w .before .load .ensures) _ _ (w .if5 .left) (c .before .marked .ensures) (c .store .ensures)
 
 returns-7 : tie.Need-returns-7
 returns-7 c =

@@ -2,10 +2,11 @@
 use mathlib.Core.Path.{sym, _∙_}
 use mathlib.Core.List.{[]}
 use Rattle.rules.specs.Refusals.{Unknown, Retired, InvalidState, Exhausted, Unavailable}
-use Rattle.rules.specs.Phases.{cell, Begin}
+use Rattle.rules.specs.Phases as rules
+use Rattle.memory.specs.Known.{none-known}
 use Rattle.memory_life.specs.Told.{told-refused}
 use Rattle.registry_table.specs.Table.{cell-to, cell-empty}
-use Rattle.registry_steps.specs.Laws.{begin-none, begin-retired, begin-stuck, begin-last, begin-lacks, begin-told}
+use Rattle.registry_steps.specs.Laws.{begin-retired, begin-stuck, begin-last, begin-lacks, begin-told}
 use borrow.Author.Needs.{needs}
 use Rattle.registry_steps.proofs.begin.Statement.{statement}
 use Rattle.registry_steps.proofs.begin.Tie as tie
@@ -20,7 +21,8 @@ enum-told : tie.Need-enum-told
 enum-told c = search needs
 
 returns : tie.Need-returns
-returns c = told-refused _ _ Unknown [] (begin-none _ _ (sym (c .before .before .find .ensures) ∙ c .enum-told .given .1))
+unfolding rules.begin
+returns c = told-refused _ _ Unknown [] (none-known _ _ (sym (c .before .before .find .ensures) ∙ c .enum-told .given .1) _)
 
 load-requires : tie.Need-load-requires
 load-requires c κs = search needs
@@ -48,7 +50,7 @@ returns-3 c =
     let l = r .before in
     let a = l .before .before .before in
     let e = sym (a .before .before .find .ensures) ∙ a .at .given .1 in
-    told-refused _ _ InvalidState [] (begin-stuck _ _ _ e _ (l .load .ensures) (r .if1 .left) (cell-empty (cell (l .load .result .phase) Begin) _ (n .next .ensures) (c .enum-told2 .given .1)))
+    told-refused _ _ InvalidState [] (begin-stuck _ _ _ e _ (l .load .ensures) (r .if1 .left) (cell-empty (rules.cell (l .load .result .phase) rules.Begin) _ (n .next .ensures) (c .enum-told2 .given .1)))
 
 returns-4 : tie.Need-returns-4
 returns-4 c =
@@ -58,7 +60,7 @@ returns-4 c =
     let l = r .before in
     let a = l .before .before .before in
     let e = sym (a .before .before .find .ensures) ∙ a .at .given .1 in
-    let f = cell-to (cell (l .load .result .phase) Begin) _ _ (n .next .ensures) (k .next2 .given .1) in
+    let f = cell-to (rules.cell (l .load .result .phase) rules.Begin) _ _ (n .next .ensures) (k .next2 .given .1) in
     told-refused _ _ Exhausted [] (begin-last _ _ _ e _ (l .load .ensures) (r .if1 .left) _ f (c .if2 .taken))
 
 dependency-words-requires : tie.Need-dependency-words-requires
@@ -90,7 +92,7 @@ returns-5 c =
     let l = r .before in
     let a = l .before .before .before in
     let e = sym (a .before .before .find .ensures) ∙ a .at .given .1 in
-    let f = cell-to (cell (l .load .result .phase) Begin) _ _ (n .next .ensures) (k .next2 .given .1) in
+    let f = cell-to (rules.cell (l .load .result .phase) rules.Begin) _ _ (n .next .ensures) (k .next2 .given .1) in
     begin-told _ _ _ e _ (l .load .ensures) (r .if1 .left) _ f (g .if2 .left) _ (d .dependency-words .ensures) _ (v .all-available .ensures) (y .if3 .taken) _ (o .domain .ensures) _ (w .with-begun .ensures) _ (c .store .ensures)
 
 returns-6 : tie.Need-returns-6
@@ -104,7 +106,7 @@ returns-6 c =
     let l = r .before in
     let a = l .before .before .before in
     let e = sym (a .before .before .find .ensures) ∙ a .at .given .1 in
-    let f = cell-to (cell (l .load .result .phase) Begin) _ _ (n .next .ensures) (k .next2 .given .1) in
+    let f = cell-to (rules.cell (l .load .result .phase) rules.Begin) _ _ (n .next .ensures) (k .next2 .given .1) in
     told-refused _ _ Unavailable [] (begin-lacks _ _ _ e _ (l .load .ensures) (r .if1 .left) _ f (g .if2 .left) _ (d .dependency-words .ensures) _ (v .all-available .ensures) (c .if3 .left))
 
 pub begin-spec : {M : Type 1} → statement M

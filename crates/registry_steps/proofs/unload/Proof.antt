@@ -2,11 +2,12 @@
 use mathlib.Core.Path.{sym, ap, _∙_}
 use mathlib.Core.List.{[]}
 use Rattle.rules.specs.Refusals.{Unknown, InvalidState, InUse}
-use Rattle.rules.specs.Phases.{cell, Unload}
+use Rattle.rules.specs.Phases as rules
 use Rattle.memory.specs.Writes.{putLife}
+use Rattle.memory.specs.Known.{none-known}
 use Rattle.memory_life.specs.Told.{told-refused, told-stored}
 use Rattle.registry_table.specs.Table.{cell-to, cell-empty}
-use Rattle.registry_steps.specs.Laws.{unload-none, unload-stuck, unload-used, unload-moves}
+use Rattle.registry_steps.specs.Laws.{unload-stuck, unload-used, unload-moves}
 use borrow.Author.Needs.{needs}
 use Rattle.registry_steps.proofs.unload.Statement.{statement}
 use Rattle.registry_steps.proofs.unload.Tie as tie
@@ -21,7 +22,8 @@ enum-told : tie.Need-enum-told
 enum-told c = search needs
 
 returns : tie.Need-returns
-returns c = told-refused _ _ Unknown [] (unload-none _ _ (sym (c .before .before .find .ensures) ∙ c .enum-told .given .1))
+unfolding rules.unload
+returns c = told-refused _ _ Unknown [] (none-known _ _ (sym (c .before .before .find .ensures) ∙ c .enum-told .given .1) _)
 
 load-requires : tie.Need-load-requires
 load-requires c κs = search needs
@@ -41,7 +43,7 @@ returns-2 c =
     let l = n .before in
     let a = l .before .before .before in
     let e = sym (a .before .before .find .ensures) ∙ a .at .given .1 in
-    told-refused _ _ InvalidState [] (unload-stuck _ _ _ e _ (l .load .ensures) (cell-empty (cell (l .load .result .phase) Unload) _ (n .next .ensures) (c .enum-told2 .given .1)))
+    told-refused _ _ InvalidState [] (unload-stuck _ _ _ e _ (l .load .ensures) (cell-empty (rules.cell (l .load .result .phase) rules.Unload) _ (n .next .ensures) (c .enum-told2 .given .1)))
 
 in-use-requires : tie.Need-in-use-requires
 in-use-requires c κs = search needs
@@ -54,7 +56,7 @@ returns-3 c =
     let l = n .before in
     let a = l .before .before .before in
     let e = sym (a .before .before .find .ensures) ∙ a .at .given .1 in
-    let f = cell-to (cell (l .load .result .phase) Unload) _ _ (n .next .ensures) (k .next2 .given .1) in
+    let f = cell-to (rules.cell (l .load .result .phase) rules.Unload) _ _ (n .next .ensures) (k .next2 .given .1) in
     told-refused _ _ InUse [] (unload-used _ _ _ e _ (l .load .ensures) _ f _ (u .in-use .ensures) (c .if1 .taken))
 
 with-phase-requires : tie.Need-with-phase-requires
@@ -72,7 +74,7 @@ returns-4 c =
     let l = n .before in
     let a = l .before .before .before in
     let e = sym (a .before .before .find .ensures) ∙ a .at .given .1 in
-    let f = cell-to (cell (l .load .result .phase) Unload) _ _ (n .next .ensures) (k .next2 .given .1) in
+    let f = cell-to (rules.cell (l .load .result .phase) rules.Unload) _ _ (n .next .ensures) (k .next2 .given .1) in
     told-stored _ _ _ _ [] _ _ e (unload-moves _ _ _ e _ (l .load .ensures) _ f _ (u .in-use .ensures) (w .if1 .left)) (c .store .ensures ∙ ap (putLife _ _) (c .before .with-phase .ensures))
 
 pub unload-spec : {M : Type 1} → statement M

@@ -2,14 +2,14 @@
 use Prim.Native.Nat.{ℕ, _+_}
 use native.Mathlib.Omega.{arith}
 use native.Mathlib.Nat.{le-refl}
-use mathlib.Core.Path.{_≡_, refl, sym, ap, _∙_, subst⁻¹}
+use mathlib.Core.Path.{_≡_, refl, sym, ap, _∙_, subst, subst⁻¹}
 use mathlib.Core.Bool.{Bool, true, false, _||_, true≢false}
 use mathlib.Core.List.{List, [], _∷_, map-map}
 use mathlib.Core.Option.{Option, none, some}
 use borrow.Author.Tests.{eqb-false, not-false}
 use Rattle.rules.specs.Basics.{all, last}
 use Rattle.rules.specs.Holds.{Port, Plugin, Registry, lookup, Phase, Idle, Loading, Active, Unloading, isLoading, isActive, Root, Unissued, Queued, Spent, withRetired}
-use Rattle.rules.specs.Outcomes.{Outcome, refuses, answers, writes, stores, adds, removes, Check, checked, known, handingBack}
+use Rattle.rules.specs.Outcomes.{Outcome, refuses, answers, writes, stores, adds, removes, Check, checked, known, handingBack, after}
 use Rattle.rules.specs.Ports.{resolveKey}
 use Rattle.rules.specs.Dependencies.{dependencyPort}
 use Rattle.rules.specs.Registration.{Definition, newPlugin, register}
@@ -31,6 +31,7 @@ use Rattle.rules.specs.Laws.Table.{readies, fails, unloads, finishes, is
 use Rattle.rules.specs.Built.{Lively}
 use Rattle.rules.specs.Kept.Plugins.{Alike, alike, lively-begun, lively-ready, lively-failed, lively-unloaded, lively-finished, lively-noted, lively-rooted, lively-offered}
 use Rattle.rules.specs.Kept.Moves.{Turn, Join, Leave}
+use Rattle.rules.specs.Kept.Reach.{nothing, members, reach, Within}
 use Rattle.rules.specs.Kept.New.{new-joins}
 
 -- Where p turns into q: its own begin makes the generation one more, and what else may turn a plugin leaves it.
@@ -46,9 +47,9 @@ unfoldable pub Lawful : Registry → Op → Outcome → Type 0
 Lawful r o (refuses x vs) = Unit {0}
 Lawful r o (answers vs) = act o ≡ stays
 Lawful r o (writes place l vs) = act o ≡ stays
-Lawful r o (stores q vs) = (p : Plugin) × Dated (act o) p q × (lookup r (q .id) ≡ some p) × Turn r p q
-Lawful r o (adds q vs) = (d : Definition) × (act o ≡ joins d) × (vs ≡ r .next ∷ []) × (q ≡ newPlugin r d) × Join r q
-Lawful r o (removes id vs) = (p : Plugin) × (act o ≡ leaves id) × (lookup r id ≡ some p) × Leave r id p
+Lawful r o (stores q vs) = (p : Plugin) × Dated (act o) p q × (lookup r (q .id) ≡ some p) × Turn r p q × Within (reach o) p q
+Lawful r o (adds q vs) = (d : Definition) × (act o ≡ joins d) × (vs ≡ r .next ∷ []) × (q ≡ newPlugin r d) × Join r q × (reach o ≡ members)
+Lawful r o (removes id vs) = (p : Plugin) × (act o ≡ leaves id) × (lookup r id ≡ some p) × Leave r id p × (reach o ≡ members)
 
 is-spent : (o : Root) → isSpent o ≡ true → o ≡ Spent
 is-spent Unissued e = cc
@@ -82,7 +83,7 @@ module _ (r : Registry) where
 
   -- the plugin p, found under id, becomes q
   module _ (o : Op) (vs : List ℕ) (id : ℕ) (p q : Plugin) (e : lookup r id ≡ some p) (n : Dated (act o) p q) (a : Alike p q) (l : Lively p → Lively q)
-      (k : isActive (p .phase) ≡ true → q .provisions ≡ p .provisions) where
+      (w : Within (reach o) p q) (k : isActive (p .phase) ≡ true → q .provisions ≡ p .provisions) where
     -- from one phase to another
     moves : (from to : Phase) → p .phase ≡ from → q .phase ≡ to
         → (runs from ≡ false → runs to ≡ true → all (available r) (p .dependencies) ≡ true)
@@ -99,6 +100,7 @@ module _ (r : Registry) where
         stops = λ y m. g (sym (ap isActive i) ∙ y) (sym (ap isActive j) ∙ m);
         values = k;
       },
+      w,
     )
 
     -- its phase stays
@@ -109,33 +111,33 @@ module _ (r : Registry) where
   unfolding begin
   begin-lawful id = knows _ _ _ λ p e. passes _ _ _ λ c.
       let h = table.begins (p .phase) (c .1 .0) in
-      moves _ _ _ p _ e (sym (lookup-id r id p e), refl) (alike p refl) (λ l. lively-begun p l h (eqb-false _ _ (c .1 .1 .0))) (λ _. refl)
+      moves _ _ _ p _ e (sym (lookup-id r id p e), refl) (alike p refl) (λ l. lively-begun p l h (eqb-false _ _ (c .1 .1 .0))) refl (λ _. refl)
       Idle Loading h (rw h) (λ n y. not-false _ (c .1 .1 .1 .0)) (λ y n. cc)
 
   ready-lawful : (id : ℕ) → Lawful r (Ready id) (ready r id)
   unfolding ready
   ready-lawful id = knows _ _ _ λ p e. passes _ _ _ λ c.
       let h = readies (p .phase) (c .1 .0) in
-      moves _ _ _ p _ e refl (alike p refl) (λ l. lively-ready p l h (is-spent (p .root) (not-false _ (c .1 .1 .0))) (c .1 .1 .1 .0)) (λ _. refl)
+      moves _ _ _ p _ e refl (alike p refl) (λ l. lively-ready p l h (is-spent (p .root) (not-false _ (c .1 .1 .0))) (c .1 .1 .1 .0)) refl (λ _. refl)
       Loading Active h (rw h) (λ n y. cc) (λ y n. cc)
 
   fail-lawful : (id : ℕ) → Lawful r (Fail id) (fail r id)
   unfolding fail
   fail-lawful id = knows _ _ _ λ p e. passes _ _ _ λ c.
       let h = fails (p .phase) (c .0) in
-      moves _ _ _ p _ e refl (alike p refl) (λ l. lively-failed p l h) (λ _. refl) Loading Unloading h (rw h) (λ n y. cc) (λ y n. cc)
+      moves _ _ _ p _ e refl (alike p refl) (λ l. lively-failed p l h) refl (λ _. refl) Loading Unloading h (rw h) (λ n y. cc) (λ y n. cc)
 
   unload-lawful : (id : ℕ) → Lawful r (Unload id) (unload r id)
   unfolding unload
   unload-lawful id = knows _ _ _ λ p e. passes _ _ _ λ c.
       let h = unloads (p .phase) (c .0) in
-      moves _ _ _ p _ e refl (alike p refl) (λ l. lively-unloaded p l h) (λ _. refl) Active Unloading h (rw h) (λ n y. cc) (λ y n. c .1 .0)
+      moves _ _ _ p _ e refl (alike p refl) (λ l. lively-unloaded p l h) refl (λ _. refl) Active Unloading h (rw h) (λ n y. cc) (λ y n. c .1 .0)
 
   finish-lawful : (id : ℕ) → Lawful r (Finish id) (finish r id)
   unfolding finish
   finish-lawful id = knows _ _ _ λ p e. passes _ _ _ λ c.
       let h = finishes (p .phase) (c .0) in
-      moves _ _ _ p _ e refl (alike p (map-map _ dropped (p .provisions))) (λ l. lively-finished p l h)
+      moves _ _ _ p _ e refl (alike p (map-map _ dropped (p .provisions))) (λ l. lively-finished p l h) tt
       (λ y. absurd (true≢false (sym y ∙ ap isActive h))) Unloading Idle h (rw h) (λ n y. cc) (λ y n. cc)
 
   handing : (o : Op) (v : ℕ) (u : Outcome) → Lawful r o u → Lawful r o (handingBack v u)
@@ -151,26 +153,27 @@ module _ (r : Registry) where
   unfolding replace
   replace-lawful id v = handing _ v _ (knows _ _ _ λ p e. passes _ _ _ λ c.
       let n = eqb-false (p .revision) last (c .0) in
-      rests _ _ _ p _ e refl (alike p refl) (λ l. lively-noted p l (p .revision + 1) v (p .retired) (omega arith) (omega (arith, n, l .revision))) (λ _. refl) refl)
+      rests _ _ _ p _ e refl (alike p refl) (λ l. lively-noted p l (p .revision + 1) v (p .retired) (omega arith) (omega (arith, n, l .revision))) refl (λ _. refl) refl)
 
   admit-lawful : (t : Ticket) (a : ℕ) → Lawful r (Admit t a) (admit r t a)
   unfolding admit
   admit-lawful t a = passes _ _ _ λ c. knows _ _ _ λ p e. passes _ _ _ λ f.
       let h = is-loading (p .phase) (not-false _ (neither _ _ (f .1 .0) .0)) in
-      rests _ _ _ p _ e refl (alike p refl) (λ l. lively-rooted p l (Queued (p .revision) a) h (λ v b i. let j : p .revision ≡ v = cc in omega arith)) (λ _. refl) refl
+      rests _ _ _ p _ e refl (alike p refl) (λ l. lively-rooted p l (Queued (p .revision) a) h (λ v b i. let j : p .revision ≡ v = cc in omega arith)) refl (λ _. refl) refl
 
   call-lawful : (t : Invocation) → Lawful r (Call t) (call r t)
   unfolding call
   call-lawful t = passes _ _ _ λ c. knows _ _ _ λ p e. passes _ _ _ λ f.
       let h = live-loading p t (not-false _ (f .1 .0)) in
-      rests _ _ _ p _ e refl (alike p refl) (λ l. lively-rooted p l Spent h (λ v b i. let z : _≡_ {A = ℕ} 0 1 = cc in omega arith)) (λ _. refl) refl
+      rests _ _ _ p _ e refl (alike p refl) (λ l. lively-rooted p l Spent h (λ v b i. let z : _≡_ {A = ℕ} 0 1 = cc in omega arith)) refl (λ _. refl) refl
 
-  retires : (o : Op) (id : ℕ) (p : Plugin) → lookup r id ≡ some p → Dated (act o) p (withRetired true p) → Lawful r o (stores (withRetired true p) [])
-  retires o id p e n = rests o [] id p _ e n (alike p refl) (λ l. lively-noted p l (p .revision) (p .payload) true (le-refl _) (l .revision)) (λ _. refl) refl
+  retires : (o : Op) (id : ℕ) (p : Plugin) → lookup r id ≡ some p → Dated (act o) p (withRetired true p) → Within (reach o) p (withRetired true p)
+      → Lawful r o (stores (withRetired true p) [])
+  retires o id p e n w = rests o [] id p _ e n (alike p refl) (λ l. lively-noted p l (p .revision) (p .payload) true (le-refl _) (l .revision)) w (λ _. refl) refl
 
   retire-lawful : (id : ℕ) → Lawful r (Retire id) (retire r id)
   unfolding retire
-  retire-lawful id = knows _ _ _ λ p e. passes _ _ _ λ c. retires _ _ p e refl
+  retire-lawful id = knows _ _ _ λ p e. passes _ _ _ λ c. retires _ _ p e refl refl
 
   retire-child-lawful : (c : Identity) → Lawful r (RetireChild c) (retireChild r c)
   unfolding retireChild
@@ -178,23 +181,23 @@ module _ (r : Registry) where
     where
       go : (u : Option Plugin) → lookup r (c .id) ≡ u → Lawful r (RetireChild c) (retireFound (c .parent) u)
       go none e = answered _ [] refl
-      go (some p) e = passes _ _ _ λ f. retires _ _ p e refl
+      go (some p) e = passes _ _ _ λ f. retires _ _ p e refl refl
 
   offer-lawful : (id : ℕ) (q : Port) (v : ℕ) → Lawful r (Offer id q v) (offer r id q v)
   unfolding offer
   offer-lawful id q v = knows _ _ _ λ p e. passes _ _ _ λ c.
       let h = is-loading (p .phase) (both _ _ (not-false _ (c .0)) .0) in
-      rests _ _ _ p _ e refl (alike p (map-map _ (offered q v) (p .provisions))) (λ l. lively-offered p l _ h)
+      rests _ _ _ p _ e refl (alike p (map-map _ (offered q v) (p .provisions))) (λ l. lively-offered p l _ h) tt
       (λ y. absurd (true≢false (sym y ∙ ap isActive h))) refl
 
   remove-lawful : (id : ℕ) → Lawful r (Remove id) (remove r id)
   unfolding remove Lawful
   remove-lawful id = knows _ _ _ λ p e. passes _ _ _ λ c.
-      (p, refl, e, record { idle = both _ _ (not-false _ (c .0)) .0; childless = c .1 .0 })
+      (p, refl, e, record { idle = both _ _ (not-false _ (c .0)) .0; childless = c .1 .0 }, refl)
 
   register-lawful : (d : Definition) → Lawful r (Register d) (register r d)
   unfolding register Lawful
-  register-lawful d = passes _ _ _ λ c. (d, refl, refl, refl, new-joins r d c)
+  register-lawful d = passes _ _ _ λ c. (d, refl, refl, refl, new-joins r d c, refl)
 
   -- the questions
   asks : (o : Op) (id : ℕ) (f : Plugin → List ℕ) → act o ≡ stays → Lawful r o (known r id (λ p. answers (f p)))
@@ -230,3 +233,16 @@ module _ (r : Registry) where
   lawful (AskPlugin f id) = asks _ id _ refl
   lawful (AskRegistry t) = answered _ _ refl
   lawful (IdFrom n) = answered _ _ refl
+
+-- A question leaves the registry as it is.
+pub asked-same : (r : Registry) (o : Op) → reach o ≡ nothing → after r (step r o) ≡ r
+unfolding Lawful after
+asked-same r o e = go (step r o) (lawful r o)
+  where
+    go : (u : Outcome) → Lawful r o u → after r u ≡ r
+    go (refuses x vs) w = refl
+    go (answers vs) w = refl
+    go (writes place l vs) w = refl
+    go (stores q vs) w = absurd (subst (λ x. Within x (w .0) q) e (w .4))
+    go (adds q vs) w = let n : nothing ≡ members = sym e ∙ w .5 in cc
+    go (removes id vs) w = let n : nothing ≡ members = sym e ∙ w .4 in cc
