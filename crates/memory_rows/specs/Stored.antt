@@ -116,6 +116,7 @@ known-elim m P id f a b = go (findAt m id) refl
     go Nowhere e = subst⁻¹ P (none-known m id e f) a
     go (At i) e = subst⁻¹ P (at-known m id i e f) (b i e)
 
+-- what registration fixed and the values stay: the plugin has another life, no more
 other-life : (p q : Plugin) → Alike p q → q .provisions ≡ p .provisions → q ≡ withLife p (lifeOf q)
 other-life p q a v = λ x. record {
   id = a .id x;
