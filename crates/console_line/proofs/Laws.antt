@@ -1,28 +1,31 @@
 -- Lines of the console, by their words. Assumes nothing.
-use Prim.Native.Nat.{ℕ, _≤_, _<_}
-use mathlib.Core.Path.{_≡_, refl}
-use mathlib.Core.List.{List, [], _∷_}
-use native.Mathlib.Omega.{arith}
-use lib.ListN.{length, getD}
-use borrow.Author.Tests.{ne-eqb, lt-ltb, le-ltb}
+use Prim.Native.Nat.{ℕ}
+use mathlib.Core.Path.{_≡_, refl, sym, ap, _∙_}
+use mathlib.Core.Bool.{Bool, true, false, not}
+use mathlib.Core.List.{List}
+use mathlib.Core.Option.{Option, some}
+use lib.ListN.{length}
 use Rattle.rules.specs.Slot.{Slot}
-use Rattle.rules.specs.Steps.{Listed}
-use Rattle.host_answers.specs.Told.{statusOf, wordsOf}
-use Rattle.host.specs.Tells.{answer}
 use Rattle.console_words.specs.Words.{nextWord, bytesOf}
 use Rattle.console_words.specs.declared.Span.{Span}
-use Rattle.console_answer.specs.Pages.{Page, putOn, numbersOn}
+use Rattle.console_answer.specs.Pages.{Page, upTo, putOn, numbersOn}
 use Rattle.console_answer.specs.Answers.{okWord, toldIn}
-use Rattle.console_names.specs.Names.{placeAmong, operations}
-use Rattle.console_names.specs.Behind.{numbersBehind}
-use Rattle.console_names.specs.Places.{slotAt, registerAt, showAt, bufferAt, realmsAt}
+use Rattle.console_names.specs.declared.Count.{Count}
+use Rattle.console_names.specs.declared.Values.{Values}
+use Rattle.console_names.specs.declared.Values.the-variants.{Numbers}
+use Rattle.console_names.specs.declared.Held.{Held}
+use Rattle.console_names.specs.declared.Kind.{Kind}
+use Rattle.console_names.specs.declared.Kind.the-variants.{Show, Buffer}
+use Rattle.console_names.specs.declared.Row.{Row}
+use Rattle.console_names.specs.Names.{placeAmong}
+use Rattle.console_names.specs.Table.{Asked, takes, first, second, names, rowAt}
 use Rattle.console_show.specs.Spoken.{spokenOn}
 use Rattle.console_show.specs.Buffered.{between}
 use Rattle.console_show.specs.Shown.{shownOn}
-use Rattle.console_operations.specs.Asked.{Asked, askedFor, listAt}
-use Rattle.console_operations.specs.Carried.{statusBy, wordsBy, leftBy}
-use Rattle.console_line.specs.Lines.{Done, Does, bad, showLine, bufferLine, untold, listed, listLine, askedLine, numbersLine, orBad}
-use Rattle.console_line.specs.Console.{After, Leaves, keepsSlot, operate, ended, answered}
+use Rattle.console_operations.specs.Asked.{whichOf}
+use Rattle.console_operations.specs.Carried.{statusBy, wordsBy, Lists}
+use Rattle.console_line.specs.Lines.{Done, Does, badLine, untold, listed, askedLine, numbersLine, orBad}
+use Rattle.console_line.specs.Console.{After, Leaves, operateBy, operate, ended, answered}
 
 pub same-done : (a b : Done) (text : List ℕ) (place : ℕ) (memory buffer : List ℕ) → a ≡ b → Does b text place memory buffer → Does a text place memory buffer
 same-done a b text place memory buffer e t = rw e t
@@ -32,58 +35,35 @@ same-left a b text place memory buffer slot e t = rw e t
 
 module _ (p : Page) (m : List ℕ) where
   -- What is told of what is asked for is said.
-  pub asked-said : (place : ℕ) (a : Asked) (q : Page) (status : ℕ) (out : List ℕ) → status ≡ statusBy m a → out ≡ wordsBy m a untold → q ≡ spokenOn p place status (toldIn out) → q ≡ askedLine p m place a
-  asked-said place a q status out s w e = rw (← s, ← w) e
+  pub asked-said : (v : Values) (a : Asked) (q : Page) (status : ℕ) (out : List ℕ) → status ≡ statusBy m a → out ≡ wordsBy m a untold → q ≡ spokenOn p v status (toldIn out) → q ≡ askedLine p m v a
+  asked-said v a q status out s w e = rw (← s, ← w) e
 
-  pub show-one : (l : List ℕ) → length l ≡ 1 → showLine p m l ≡ shownOn p m (getD l 0 0)
-  show-one [] e = absurd (omega arith)
-  show-one (a ∷ []) e = refl
-  show-one (a ∷ b ∷ l) e = absurd (omega arith)
-
-  pub show-other : (l : List ℕ) → (length l ≡ 1 → ⊥) → showLine p m l ≡ bad p
-  show-other [] h = refl
-  show-other (a ∷ []) h = absurd (h refl)
-  show-other (a ∷ b ∷ l) h = refl
-
-  pub buffer-two : (l : List ℕ) → length l ≡ 2 → bufferLine p m l ≡ numbersOn (putOn p okWord) (between (getD l 0 0) (getD l 1 0) m)
-  buffer-two [] e = absurd (omega arith)
-  buffer-two (a ∷ []) e = absurd (omega arith)
-  buffer-two (a ∷ b ∷ []) e = refl
-  buffer-two (a ∷ b ∷ c ∷ l) e = absurd (omega arith)
-
-  pub buffer-other : (l : List ℕ) → (length l ≡ 2 → ⊥) → bufferLine p m l ≡ bad p
-  buffer-other [] h = refl
-  buffer-other (a ∷ []) h = refl
-  buffer-other (a ∷ b ∷ []) h = absurd (h refl)
-  buffer-other (a ∷ b ∷ c ∷ l) h = refl
-
-  module _ (buffer : List ℕ) (place : ℕ) where
-    pub list-two : (l : List ℕ) → length l ≡ 2 → listLine p m buffer place l ≡ listed p m buffer place (getD l 0 0) (getD l 1 0)
-    list-two [] e = absurd (omega arith)
-    list-two (a ∷ []) e = absurd (omega arith)
-    list-two (a ∷ b ∷ []) e = refl
-    list-two (a ∷ b ∷ c ∷ l) e = absurd (omega arith)
-
-    pub list-other : (l : List ℕ) → (length l ≡ 2 → ⊥) → listLine p m buffer place l ≡ record { page = bad p; memory = m; buffer = buffer }
-    list-other [] h = refl
-    list-other (a ∷ []) h = refl
-    list-other (a ∷ b ∷ []) h = absurd (h refl)
-    list-other (a ∷ b ∷ c ∷ l) h = refl
-
+  module _ (buffer : List ℕ) where
     -- What is told of a listing is said.
-    pub list-said : (id from : ℕ) (q : Page) (status : ℕ) (out : List ℕ) → status ≡ statusOf (answer m (Listed (listAt place) id from buffer)) → out ≡ wordsOf (answer m (Listed (listAt place) id from buffer)) untold → q ≡ spokenOn p place status (toldIn out) → q ≡ listed p m buffer place id from .page
-    list-said id from q status out s w e = rw (← s, ← w) e
+    pub list-done : (held : Held) (l : List ℕ) (id from : ℕ) → id ≡ first l → from ≡ second l → (text : List ℕ) (place status : ℕ) (out buffer′ : List ℕ) → Lists m (whichOf held) id from buffer untold status out buffer′ → upTo text place ≡ spokenOn p Numbers status (toldIn out) → Does (listed p m buffer held l) text place m buffer′
+    list-done held l id from ei ef text place status out buffer′ t e = (e ∙ rw (t .0 .0, t .0 .1, ei, ef), refl, t .1 ∙ rw (ei, ef))
 
-    pub numbers-asked : (l : List ℕ) → realmsAt < place → numbersLine p m buffer place l ≡ record { page = askedLine p m place (askedFor place l); memory = leftBy m (askedFor place l); buffer = buffer }
-    numbers-asked l h = rw (lt-ltb realmsAt place h)
+    module _ (place : ℕ) (kind : Kind) (l : List ℕ) where
+      pub shown-done : (id : ℕ) → id ≡ first l → kind ≡ Show → (text : List ℕ) (at : ℕ) → upTo text at ≡ shownOn p m id → Does (numbersLine p m buffer place kind l) text at m buffer
+      shown-done id ei k text at e = rw (k, ← ei) (e, refl, refl)
 
-    pub numbers-list : (l : List ℕ) → place ≤ realmsAt → (place ≡ showAt → ⊥) → (place ≡ bufferAt → ⊥) → numbersLine p m buffer place l ≡ listLine p m buffer place l
-    numbers-list l h k n = rw (le-ltb realmsAt place h, ne-eqb place showAt k, ne-eqb place bufferAt n)
+      pub buffered-done : (from to : ℕ) → from ≡ first l → to ≡ second l → kind ≡ Buffer → (text : List ℕ) (at : ℕ) → upTo text at ≡ numbersOn (putOn p okWord) (between from to buffer) → Does (numbersLine p m buffer place kind l) text at m buffer
+      buffered-done from to ef et k text at e = rw (k, ← ef, ← et) (e, refl, refl)
+
+    -- Numbers stand behind the name: not as many as are due, or as many.
+    module _ (place : ℕ) (count : Count) (kind : Kind) (u : Option (List ℕ)) (l : List ℕ) (some-l : u ≡ some l) (n : ℕ) (long : n ≡ length l) where
+      pub not-due : (b : Bool) → b ≡ takes count n → not b ≡ true → orBad p m buffer place count kind u ≡ badLine p m buffer
+      not-due true e h = cc
+      not-due false e h = rw (some-l, ← long, ← e)
+
+      pub due : (b : Bool) → b ≡ takes count n → not b ≡ false → orBad p m buffer place count kind u ≡ numbersLine p m buffer place kind l
+      due true e h = rw (some-l, ← long, ← e)
+      due false e h = cc
 
   module _ (buffer : List ℕ) (s : Slot) (line : List ℕ) where
-    pub operate-behind : (place from : ℕ) → (place ≡ slotAt → ⊥) → (place ≡ registerAt → ⊥) → operate p m buffer s line place from ≡ keepsSlot s (orBad p m buffer place (numbersBehind line from))
-    operate-behind place from h k = rw (ne-eqb place slotAt h, ne-eqb place registerAt k)
+    pub operate-is : (place from : ℕ) (row r : Row) → row ≡ rowAt place → row ≡ r → operate p m buffer s line place from ≡ operateBy r p m buffer s line place from
+    operate-is place from row r e f = ap (λ (r : Row). operateBy r p m buffer s line place from) (sym e ∙ f)
 
-    pub answered-is : (w : Span) → w ≡ nextWord line 0 → (place : ℕ) → place ≡ placeAmong (bytesOf line w) operations → answered p m buffer s line ≡ ended (operate p m buffer s line place (w .stop))
+    pub answered-is : (w : Span) → w ≡ nextWord line 0 → (place : ℕ) → place ≡ placeAmong (bytesOf line w) names → answered p m buffer s line ≡ ended (operate p m buffer s line place (w .stop))
     unfolding answered
     answered-is w e place d = rw (d, e)

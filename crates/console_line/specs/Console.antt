@@ -11,10 +11,12 @@ use Rattle.console_words.specs.Words.{nextWord, bytesOf}
 use Rattle.console_answer.specs.Pages.{Page, upTo, putOn}
 use Rattle.console_answer.specs.Answers.{badWord}
 use Rattle.console_names.specs.Behind.{numbersBehind}
-use Rattle.console_names.specs.Names.{placeAmong, operations}
-use Rattle.console_names.specs.Places.{slotAt, registerAt}
+use Rattle.console_names.specs.Names.{placeAmong}
+use Rattle.console_names.specs.declared.Row.{Row}
+use Rattle.console_names.specs.declared.Row.the-variants as row
+use Rattle.console_names.specs.Table.{names, rowAt}
 use Rattle.console_slot.specs.Lines.{Turned, slotLine}
-use Rattle.console_line.specs.Lines.{Done, orBad, registerLine}
+use Rattle.console_line.specs.Lines.{Done, badLine, orBad, registerLine}
 
 -- What a line says, and what it leaves.
 pub record After : Type 0 where
@@ -29,12 +31,16 @@ keepsSlot s d = record { page = d .page; memory = d .memory; buffer = d .buffer;
 abbrev pub keepsRegistry : List ℕ → List ℕ → Turned → After
 keepsRegistry m buffer t = record { page = t .page; memory = m; buffer = buffer; slot = t .slot }
 
+-- What stands behind a name, by the operation's row.
+abbrev pub operateBy : Row → Page → List ℕ → List ℕ → Slot → List ℕ → ℕ → ℕ → After
+operateBy row.Slot p m buffer s line place from = keepsRegistry m buffer (slotLine p s line from)
+operateBy row.Register p m buffer s line place from = keepsSlot s (registerLine p m buffer line from)
+operateBy (row.Takes count kind) p m buffer s line place from = keepsSlot s (orBad p m buffer place count kind (numbersBehind line from))
+operateBy row.Unknown p m buffer s line place from = keepsSlot s (badLine p m buffer)
+
 -- The operation at a place among the names, with what stands behind its name.
 abbrev pub operate : Page → List ℕ → List ℕ → Slot → List ℕ → ℕ → ℕ → After
-operate p m buffer s line place from =
-    pick (eqb place slotAt) (keepsRegistry m buffer (slotLine p s line from))
-    (pick (eqb place registerAt) (keepsSlot s (registerLine p m buffer line from))
-    (keepsSlot s (orBad p m buffer place (numbersBehind line from))))
+operate p m buffer s line place from = operateBy (rowAt place) p m buffer s line place from
 
 abbrev pub ended : After → After
 ended a = record { page = putOn (a .page) (10 ∷ []); memory = a .memory; buffer = a .buffer; slot = a .slot }
@@ -43,7 +49,7 @@ ended a = record { page = putOn (a .page) (10 ∷ []); memory = a .memory; buffe
 unfoldable pub answered : Page → List ℕ → List ℕ → Slot → List ℕ → After
 answered p m buffer s line =
     let w = nextWord line 0 in
-    ended (operate p m buffer s line (placeAmong (bytesOf line w) operations) (w .stop))
+    ended (operate p m buffer s line (placeAmong (bytesOf line w) names) (w .stop))
 
 -- A text, the words, a buffer and a slot as a line leaves them.
 abbrev pub Leaves : After → List ℕ → ℕ → List ℕ → List ℕ → Slot → Type 0

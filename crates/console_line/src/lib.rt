@@ -3,15 +3,20 @@ ghost use mathlib.Core.Path.{_≡_};
 ghost use Rattle.slot.specs.Slots.{slotOf};
 ghost use Rattle.console_answer.specs.Pages.{upTo};
 ghost use Rattle.console_names.specs.Behind.{numbersBehind};
-ghost use Rattle.console_names.specs.Places.{registerAt};
+ghost use Rattle.console_names.specs.Table.{askedAt};
+ghost use Rattle.console_names.specs.declared.Values.the-variants.{Numbers};
 ghost use Rattle.console_definition.specs.Draft.{draftIn};
-ghost use Rattle.console_operations.specs.Asked.{askedFor};
 ghost use Rattle.console_operations.specs.Carried.{leftBy};
 ghost use Rattle.console_register.specs.Enrolled.{enrolment};
-ghost use Rattle.console_line.specs.Lines.{Does, bad, showLine, bufferLine, listLine, askedLine, numbersLine, orBad};
+ghost use Rattle.console_line.specs.Lines.{Does, bad, listed, askedLine, numbersLine, orBad};
 ghost use Rattle.console_line.specs.Console.{Leaves, operate, answered, lineEnded};
 use console_answer::ROOM;
 use console_names::BUFFER_ROOM;
+use console_names::Count;
+use console_names::Held;
+use console_names::Kind;
+use console_names::Row;
+use console_names::Values;
 use console_slot::Said;
 use host_answers::ANSWER;
 use memory::WORDS;
@@ -26,65 +31,54 @@ fn bad(text: &mut [u8; ROOM]) -> usize
     console_answer::put(text, 0, b"bad")
 }
 
-fn show_line(m: &[u64; WORDS], l: &[u64], text: &mut [u8; ROOM]) -> usize
-    ensures { λ r. ⌜ upTo (now (text .exit)) r ≡ showLine (upTo (now (text .entry)) 0) (now (m .entry)) (now (l .entry)) ⌝ }
-{
-    if l.len() != 1 {
-        return bad(text);
-    }
-    console_show::shown(m, l[0], text)
-}
-
-fn buffer_line(buffer: &[u64; BUFFER_ROOM], l: &[u64], text: &mut [u8; ROOM]) -> usize
-    ensures { λ r. ⌜ upTo (now (text .exit)) r ≡ bufferLine (upTo (now (text .entry)) 0) (now (buffer .entry)) (now (l .entry)) ⌝ }
-{
-    if l.len() != 2 {
-        return bad(text);
-    }
-    console_show::buffered(buffer, l[0], l[1], text)
-}
-
 fn list_line(
     m: &[u64; WORDS],
     buffer: &mut [u64; BUFFER_ROOM],
-    place: usize,
+    held: Held,
     l: &[u64],
     text: &mut [u8; ROOM],
 ) -> usize
-    ensures { λ r. ⌜ Does (listLine (upTo (now (text .entry)) 0) (now (m .entry)) (now (buffer .entry)) place (now (l .entry))) (now (text .exit)) r (now (m .entry)) (now (buffer .exit)) ⌝ }
+    ensures { λ r. ⌜ Does (listed (upTo (now (text .entry)) 0) (now (m .entry)) (now (buffer .entry)) held (now (l .entry))) (now (text .exit)) r (now (m .entry)) (now (buffer .exit)) ⌝ }
 {
-    if l.len() != 2 {
-        return bad(text);
-    }
+    let id = console_names::nth(l, 0);
+    let from = console_names::nth(l, 1);
     let mut out = [0u64; ANSWER];
-    let status = console_operations::listed(m, buffer, place, l[0], l[1], &mut out);
-    console_show::spoken(text, place, status, &out)
+    let status = console_operations::listed(m, buffer, held, id, from, &mut out);
+    console_show::spoken(text, Values::Numbers, status, &out)
 }
 
-fn asked_line(m: &mut [u64; WORDS], place: usize, l: &[u64], text: &mut [u8; ROOM]) -> usize
-    ensures { λ r. ⌜ upTo (now (text .exit)) r ≡ askedLine (upTo (now (text .entry)) 0) (now (m .entry)) place (askedFor place (now (l .entry))) ⌝ ∗ ⌜ now (m .exit) ≡ leftBy (now (m .entry)) (askedFor place (now (l .entry))) ⌝ }
+fn asked_line(
+    m: &mut [u64; WORDS],
+    place: usize,
+    values: Values,
+    l: &[u64],
+    text: &mut [u8; ROOM],
+) -> usize
+    ensures { λ r. ⌜ upTo (now (text .exit)) r ≡ askedLine (upTo (now (text .entry)) 0) (now (m .entry)) values (askedAt place (now (l .entry))) ⌝ ∗ ⌜ now (m .exit) ≡ leftBy (now (m .entry)) (askedAt place (now (l .entry))) ⌝ }
 {
     let mut out = [0u64; ANSWER];
     let status = console_operations::carried_out(m, place, l, &mut out);
-    console_show::spoken(text, place, status, &out)
+    console_show::spoken(text, values, status, &out)
 }
 
+// Numbers, as many as are due.
 fn numbers_line(
     m: &mut [u64; WORDS],
     buffer: &mut [u64; BUFFER_ROOM],
     place: usize,
+    kind: Kind,
     l: &[u64],
     text: &mut [u8; ROOM],
 ) -> usize
-    ensures { λ r. ⌜ Does (numbersLine (upTo (now (text .entry)) 0) (now (m .entry)) (now (buffer .entry)) place (now (l .entry))) (now (text .exit)) r (now (m .exit)) (now (buffer .exit)) ⌝ }
+    ensures { λ r. ⌜ Does (numbersLine (upTo (now (text .entry)) 0) (now (m .entry)) (now (buffer .entry)) place kind (now (l .entry))) (now (text .exit)) r (now (m .exit)) (now (buffer .exit)) ⌝ }
 {
-    if console_names::REALMS < place {
-        return asked_line(m, place, l, text);
-    }
-    match place {
-        console_names::SHOW => show_line(m, l, text),
-        console_names::BUFFER => buffer_line(buffer, l, text),
-        _ => list_line(m, buffer, place, l, text),
+    let a = console_names::nth(l, 0);
+    let b = console_names::nth(l, 1);
+    match kind {
+        Kind::Show => console_show::shown(m, a, text),
+        Kind::Buffer => console_show::buffered(buffer, a, b, text),
+        Kind::Lists(held) => list_line(m, buffer, held, l, text),
+        Kind::Registry(values) => asked_line(m, place, values, l, text),
     }
 }
 
@@ -93,26 +87,31 @@ fn behind_line(
     m: &mut [u64; WORDS],
     buffer: &mut [u64; BUFFER_ROOM],
     place: usize,
+    count: Count,
+    kind: Kind,
     bytes: &[u8],
     from: usize,
     text: &mut [u8; ROOM],
 ) -> usize
-    ensures { λ r. ⌜ Does (orBad (upTo (now (text .entry)) 0) (now (m .entry)) (now (buffer .entry)) place (numbersBehind (now (bytes .entry)) from)) (now (text .exit)) r (now (m .exit)) (now (buffer .exit)) ⌝ }
+    ensures { λ r. ⌜ Does (orBad (upTo (now (text .entry)) 0) (now (m .entry)) (now (buffer .entry)) place count kind (numbersBehind (now (bytes .entry)) from)) (now (text .exit)) r (now (m .exit)) (now (buffer .exit)) ⌝ }
 {
     let mut n = [0u64; 2048];
     let behind = console_names::numbers(bytes, from, &mut n);
     if !behind.only {
         return bad(text);
     }
-    numbers_line(m, buffer, place, &n[..behind.count], text)
+    if !console_names::takes(count, behind.count) {
+        return bad(text);
+    }
+    numbers_line(m, buffer, place, kind, &n[..behind.count], text)
 }
 
 fn register_line(m: &mut [u64; WORDS], bytes: &[u8], from: usize, text: &mut [u8; ROOM]) -> usize
-    ensures { λ r. ⌜ upTo (now (text .exit)) r ≡ askedLine (upTo (now (text .entry)) 0) (now (m .entry)) registerAt (enrolment (draftIn (now (bytes .entry)) from)) ⌝ ∗ ⌜ now (m .exit) ≡ leftBy (now (m .entry)) (enrolment (draftIn (now (bytes .entry)) from)) ⌝ }
+    ensures { λ r. ⌜ upTo (now (text .exit)) r ≡ askedLine (upTo (now (text .entry)) 0) (now (m .entry)) Numbers (enrolment (draftIn (now (bytes .entry)) from)) ⌝ ∗ ⌜ now (m .exit) ≡ leftBy (now (m .entry)) (enrolment (draftIn (now (bytes .entry)) from)) ⌝ }
 {
     let mut out = [0u64; ANSWER];
     let status = console_register::enrolled(m, bytes, from, &mut out);
-    console_show::spoken(text, console_names::REGISTER, status, &out)
+    console_show::spoken(text, Values::Numbers, status, &out)
 }
 
 // The operation at a place among the names, with what stands behind its name.
@@ -127,14 +126,19 @@ fn operate(
 ) -> Said
     ensures { λ r. ⌜ Leaves (operate (upTo (now (text .entry)) 0) (now (m .entry)) (now (buffer .entry)) (slotOf slot) (now (bytes .entry)) place from) (now (text .exit)) (r .stop) (now (m .exit)) (now (buffer .exit)) (slotOf (r .slot)) ⌝ }
 {
-    match place {
-        console_names::SLOT => console_slot::slot_line(slot, bytes, from, text),
-        console_names::REGISTER => Said {
+    let row = console_names::row_at(place);
+    match row {
+        Row::Slot => console_slot::slot_line(slot, bytes, from, text),
+        Row::Register => Said {
             stop: register_line(m, bytes, from, text),
             slot,
         },
-        _ => Said {
-            stop: behind_line(m, buffer, place, bytes, from, text),
+        Row::Takes(count, kind) => Said {
+            stop: behind_line(m, buffer, place, count, kind, bytes, from, text),
+            slot,
+        },
+        Row::Unknown => Said {
+            stop: bad(text),
             slot,
         },
     }

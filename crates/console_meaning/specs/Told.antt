@@ -17,7 +17,8 @@ use Rattle.console_answer.specs.Answers.{toldIn}
 use Rattle.console_show.specs.Spoken.{spokenOn, lineOn}
 use Rattle.console_show.specs.Shown.{valuesOf}
 use Rattle.console_show.specs.Told.{told-back}
-use Rattle.console_operations.specs.Asked.{Stated, Told}
+use Rattle.console_names.specs.declared.Values.{Values}
+use Rattle.console_names.specs.Table.{Stated, Told}
 use Rattle.console_line.specs.Lines.{untold, askedLine}
 use Rattle.console_meaning.specs.Values.{saying, few-values, Silent}
 
@@ -29,24 +30,24 @@ read-back (Refused n (v ∷ vs)) h = told-back (v ∷ vs) untold (omega arith)
 read-back (Accepted vs) h = told-back vs untold (omega arith)
 
 -- the line of an outcome's status and numbers is that of its answer
-spoken : (p : Page) (place : ℕ) (u : Outcome) → spokenOn p place (statusOf (answerOf u)) (saying u) ≡ lineOn p place (answerOf u)
+spoken : (p : Page) (v : Values) (u : Outcome) → spokenOn p v (statusOf (answerOf u)) (saying u) ≡ lineOn p v (answerOf u)
 unfolding spokenOn statusOf
-spoken p place (refuses x vs) =
+spoken p v (refuses x vs) =
     let h = number-within x in
     let b = ne-eqb (number x) last (λ e. omega arith) in
     let z = ne-eqb (number x) 0 (λ e. omega arith) in
     rw (b, z)
-spoken p place (answers vs) = refl
-spoken p place (writes at l vs) = refl
-spoken p place (stores q vs) = refl
-spoken p place (adds q vs) = refl
-spoken p place (removes id vs) = refl
+spoken p v (answers vs) = refl
+spoken p v (writes at l vs) = refl
+spoken p v (stores q vs) = refl
+spoken p v (adds q vs) = refl
+spoken p v (removes id vs) = refl
 
-module _ (p : Page) (m : List ℕ) (place : ℕ) (o : Op) where
+module _ (p : Page) (m : List ℕ) (v : Values) (o : Op) where
   -- Any operation that tells numbers: the line says the rules' answer.
-  pub said : askedLine p m place (Told o) ≡ lineOn p place (answer m o)
-  said = ap (spokenOn p place (statusOf (answer m o))) (read-back (answer m o) (few-values (view m) o)) ∙ spoken p place (step (view m) o)
+  pub said : askedLine p m v (Told o) ≡ lineOn p v (answer m o)
+  said = ap (spokenOn p v (statusOf (answer m o))) (read-back (answer m o) (few-values (view m) o)) ∙ spoken p v (step (view m) o)
 
   -- So does an operation that answers none, with nothing told.
-  pub silent : Silent o → askedLine p m place (Stated o) ≡ lineOn p place (answer m o)
-  silent h = ap (spokenOn p place (statusOf (answer m o))) (sym (h (view m))) ∙ spoken p place (step (view m) o)
+  pub silent : Silent o → askedLine p m v (Stated o) ≡ lineOn p v (answer m o)
+  silent h = ap (spokenOn p v (statusOf (answer m o))) (sym (h (view m))) ∙ spoken p v (step (view m) o)

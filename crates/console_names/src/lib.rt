@@ -1,78 +1,137 @@
-// The names of the console's operations, and the numbers behind them.
+// The table of the console's operations, and the numbers behind a name.
 ghost use mathlib.Core.Path.{_≡_};
+ghost use lib.ListN.{getD, drop};
 ghost use Rattle.console_words.specs.Sense.{words};
-ghost use Rattle.console_names.specs.Names.{placeAmong, operations};
+ghost use Rattle.console_names.specs.Names.{placeAmong};
+ghost use Rattle.console_names.specs.Table.{names, rowAt, takes};
 ghost use Rattle.console_names.specs.Behind.{Numbered};
 
-// Each operation's place among the names below.
-pub const SLOT: usize = 0;
+// How many numbers stand behind a name: so many, or so many and then as many as wished.
+pub enum Count {
+    Exactly(usize),
+    AtLeast(usize),
+}
 
-pub const REGISTER: usize = 1;
+// The values behind `ok`: nothing, numbers, numbers or `none`, `yes` or `no`.
+pub enum Values {
+    Nothing,
+    Numbers,
+    NumbersOrNone,
+    YesOrNo,
+}
 
-pub const SHOW: usize = 2;
+// A list that a plugin holds.
+pub enum Held {
+    Deps,
+    Provs,
+    Realms,
+}
 
-pub const BUFFER: usize = 3;
+// What is done with the numbers: a plugin or the buffer is shown, a list goes to the buffer, or the registry is asked.
+pub enum Kind {
+    Show,
+    Buffer,
+    Lists(Held),
+    Registry(Values),
+}
 
-pub const DEPS: usize = 4;
+// What stands behind an operation's name: words of its own, or numbers.
+pub enum Row {
+    Slot,
+    Register,
+    Takes(Count, Kind),
+    Unknown,
+}
 
-pub const PROVS: usize = 5;
+// The places in the table of the operations that the registry is asked for.
+pub const OPEN: usize = 0;
 
-pub const REALMS: usize = 6;
+pub const BEGIN: usize = 2;
 
-pub const ROWS: usize = 7;
+pub const READY: usize = 3;
 
-pub const COUNT: usize = 8;
+pub const FAIL: usize = 4;
 
-pub const NEXT: usize = 9;
+pub const UNLOAD: usize = 5;
 
-pub const BEGIN: usize = 10;
+pub const FINISH: usize = 6;
 
-pub const READY: usize = 11;
+pub const REPLACE: usize = 7;
 
-pub const FAIL: usize = 12;
+pub const FITS: usize = 8;
 
-pub const UNLOAD: usize = 13;
+pub const ADMIT: usize = 9;
 
-pub const FINISH: usize = 14;
+pub const CALL: usize = 10;
 
-pub const RETIRE: usize = 15;
+pub const RETIRE: usize = 11;
 
-pub const REMOVE: usize = 16;
+pub const RETIRE_CHILD: usize = 12;
 
-pub const OPEN: usize = 17;
+pub const REMOVE: usize = 13;
 
-pub const REPLACE: usize = 18;
+pub const CHILD: usize = 14;
 
-pub const RETIRE_CHILD: usize = 19;
+pub const OFFER: usize = 15;
 
-pub const READ: usize = 20;
+pub const READ: usize = 16;
 
-pub const OFFER: usize = 21;
+pub const VISIBLE: usize = 17;
 
-pub const ADMIT: usize = 22;
+pub const MISSING: usize = 18;
 
-pub const CALL: usize = 23;
+pub const MATCHES: usize = 19;
 
-pub const RESOLVE: usize = 24;
+pub const DECLARES: usize = 20;
 
-pub const CHILD: usize = 25;
+pub const LOOKUP: usize = 21;
 
-pub const MISSING: usize = 26;
+pub const RESOLVE: usize = 22;
 
-pub const VISIBLE: usize = 27;
+pub const ROWS: usize = 27;
 
-pub const LOOKUP: usize = 28;
+pub const COUNT: usize = 28;
 
-pub const FITS: usize = 29;
+pub const NEXT: usize = 29;
 
-pub const DECLARES: usize = 30;
+// How many operations there are.
+const OPERATIONS: usize = 32;
 
-pub const MATCHES: usize = 31;
-
-// Operations before the first of these answer numbers, then numbers or none, and from the second on yes or no.
-pub const OR_NONE: usize = CHILD;
-
-pub const YES_NO: usize = FITS;
+// A row for each operation; a new one goes to the end, and its name to the end of the names below.
+const TABLE: [Row; OPERATIONS] = [
+    Row::Takes(Count::Exactly(2), Kind::Registry(Values::Nothing)), // open
+    Row::Register, // register
+    Row::Takes(Count::Exactly(1), Kind::Registry(Values::Numbers)), // begin
+    Row::Takes(Count::Exactly(1), Kind::Registry(Values::Nothing)), // ready
+    Row::Takes(Count::Exactly(1), Kind::Registry(Values::Nothing)), // fail
+    Row::Takes(Count::Exactly(1), Kind::Registry(Values::Nothing)), // unload
+    Row::Takes(Count::Exactly(1), Kind::Registry(Values::Nothing)), // finish
+    Row::Takes(Count::Exactly(2), Kind::Registry(Values::Numbers)), // replace
+    Row::Takes(Count::Exactly(2), Kind::Registry(Values::YesOrNo)), // fits
+    Row::Takes(Count::Exactly(5), Kind::Registry(Values::Numbers)), // admit
+    Row::Takes(Count::Exactly(5), Kind::Registry(Values::Numbers)), // call
+    Row::Takes(Count::Exactly(1), Kind::Registry(Values::Nothing)), // retire
+    Row::Takes(Count::Exactly(3), Kind::Registry(Values::Nothing)), // retire_child
+    Row::Takes(Count::Exactly(1), Kind::Registry(Values::Nothing)), // remove
+    Row::Takes(Count::Exactly(1), Kind::Registry(Values::NumbersOrNone)), // child
+    Row::Takes(Count::Exactly(4), Kind::Registry(Values::Nothing)), // offer
+    Row::Takes(Count::Exactly(3), Kind::Registry(Values::Numbers)), // read
+    Row::Takes(Count::Exactly(2), Kind::Registry(Values::NumbersOrNone)), // visible
+    Row::Takes(Count::Exactly(1), Kind::Registry(Values::NumbersOrNone)), // missing
+    Row::Takes(Count::AtLeast(1), Kind::Registry(Values::YesOrNo)), // matches
+    Row::Takes(Count::Exactly(3), Kind::Registry(Values::YesOrNo)), // declares
+    Row::Takes(Count::Exactly(2), Kind::Registry(Values::NumbersOrNone)), // lookup
+    Row::Takes(Count::AtLeast(1), Kind::Registry(Values::Numbers)), // resolve
+    Row::Takes(Count::Exactly(2), Kind::Lists(Held::Deps)), // deps
+    Row::Takes(Count::Exactly(2), Kind::Lists(Held::Provs)), // provs
+    Row::Takes(Count::Exactly(2), Kind::Lists(Held::Realms)), // realms
+    Row::Takes(Count::Exactly(2), Kind::Buffer), // buffer
+    Row::Takes(Count::Exactly(0), Kind::Registry(Values::Numbers)), // rows
+    Row::Takes(Count::Exactly(0), Kind::Registry(Values::Numbers)), // count
+    Row::Takes(Count::Exactly(0), Kind::Registry(Values::Numbers)), // next
+    Row::Takes(Count::Exactly(1), Kind::Show), // show
+    Row::Slot, // slot
+];
 
 // How many numbers stand behind a name, and whether nothing else does.
 pub struct Behind {
@@ -110,12 +169,53 @@ pub fn which(word: &[u8], names: &[u8]) -> usize
 
 // The place of an operation among all of them, and their count where the word is none.
 pub fn operation(name: &[u8]) -> usize
-    ensures { λ r. ⌜ r ≡ placeAmong (now (name .entry)) operations ⌝ }
+    ensures { λ r. ⌜ r ≡ placeAmong (now (name .entry)) names ⌝ }
 {
     which(
         name,
-        b"slot register show buffer deps provs realms rows count next begin ready fail unload finish retire remove open replace retire_child read offer admit call resolve child missing visible lookup fits declares matches",
+        b"open register begin ready fail unload finish replace fits admit call retire retire_child remove child offer read visible missing matches declares lookup resolve deps provs realms buffer rows count next show slot",
     )
+}
+
+// An operation's row; a place that none has is unknown.
+pub fn row_at(place: usize) -> Row
+    ensures { λ r. ⌜ r ≡ rowAt place ⌝ }
+{
+    if place < OPERATIONS {
+        return TABLE[place];
+    }
+    Row::Unknown
+}
+
+// Whether so many numbers are what is due.
+pub fn takes(count: Count, given: usize) -> bool
+    ensures { λ r. ⌜ r ≡ takes count given ⌝ }
+{
+    match count {
+        Count::Exactly(due) => given == due,
+        Count::AtLeast(due) => due <= given,
+    }
+}
+
+// The number at a place, 0 behind the last.
+pub fn nth(l: &[u64], place: usize) -> u64
+    ensures { λ r. ⌜ r ≡ getD (now (l .entry)) place 0 ⌝ }
+{
+    if place < l.len() {
+        return l[place];
+    }
+    0
+}
+
+// The numbers behind the first.
+pub fn rest(l: &[u64]) -> &[u64]
+    ensures { λ r. ⌜ now r ≡ drop 1 (now (l .entry)) ⌝ }
+{
+    let n = l.len();
+    if n == 0 {
+        return l;
+    }
+    &l[1..n]
 }
 
 // Numbers from a place on go to the front of n, whose rest stays.

@@ -1,16 +1,19 @@
--- What is asked for at a place. Assumes nothing.
+-- What is asked for at a place that none of a match's names has. Assumes nothing.
 use Prim.Native.Nat.{ℕ}
-use mathlib.Core.Path.{_≡_, _∙_}
+use Prim.Native.String.{String}
+use mathlib.Core.Path.{_≡_, refl, ap, _∙_}
 use mathlib.Core.List.{List, [], _∷_}
-use borrow.Author.Tests.{ne-eqb}
-use Rattle.rules.specs.Lists.{Which, RealmRows}
+use Rattle.rules.specs.Basics.{last}
+use Rattle.rules.specs.Lists.{Which}
 use Rattle.rules.specs.Outcomes.{Accepted}
-use Rattle.rules.specs.Steps.{Op}
+use Rattle.rules.specs.Steps.{Op, ResolveKey, Matching}
 use Rattle.host_answers.specs.Told.{statusOf, wordsOf, counted as told}
 use Rattle.host.specs.Tells.{answer}
-use Rattle.console_names.specs.Places.{depsAt, provsAt, rowsAt, countAt, nextAt, beginAt, readyAt, failAt, unloadAt, finishAt, retireAt, removeAt, openAt, replaceAt, retireChildAt, readAt, offerAt, admitAt, callAt, childAt, missingAt, visibleAt, lookupAt, fitsAt, declaresAt}
-use Rattle.console_operations.specs.Asked.{Asked, Bad, Told, at, withNone, ofOne, withOne, withTwo, withThree, withFour, withFive, listAt}
-use Rattle.console_operations.specs.Carried.{Answers, Lists}
+use Rattle.console_names.specs.Names.{placeAmong}
+use Rattle.console_names.specs.Table.{Asked, Bad, Told, first, second, third, fourth, fifth, rest, placeOf, operationAt, askedAt}
+use Rattle.console_names.specs.Others.{Other, the-others}
+use Rattle.console_operations.specs.Asked.{five, exact, question, exactAt, questionAt}
+use Rattle.console_operations.specs.Carried.{leftBy, Answers, Carried, same, Lists}
 
 pub alike : (m out : List ℕ) (status : ℕ) (out′ : List ℕ) (a b : Asked) → a ≡ b → Answers m b out status out′ → Answers m a out status out′
 alike m out status out′ a b e t = rw e t
@@ -23,30 +26,45 @@ pub one-told : (m out : List ℕ) (status : ℕ) (out′ : List ℕ) (o : Op) (n
 unfolding statusOf wordsOf
 one-told m out status out′ o n e s w = (rw e s, rw e w)
 
-module _ (p : ℕ) where
-  passed : (place : ℕ) (a other : Asked) → (p ≡ place → ⊥) → at p place a other ≡ other
-  passed place a other h = rw (ne-eqb p place h)
+-- The operations that `carried_out`, `step` and `question` match on, in their order.
+abbrev pub more : List String
+more = "matches" ∷ "resolve" ∷ []
 
-  pub no-none : (p ≡ rowsAt → ⊥) → (p ≡ countAt → ⊥) → (p ≡ nextAt → ⊥) → withNone p ≡ Bad
-  no-none h k l = passed rowsAt _ _ h ∙ passed countAt _ _ k ∙ passed nextAt _ _ l
+abbrev pub steps : List String
+steps = "open" ∷ "begin" ∷ "ready" ∷ "fail" ∷ "unload" ∷ "finish" ∷ "replace" ∷ "admit" ∷ "call" ∷ "retire" ∷ "retire_child" ∷ "remove" ∷ "offer" ∷ []
 
-  pub no-of-one : (id : ℕ) → (p ≡ retireAt → ⊥) → (p ≡ removeAt → ⊥) → (p ≡ childAt → ⊥) → (p ≡ missingAt → ⊥) → ofOne p id ≡ Bad
-  no-of-one id h k l n = passed retireAt _ _ h ∙ passed removeAt _ _ k ∙ passed childAt _ _ l ∙ passed missingAt _ _ n
+abbrev pub questions : List String
+questions = "fits" ∷ "child" ∷ "read" ∷ "visible" ∷ "missing" ∷ "declares" ∷ "lookup" ∷ "rows" ∷ "count" ∷ "next" ∷ []
 
-  pub no-one : (id : ℕ) → (p ≡ beginAt → ⊥) → (p ≡ readyAt → ⊥) → (p ≡ failAt → ⊥) → (p ≡ unloadAt → ⊥) → (p ≡ finishAt → ⊥) → withOne p id ≡ ofOne p id
-  no-one id h k l n o = passed beginAt _ _ h ∙ passed readyAt _ _ k ∙ passed failAt _ _ l ∙ passed unloadAt _ _ n ∙ passed finishAt _ _ o
+module _ (place : ℕ) where
+  pub matches-asked : (l : List ℕ) (a : ℕ) (r : List ℕ) → place ≡ placeOf "matches" → a ≡ first l → r ≡ rest l → askedAt place l ≡ Told (Matching a r)
+  unfolding operationAt placeAmong
+  matches-asked l a r e f g = ap (λ (p : ℕ). askedAt p l) e ∙ rw (f, g)
 
-  pub no-two : (a b : ℕ) → (p ≡ openAt → ⊥) → (p ≡ replaceAt → ⊥) → (p ≡ visibleAt → ⊥) → (p ≡ lookupAt → ⊥) → (p ≡ fitsAt → ⊥) → withTwo p a b ≡ Bad
-  no-two a b h k l n o = passed openAt _ _ h ∙ passed replaceAt _ _ k ∙ passed visibleAt _ _ l ∙ passed lookupAt _ _ n ∙ passed fitsAt _ _ o
+  pub resolve-asked : (l : List ℕ) (a : ℕ) (r : List ℕ) → place ≡ placeOf "resolve" → a ≡ first l → r ≡ rest l → askedAt place l ≡ Told (ResolveKey r a)
+  unfolding operationAt placeAmong
+  resolve-asked l a r e f g = ap (λ (p : ℕ). askedAt p l) e ∙ rw (f, g)
 
-  pub no-three : (a b c : ℕ) → (p ≡ retireChildAt → ⊥) → (p ≡ readAt → ⊥) → (p ≡ declaresAt → ⊥) → withThree p a b c ≡ Bad
-  no-three a b c h k l = passed retireChildAt _ _ h ∙ passed readAt _ _ k ∙ passed declaresAt _ _ l
+  -- All but these take at most five numbers, and no more;
+  pub no-more : (l : List ℕ) (a b c d e : ℕ) → a ≡ first l → b ≡ second l → c ≡ third l → d ≡ fourth l → e ≡ fifth l → Other (Unit {0}) more place → askedAt place l ≡ exactAt place (five a b c d e)
+  unfolding placeAmong
+  no-more l a b c d e ea eb ec ed ee h = the-others Bad more (λ o. o .asks l) (exact (five (first l) (second l) (third l) (fourth l) (fifth l))) refl place h ∙ rw (ea, eb, ec, ed, ee)
 
-  pub no-four : (a b c d : ℕ) → (p ≡ offerAt → ⊥) → withFour p a b c d ≡ Bad
-  no-four a b c d h = passed offerAt _ _ h
+  module _ (l m out : List ℕ) where
+    -- of those, all but these change nothing;
+    pub no-step : (status : ℕ) (out′ : List ℕ) → Other (Unit {0}) steps place → Answers m (questionAt place l) out status out′ → Carried m (exactAt place l) out status out′ m
+    unfolding placeAmong
+    no-step status out′ h t =
+        let k : m ≡ leftBy m (questionAt place l) = the-others m [] (λ o. m) (λ o. leftBy m (question l o)) refl place tt in
+        same m out status out′ m (exactAt place l) (questionAt place l) (the-others Bad steps (exact l) (question l) refl place h) (t, k)
 
-  pub no-five : (a b c d e : ℕ) → (p ≡ admitAt → ⊥) → (p ≡ callAt → ⊥) → withFive p a b c d e ≡ Bad
-  no-five a b c d e h k = passed admitAt _ _ h ∙ passed callAt _ _ k
+    -- and of those, all but these ask for nothing.
+    pub no-question : Other (Unit {0}) questions place → Answers m (questionAt place l) out last out
+    unfolding placeAmong
+    no-question h = alike m out last out (questionAt place l) Bad (the-others Bad questions (question l) (λ o. Bad) refl place h) (refl, refl)
 
-  pub other-list : (p ≡ depsAt → ⊥) → (p ≡ provsAt → ⊥) → listAt p ≡ RealmRows
-  other-list h k = rw (ne-eqb p depsAt h, ne-eqb p provsAt k)
+    pub step-at : (status : ℕ) (out′ m′ : List ℕ) (there : ℕ) → place ≡ there → Carried m (exactAt there l) out status out′ m′ → Carried m (exactAt place l) out status out′ m′
+    step-at status out′ m′ there e t = same m out status out′ m′ (exactAt place l) (exactAt there l) (ap (λ (p : ℕ). exactAt p l) e) t
+
+    pub question-at : (status : ℕ) (out′ : List ℕ) (there : ℕ) → place ≡ there → Answers m (questionAt there l) out status out′ → Answers m (questionAt place l) out status out′
+    question-at status out′ there e t = alike m out status out′ (questionAt place l) (questionAt there l) (ap (λ (p : ℕ). questionAt p l) e) t

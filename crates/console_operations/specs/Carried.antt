@@ -10,7 +10,7 @@ use Rattle.host_answers.specs.Told.{statusOf, wordsOf, Tells}
 use Rattle.demands.specs.Leaves.{leaves}
 use Rattle.demands.specs.Starts.{blank}
 use Rattle.host.specs.Tells.{answer}
-use Rattle.console_operations.specs.Asked.{Asked, Bad, Open, Stated, Told}
+use Rattle.console_names.specs.Table.{Asked, Bad, Open, Stated, Told}
 
 -- The status: that of what is no operation is no refusal's number.
 abbrev pub statusBy : List ℕ → Asked → ℕ

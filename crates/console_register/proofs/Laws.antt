@@ -8,7 +8,7 @@ use Rattle.console_definition.specs.declared.Parent.{Parent}
 use Rattle.console_definition.specs.declared.Parent.the-variants.{Of, Nobody, Bad}
 use Rattle.console_definition.specs.declared.Head.{Head}
 use Rattle.console_definition.specs.Draft.{ThreeLists, drafted}
-use Rattle.console_operations.specs.Asked as asked
+use Rattle.console_names.specs.Table as asked
 use Rattle.console_register.specs.Enrolled.{enrolment, underParent}
 
 pub yes : (b : Bool) → not b ≡ false → b ≡ true

@@ -9,8 +9,8 @@ use Rattle.memory.specs.declared.Parent.the-variants as memory
 use Rattle.registry_register.specs.Written.{definition}
 use Rattle.console_definition.specs.declared.Parent.{Parent}
 use Rattle.console_definition.specs.declared.Parent.the-variants.{Of, Nobody, Bad}
-use Rattle.console_operations.specs.Asked as asked
-use Rattle.console_operations.specs.Asked.{Asked, Told}
+use Rattle.console_names.specs.Table as asked
+use Rattle.console_names.specs.Table.{Asked, Told}
 
 abbrev pub enrolment : Option Definition → Asked
 enrolment none = asked.Bad

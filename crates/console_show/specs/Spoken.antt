@@ -1,10 +1,11 @@
 -- The line of what an operation answered.
 use Prim.Native.Nat.{ℕ}
 use mathlib.Core.List.{List}
-use lib.Dec.{eqb, ltb}
+use lib.Dec.{eqb}
 use Rattle.rules.specs.Basics.{pick, last}
 use Rattle.rules.specs.Outcomes.{Answer}
-use Rattle.console_names.specs.Places.{childAt, fitsAt}
+use Rattle.console_names.specs.declared.Values.{Values}
+use Rattle.console_names.specs.declared.Values.the-variants.{Nothing, Numbers, NumbersOrNone, YesOrNo}
 use Rattle.console_answer.specs.Pages.{Page, putOn}
 use Rattle.console_answer.specs.Answers.{badWord, answerIn, answerOn, answerOrNoneOn, answerYesNoOn}
 
@@ -12,9 +13,12 @@ use Rattle.console_answer.specs.Answers.{badWord, answerIn, answerOn, answerOrN
 abbrev pub bad : ℕ
 bad = last
 
--- Operations before `child` answer numbers, those from there on numbers or none, and those from `fits` on yes or no.
-abbrev pub lineOn : Page → ℕ → Answer → Page
-lineOn p place a = pick (ltb place childAt) (answerOn p a) (pick (ltb place fitsAt) (answerOrNoneOn p a) (answerYesNoOn p a))
+-- The line of an answer, by the values that an acceptance has.
+abbrev pub lineOn : Page → Values → Answer → Page
+lineOn p Nothing a = answerOn p a
+lineOn p Numbers a = answerOn p a
+lineOn p NumbersOrNone a = answerOrNoneOn p a
+lineOn p YesOrNo a = answerYesNoOn p a
 
-unfoldable pub spokenOn : Page → ℕ → ℕ → List ℕ → Page
-spokenOn p place status l = pick (eqb status bad) (putOn p badWord) (lineOn p place (answerIn status l))
+unfoldable pub spokenOn : Page → Values → ℕ → List ℕ → Page
+spokenOn p v status l = pick (eqb status bad) (putOn p badWord) (lineOn p v (answerIn status l))

@@ -8,23 +8,23 @@ ghost use Rattle.console_show.specs.Shown.{Registered, lifeOn, rootOn, s
 use console_answer::ROOM;
 use console_names::BAD;
 use console_names::BUFFER_ROOM;
+use console_names::Values;
 use host_answers::ANSWER;
 use memory::WORDS;
 
-// The operation's place among the names says what the numbers of an acceptance are.
-pub fn spoken(text: &mut [u8; ROOM], place: usize, status: u64, out: &[u64; ANSWER]) -> usize
-    ensures { λ r. ⌜ upTo (now (text .exit)) r ≡ spokenOn (upTo (now (text .entry)) 0) place status (toldIn (now (out .entry))) ⌝ }
+// The operation's row says what the values of an acceptance are.
+pub fn spoken(text: &mut [u8; ROOM], values: Values, status: u64, out: &[u64; ANSWER]) -> usize
+    ensures { λ r. ⌜ upTo (now (text .exit)) r ≡ spokenOn (upTo (now (text .entry)) 0) values status (toldIn (now (out .entry))) ⌝ }
 {
     if status == BAD {
         return console_answer::put(text, 0, b"bad");
     }
-    if place < console_names::OR_NONE {
-        return console_answer::told(text, status, out);
+    match values {
+        Values::Nothing => console_answer::told(text, status, out),
+        Values::Numbers => console_answer::told(text, status, out),
+        Values::NumbersOrNone => console_answer::or_none(text, status, out),
+        Values::YesOrNo => console_answer::yes_no(text, status, out),
     }
-    if place < console_names::YES_NO {
-        return console_answer::or_none(text, status, out);
-    }
-    console_answer::yes_no(text, status, out)
 }
 
 // The buffer's numbers from one place up to another.

@@ -67,6 +67,18 @@ console-names-which κs a r s ms ns p q = by-equation p q
 pub console-names-operation : One console_names.operation.ended console_names.operation.Reads.Learnt
 console-names-operation κs a r s ms ns p q = by-equation p q
 
+pub console-names-row-at : One console_names.«row_at».ended console_names.«row_at».Reads.Learnt
+console-names-row-at κs a r s ms ns p q = by-equation p q
+
+pub console-names-takes : One console_names.takes.ended console_names.takes.Reads.Learnt
+console-names-takes κs a r s ms ns p q = by-equation p q
+
+pub console-names-nth : One console_names.nth.ended console_names.nth.Reads.Learnt
+console-names-nth κs a r s ms ns p q = by-equation p q
+
+pub console-names-rest : OneSeen console_names.rest.ended (λ κs r. now r) console_names.rest.Reads.Learnt
+console-names-rest κs a r s ms ns p q = by-equation p q
+
 pub console-names-numbers : One console_names.numbers.ended console_names.numbers.Reads.Learnt
 console-names-numbers κs a r s ms ns p q = numbered-one p q
 

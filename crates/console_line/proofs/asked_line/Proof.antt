@@ -1,5 +1,5 @@
 use Rattle.console_answer.specs.Pages.{upTo}
-use Rattle.console_operations.specs.Asked.{askedFor}
+use Rattle.console_names.specs.Table.{askedAt}
 use Rattle.console_line.proofs.Laws.{asked-said}
 use borrow.Author.Needs.{needs}
 use Rattle.console_line.proofs.asked_line.Statement.{statement}
@@ -15,7 +15,12 @@ returns : tie.Need-returns
 returns c =
     let x = c .before .before .before .before .before .before .before .args in
     let o = c .before .before .before .carried-out .ensures in
-    (asked-said (upTo (x .text .now) 0) (x .m .now) (x .place) (askedFor (x .place) (x .l .now)) _ _ _ (o .0 .0) (o .0 .1) (c .spoken .ensures), o .1)
+    (asked-said (upTo (x .text .now) 0) (x .m .now) (x .values) (askedAt (x .place) (x .l .now)) _ _ _ (o .0 .0) (o .0 .1) (c .spoken .ensures), o .1)
 
 pub asked-line-spec : {M : Type 1} → statement M
-asked-line-spec = tie.close (tie.spec carried-out-requires spoken-requires returns)
+asked-line-spec =
+    tie.close
+    (tie.spec
+    carried-out-requires
+    spoken-requires
+    returns)

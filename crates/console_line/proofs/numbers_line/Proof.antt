@@ -1,55 +1,85 @@
-use Prim.Native.Nat.{ℕ}
 use mathlib.Core.Path.{refl, ap}
 use Rattle.console_answer.specs.Pages.{upTo}
+use Rattle.console_names.specs.declared.Kind.{Kind}
 use Rattle.console_line.specs.Lines.{numbersLine}
-use Rattle.console_line.proofs.Laws.{same-done, numbers-asked, numbers-list}
+use Rattle.console_line.proofs.Laws.{same-done, shown-done, buffered-done}
 use borrow.Author.Needs.{needs}
 use Rattle.console_line.proofs.numbers_line.Statement.{statement}
 use Rattle.console_line.proofs.numbers_line.Tie as tie
+
+nth-requires : tie.Need-nth-requires
+nth-requires c κs = search needs
+
+nth-requires-2 : tie.Need-nth-requires-2
+nth-requires-2 c κs = search needs
+
+enum-told : tie.Need-enum-told
+enum-told c = search needs
+
+shown-requires : tie.Need-shown-requires
+shown-requires c κs = search needs
+
+enum-told-2 : tie.Need-enum-told-2
+enum-told-2 c = search needs
+
+buffered-requires : tie.Need-buffered-requires
+buffered-requires c κs = search needs
+
+enum-known-kind : tie.Need-enum-known-kind
+enum-known-kind c = search needs
+
+list-line-requires : tie.Need-list-line-requires
+list-line-requires c κs = search needs
+
+enum-known-kind-2 : tie.Need-enum-known-kind-2
+enum-known-kind-2 c = search needs
 
 asked-line-requires : tie.Need-asked-line-requires
 asked-line-requires c κs = search needs
 
 returns : tie.Need-returns
 returns c =
-    let x = c .before .before .before .before .before .args in
-    let o = c .asked-line .ensures in
-    same-done _ _ _ _ _ _ (numbers-asked (upTo (x .text .now) 0) (x .m .now) (x .buffer .now) (x .place) (x .l .now) (c .before .before .before .if1 .taken)) (o .0, o .1, refl)
-
-show-line-requires : tie.Need-show-line-requires
-show-line-requires c κs = search needs
-
-buffer-line-requires : tie.Need-buffer-line-requires
-buffer-line-requires c κs = search needs
-
-list-line-requires : tie.Need-list-line-requires
-list-line-requires c κs = search needs
+    let at = c .before .before .before in
+    let first = at .before .before .before in
+    let x = first .before .before .args in
+    shown-done (upTo (x .text .now) 0) (x .m .now) (x .buffer .now) (x .place) (x .kind) (x .l .now) _ (first .nth .ensures) (at .enum-told .given .1) _ _ (c .shown .ensures)
 
 returns-2 : tie.Need-returns-2
 returns-2 c =
-    let x = c .before .before .before .before .before .before .args in
-    same-done _ _ _ _ _ _ (ap (λ (p : ℕ). numbersLine (upTo (x .text .now) 0) (x .m .now) (x .buffer .now) p (x .l .now)) (c .before .before .before .match .keys1)) (c .show-line .ensures, refl, refl)
+    let at = c .before .before .before in
+    let second = at .before .before in
+    let first = second .before in
+    let x = first .before .before .args in
+    buffered-done (upTo (x .text .now) 0) (x .m .now) (x .buffer .now) (x .place) (x .kind) (x .l .now) _ _ (first .nth .ensures) (second .nth2 .ensures) (at .enum-told2 .given .1) _ _ (c .buffered .ensures)
 
 returns-3 : tie.Need-returns-3
 returns-3 c =
-    let x = c .before .before .before .before .before .before .args in
-    same-done _ _ _ _ _ _ (ap (λ (p : ℕ). numbersLine (upTo (x .text .now) 0) (x .m .now) (x .buffer .now) p (x .l .now)) (c .before .before .before .match .keys2)) (c .buffer-line .ensures, refl, refl)
+    let at = c .before .before .before .before .before in
+    let x = at .before .before .before .before .before .args in
+    same-done _ _ _ _ _ _ (ap (λ (k : Kind). numbersLine (upTo (x .text .now) 0) (x .m .now) (x .buffer .now) (x .place) k (x .l .now)) (at .kind .given .1)) (c .list-line .ensures)
 
 returns-4 : tie.Need-returns-4
 returns-4 c =
-    let x = c .before .before .before .before .before .before .before .args in
-    let r = c .before .before .before .before .match .rest in
-    same-done _ _ _ _ _ _ (numbers-list (upTo (x .text .now) 0) (x .m .now) (x .buffer .now) (x .place) (x .l .now) (c .before .before .before .before .before .if1 .left) (r .0 .1) (r .1)) (c .list-line .ensures)
+    let at = c .before .before .before .before in
+    let x = at .before .before .before .before .before .args in
+    let o = c .asked-line .ensures in
+    same-done _ _ _ _ _ _ (ap (λ (k : Kind). numbersLine (upTo (x .text .now) 0) (x .m .now) (x .buffer .now) (x .place) k (x .l .now)) (at .kind2 .given .1)) (o .0, o .1, refl)
 
 pub numbers-line-spec : {M : Type 1} → statement M
 numbers-line-spec =
     tie.close
     (tie.spec
+    nth-requires
+    nth-requires-2
+    enum-told
+    shown-requires
+    enum-told-2
+    buffered-requires
+    enum-known-kind
+    list-line-requires
+    enum-known-kind-2
     asked-line-requires
     returns
-    show-line-requires
-    buffer-line-requires
-    list-line-requires
     returns-2
     returns-3
     returns-4)

@@ -1,5 +1,5 @@
 use Rattle.console_answer.specs.Pages.{upTo}
-use Rattle.console_names.specs.Places.{registerAt}
+use Rattle.console_names.specs.declared.Values.the-variants.{Numbers}
 use Rattle.console_definition.specs.Draft.{draftIn}
 use Rattle.console_register.specs.Enrolled.{enrolment}
 use Rattle.console_line.proofs.Laws.{asked-said}
@@ -17,7 +17,12 @@ returns : tie.Need-returns
 returns c =
     let x = c .before .before .before .before .before .before .before .args in
     let o = c .before .before .before .enrolled .ensures in
-    (asked-said (upTo (x .text .now) 0) (x .m .now) registerAt (enrolment (draftIn (x .bytes .now) (x .from))) _ _ _ (o .0 .0) (o .0 .1) (c .spoken .ensures), o .1)
+    (asked-said (upTo (x .text .now) 0) (x .m .now) Numbers (enrolment (draftIn (x .bytes .now) (x .from))) _ _ _ (o .0 .0) (o .0 .1) (c .spoken .ensures), o .1)
 
 pub register-line-spec : {M : Type 1} → statement M
-register-line-spec = tie.close (tie.spec enrolled-requires spoken-requires returns)
+register-line-spec =
+    tie.close
+    (tie.spec
+    enrolled-requires
+    spoken-requires
+    returns)
