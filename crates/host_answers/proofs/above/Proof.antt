@@ -5,28 +5,22 @@ use borrow.Author.Needs.{needs}
 use Rattle.host_answers.proofs.above.Statement.{statement}
 use Rattle.host_answers.proofs.above.Tie as tie
 
--- src/lib.rt:172:27
 enum-known-a : tie.Need-enum-known-a
 enum-known-a c = search needs
 
--- src/lib.rt:172:33
 one-requires : tie.Need-one-requires
 one-requires c κs = search needs
 
--- src/lib.rt:173:40
 enum-told : tie.Need-enum-told
 enum-told c = search needs
 
--- src/lib.rt:173:35
 none-requires : tie.Need-none-requires
 none-requires c κs = search needs
 
--- src/lib.rt:168:1
 returns : tie.Need-returns
 unfolding statusOf wordsOf
 returns c = told _ _ (c .before .before .before .before .before .args .out .now) _ _ (ap aboveAnswer (c .before .before .before .a .given .1)) (c .one .ensures .0) (c .one .ensures .1)
 
--- src/lib.rt:168:1
 returns-2 : tie.Need-returns-2
 unfolding statusOf wordsOf
 returns-2 c = told _ _ (c .before .before .before .before .args .out .now) _ _ (ap aboveAnswer (c .before .before .enum-told .given .1)) (c .none .ensures .0) (c .none .ensures .1)

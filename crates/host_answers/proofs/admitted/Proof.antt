@@ -5,24 +5,19 @@ use borrow.Author.Needs.{needs}
 use Rattle.host_answers.proofs.admitted.Statement.{statement}
 use Rattle.host_answers.proofs.admitted.Tie as tie
 
--- src/lib.rt:218:33
 enum-known-a : tie.Need-enum-known-a
 enum-known-a c = search needs
 
--- src/lib.rt:218:80
 five-requires : tie.Need-five-requires
 five-requires c κs = search needs
 
--- src/lib.rt:226:38
 enum-known-a-2 : tie.Need-enum-known-a-2
 enum-known-a-2 c = search needs
 
--- src/lib.rt:214:1
 returns : tie.Need-returns
 unfolding statusOf wordsOf
 returns c = told _ _ _ _ _ (ap admittedAnswer (c .before .before .before .a .given .1)) (c .five .ensures .0) (c .five .ensures .1)
 
--- src/lib.rt:214:1
 returns-2 : tie.Need-returns-2
 unfolding statusOf wordsOf
 returns-2 c = told _ _ (c .before .before .before .args .out .now) _ _ (ap admittedAnswer (c .before .a2 .given .1)) refl refl

@@ -5,24 +5,19 @@ use borrow.Author.Needs.{needs}
 use Rattle.host_answers.proofs.begun.Statement.{statement}
 use Rattle.host_answers.proofs.begun.Tie as tie
 
--- src/lib.rt:190:33
 enum-known-a : tie.Need-enum-known-a
 enum-known-a c = search needs
 
--- src/lib.rt:190:66
 four-requires : tie.Need-four-requires
 four-requires c κs = search needs
 
--- src/lib.rt:197:34
 enum-known-a-2 : tie.Need-enum-known-a-2
 enum-known-a-2 c = search needs
 
--- src/lib.rt:186:1
 returns : tie.Need-returns
 unfolding statusOf wordsOf
 returns c = told _ _ _ _ _ (ap begunAnswer (c .before .before .before .a .given .1)) (c .four .ensures .0) (c .four .ensures .1)
 
--- src/lib.rt:186:1
 returns-2 : tie.Need-returns-2
 unfolding statusOf wordsOf
 returns-2 c = told _ _ (c .before .before .before .args .out .now) _ _ (ap begunAnswer (c .before .a2 .given .1)) refl refl

@@ -5,37 +5,29 @@ use borrow.Author.Needs.{needs}
 use Rattle.host_answers.proofs.child.Statement.{statement}
 use Rattle.host_answers.proofs.child.Tie as tie
 
--- src/lib.rt:251:29
 enum-known-a : tie.Need-enum-known-a
 enum-known-a c = search needs
 
--- src/lib.rt:251:52
 three-requires : tie.Need-three-requires
 three-requires c κs = search needs
 
--- src/lib.rt:252:41
 enum-told : tie.Need-enum-told
 enum-told c = search needs
 
--- src/lib.rt:252:36
 none-requires : tie.Need-none-requires
 none-requires c κs = search needs
 
--- src/lib.rt:253:34
 enum-known-a-2 : tie.Need-enum-known-a-2
 enum-known-a-2 c = search needs
 
--- src/lib.rt:247:1
 returns : tie.Need-returns
 unfolding statusOf wordsOf
 returns c = told _ _ _ _ _ (ap childAnswer (c .before .before .before .a .given .1)) (c .three .ensures .0) (c .three .ensures .1)
 
--- src/lib.rt:247:1
 returns-2 : tie.Need-returns-2
 unfolding statusOf wordsOf
 returns-2 c = told _ _ (c .before .before .before .before .args .out .now) _ _ (ap childAnswer (c .before .before .enum-told .given .1)) (c .none .ensures .0) (c .none .ensures .1)
 
--- src/lib.rt:247:1
 returns-3 : tie.Need-returns-3
 unfolding statusOf wordsOf
 returns-3 c = told _ _ (c .before .before .before .args .out .now) _ _ (ap childAnswer (c .before .a2 .given .1)) refl refl

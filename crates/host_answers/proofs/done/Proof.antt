@@ -3,20 +3,16 @@ use borrow.Author.Needs.{needs}
 use Rattle.host_answers.proofs.done.Statement.{statement}
 use Rattle.host_answers.proofs.done.Tie as tie
 
--- src/lib.rt:26:35
 enum-told : tie.Need-enum-told
 enum-told c = search needs
 
--- src/lib.rt:27:31
 enum-known-a : tie.Need-enum-known-a
 enum-known-a c = search needs
 
--- src/lib.rt:22:1
 returns : tie.Need-returns
 unfolding statusOf
 returns c = search needs
 
--- src/lib.rt:22:1
 returns-2 : tie.Need-returns-2
 unfolding statusOf
 returns-2 c = search needs

@@ -5,39 +5,30 @@ use borrow.Author.Needs.{needs}
 use Rattle.host_answers.proofs.issued.Statement.{statement}
 use Rattle.host_answers.proofs.issued.Tie as tie
 
--- src/lib.rt:279:41
 enum-told : tie.Need-enum-told
 enum-told c = search needs
 
--- src/lib.rt:279:34
 one-requires : tie.Need-one-requires
 one-requires c κs = search needs
 
--- src/lib.rt:280:29
 enum-known-root : tie.Need-enum-known-root
 enum-known-root c = search needs
 
--- src/lib.rt:280:52
 three-requires : tie.Need-three-requires
 three-requires c κs = search needs
 
--- src/lib.rt:281:38
 enum-told-2 : tie.Need-enum-told-2
 enum-told-2 c = search needs
 
--- src/lib.rt:281:31
 one-requires-2 : tie.Need-one-requires-2
 one-requires-2 c κs = search needs
 
--- src/lib.rt:275:1
 returns : tie.Need-returns
 returns c = (c .one .ensures .0, c .one .ensures .1 ∙ sym (ap (λ x. counted (rootNumbers x) (c .before .before .before .before .args .out .now)) (c .before .before .enum-told .given .1)))
 
--- src/lib.rt:275:1
 returns-2 : tie.Need-returns-2
 returns-2 c = (c .three .ensures .0, c .three .ensures .1 ∙ sym (ap (λ x. counted (rootNumbers x) (c .before .before .before .before .before .args .out .now)) (c .before .before .before .root .given .1)))
 
--- src/lib.rt:275:1
 returns-3 : tie.Need-returns-3
 returns-3 c = (c .one2 .ensures .0, c .one2 .ensures .1 ∙ sym (ap (λ x. counted (rootNumbers x) (c .before .before .before .before .args .out .now)) (c .before .before .enum-told2 .given .1)))
 

@@ -5,37 +5,29 @@ use borrow.Author.Needs.{needs}
 use Rattle.host_answers.proofs.perhaps.Statement.{statement}
 use Rattle.host_answers.proofs.perhaps.Tie as tie
 
--- src/lib.rt:125:29
 enum-known-a : tie.Need-enum-known-a
 enum-known-a c = search needs
 
--- src/lib.rt:125:35
 one-requires : tie.Need-one-requires
 one-requires c κs = search needs
 
--- src/lib.rt:126:42
 enum-told : tie.Need-enum-told
 enum-told c = search needs
 
--- src/lib.rt:126:37
 none-requires : tie.Need-none-requires
 none-requires c κs = search needs
 
--- src/lib.rt:127:34
 enum-known-a-2 : tie.Need-enum-known-a-2
 enum-known-a-2 c = search needs
 
--- src/lib.rt:121:1
 returns : tie.Need-returns
 unfolding statusOf wordsOf
 returns c = told _ _ (c .before .before .before .before .before .args .out .now) _ _ (ap perhapsAnswer (c .before .before .before .a .given .1)) (c .one .ensures .0) (c .one .ensures .1)
 
--- src/lib.rt:121:1
 returns-2 : tie.Need-returns-2
 unfolding statusOf wordsOf
 returns-2 c = told _ _ (c .before .before .before .before .args .out .now) _ _ (ap perhapsAnswer (c .before .before .enum-told .given .1)) (c .none .ensures .0) (c .none .ensures .1)
 
--- src/lib.rt:121:1
 returns-3 : tie.Need-returns-3
 unfolding statusOf wordsOf
 returns-3 c = told _ _ (c .before .before .before .args .out .now) _ _ (ap perhapsAnswer (c .before .a2 .given .1)) refl refl

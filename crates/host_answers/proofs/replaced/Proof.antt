@@ -5,28 +5,22 @@ use borrow.Author.Needs.{needs}
 use Rattle.host_answers.proofs.replaced.Statement.{statement}
 use Rattle.host_answers.proofs.replaced.Tie as tie
 
--- src/lib.rt:206:37
 enum-known-a : tie.Need-enum-known-a
 enum-known-a c = search needs
 
--- src/lib.rt:206:49
 one-requires : tie.Need-one-requires
 one-requires c κs = search needs
 
--- src/lib.rt:207:38
 enum-known-a-2 : tie.Need-enum-known-a-2
 enum-known-a-2 c = search needs
 
--- src/lib.rt:208:13
 one-requires-2 : tie.Need-one-requires-2
 one-requires-2 c κs = search needs
 
--- src/lib.rt:202:1
 returns : tie.Need-returns
 unfolding statusOf wordsOf
 returns c = told _ _ (c .before .before .before .before .before .args .out .now) _ _ (ap replacedAnswer (c .before .before .before .a .given .1)) (c .one .ensures .0) (c .one .ensures .1)
 
--- src/lib.rt:202:1
 returns-2 : tie.Need-returns-2
 unfolding statusOf wordsOf
 returns-2 c = told _ _ _ _ _ (ap replacedAnswer (c .before .before .before .a2 .given .1)) refl (c .one2 .ensures .1)

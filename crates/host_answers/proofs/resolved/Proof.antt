@@ -5,24 +5,19 @@ use borrow.Author.Needs.{needs}
 use Rattle.host_answers.proofs.resolved.Statement.{statement}
 use Rattle.host_answers.proofs.resolved.Tie as tie
 
--- src/lib.rt:154:29
 enum-known-a : tie.Need-enum-known-a
 enum-known-a c = search needs
 
--- src/lib.rt:154:35
 two-requires : tie.Need-two-requires
 two-requires c κs = search needs
 
--- src/lib.rt:155:34
 enum-known-a-2 : tie.Need-enum-known-a-2
 enum-known-a-2 c = search needs
 
--- src/lib.rt:150:1
 returns : tie.Need-returns
 unfolding statusOf wordsOf
 returns c = told _ _ _ _ _ (ap resolvedAnswer (c .before .before .before .a .given .1)) (c .two .ensures .0) (c .two .ensures .1)
 
--- src/lib.rt:150:1
 returns-2 : tie.Need-returns-2
 unfolding statusOf wordsOf
 returns-2 c = told _ _ (c .before .before .before .args .out .now) _ _ (ap resolvedAnswer (c .before .a2 .given .1)) refl refl

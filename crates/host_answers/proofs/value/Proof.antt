@@ -5,28 +5,22 @@ use borrow.Author.Needs.{needs}
 use Rattle.host_answers.proofs.value.Statement.{statement}
 use Rattle.host_answers.proofs.value.Tie as tie
 
--- src/lib.rt:270:28
 enum-known-a : tie.Need-enum-known-a
 enum-known-a c = search needs
 
--- src/lib.rt:270:34
 one-requires : tie.Need-one-requires
 one-requires c κs = search needs
 
--- src/lib.rt:271:41
 enum-told : tie.Need-enum-told
 enum-told c = search needs
 
--- src/lib.rt:271:36
 none-requires : tie.Need-none-requires
 none-requires c κs = search needs
 
--- src/lib.rt:266:1
 returns : tie.Need-returns
 unfolding statusOf wordsOf
 returns c = told _ _ (c .before .before .before .before .before .args .out .now) _ _ (ap valueAnswer (c .before .before .before .a .given .1)) (c .one .ensures .0) (c .one .ensures .1)
 
--- src/lib.rt:266:1
 returns-2 : tie.Need-returns-2
 unfolding statusOf wordsOf
 returns-2 c = told _ _ (c .before .before .before .before .args .out .now) _ _ (ap valueAnswer (c .before .before .enum-told .given .1)) (c .none .ensures .0) (c .none .ensures .1)

@@ -5,37 +5,29 @@ use borrow.Author.Needs.{needs}
 use Rattle.host_answers.proofs.whether.Statement.{statement}
 use Rattle.host_answers.proofs.whether.Tie as tie
 
--- src/lib.rt:106:40
 enum-told : tie.Need-enum-told
 enum-told c = search needs
 
--- src/lib.rt:106:33
 one-requires : tie.Need-one-requires
 one-requires c κs = search needs
 
--- src/lib.rt:107:39
 enum-told-2 : tie.Need-enum-told-2
 enum-told-2 c = search needs
 
--- src/lib.rt:107:32
 one-requires-2 : tie.Need-one-requires-2
 one-requires-2 c κs = search needs
 
--- src/lib.rt:108:34
 enum-known-a : tie.Need-enum-known-a
 enum-known-a c = search needs
 
--- src/lib.rt:102:1
 returns : tie.Need-returns
 unfolding statusOf wordsOf
 returns c = told _ _ (c .before .before .before .before .args .out .now) _ _ (ap whetherAnswer (c .before .before .enum-told .given .1)) (c .one .ensures .0) (c .one .ensures .1)
 
--- src/lib.rt:102:1
 returns-2 : tie.Need-returns-2
 unfolding statusOf wordsOf
 returns-2 c = told _ _ (c .before .before .before .before .args .out .now) _ _ (ap whetherAnswer (c .before .before .enum-told2 .given .1)) (c .one2 .ensures .0) (c .one2 .ensures .1)
 
--- src/lib.rt:102:1
 returns-3 : tie.Need-returns-3
 unfolding statusOf wordsOf
 returns-3 c = told _ _ (c .before .before .before .args .out .now) _ _ (ap whetherAnswer (c .before .a .given .1)) refl refl

@@ -5,20 +5,16 @@ use borrow.Author.Needs.{needs}
 use Rattle.host_answers.proofs.yes_or_no.Statement.{statement}
 use Rattle.host_answers.proofs.yes_or_no.Tie as tie
 
--- src/lib.rt:288:12
 one-requires : tie.Need-one-requires
 one-requires c κs = search needs
 
--- src/lib.rt:288:33
 one-requires-2 : tie.Need-one-requires-2
 one-requires-2 c κs = search needs
 
--- src/lib.rt:285:1
 returns : tie.Need-returns
 unfolding statusOf wordsOf
 returns c = told _ _ (c .before .before .before .args .out .now) _ _ (ap admitsAnswer (c .before .before .if1 .taken)) (c .one .ensures .0) (c .one .ensures .1)
 
--- src/lib.rt:285:1
 returns-2 : tie.Need-returns-2
 unfolding statusOf wordsOf
 returns-2 c = told _ _ (c .before .before .before .args .out .now) _ _ (ap admitsAnswer (c .before .before .if1 .left)) (c .one2 .ensures .0) (c .one2 .ensures .1)

@@ -13,31 +13,25 @@ Inv-loop m id i₀ i = (i ≤ 32) × (findAt m id ≡ findFrom (32 - i) m id i)
 abbrev μ-loop : tie.MeasureT-loop
 μ-loop m id i₀ i = 32 - i
 
--- src/lib.rt:75:5
 loop-holds : tie.Need-loop-holds Inv-loop μ-loop
 unfolding findAt
 loop-holds c = (omega arith, refl)
 
--- src/lib.rt:76:12
 names-requires : tie.Need-names-requires Inv-loop μ-loop
 names-requires c κs = search needs
 
--- src/lib.rt:77:13
 returns : tie.Need-returns Inv-loop μ-loop
 returns c =
     sym
     (c .before .before .before .loop .inv .1
     ∙ find-here _ _ _ (omega arith) (sym (c .before .names .ensures) ∙ c .if1 .taken))
 
--- src/lib.rt:79:9
 add-i : tie.Need-add-i Inv-loop μ-loop
 add-i c = search needs
 
--- src/lib.rt:75:5
 loop-less : tie.Need-loop-less Inv-loop μ-loop
 loop-less c = search needs
 
--- src/lib.rt:75:5
 loop-again : tie.Need-loop-again Inv-loop μ-loop
 loop-again c = (
   omega arith,
@@ -45,7 +39,6 @@ loop-again c = (
       ∙ find-next _ _ _ (omega arith) (sym (c .before .names .ensures) ∙ c .if1 .left),
 )
 
--- src/lib.rt:71:1
 returns-2 : tie.Need-returns-2 Inv-loop μ-loop
 returns-2 c = sym (c .before .loop .inv .1 ∙ find-end _ _ _ (omega arith))
 

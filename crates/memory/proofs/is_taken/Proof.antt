@@ -4,24 +4,19 @@ use borrow.Author.Needs.{needs}
 use Rattle.memory.proofs.is_taken.Statement.{statement}
 use Rattle.memory.proofs.is_taken.Tie as tie
 
--- src/lib.rt:58:10
 occupied-requires : tie.Need-occupied-requires
 occupied-requires c κs = search needs
 
--- src/lib.rt:58:25
 cast-result : tie.Need-cast-result
 cast-result c = search needs
 
--- src/lib.rt:58:10
 shr-result : tie.Need-shr-result
 shr-result c = search needs
 
--- src/lib.rt:54:1
 returns : tie.Need-returns
 unfolding taken
 returns c = simp (lt-ltb _ _ (c .before .if1 .taken), c .occupied .ensures)
 
--- src/lib.rt:54:1
 returns-2 : tie.Need-returns-2
 unfolding taken
 returns-2 c = simp (le-ltb _ _ (c .if1 .left))

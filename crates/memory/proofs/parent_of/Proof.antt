@@ -3,39 +3,30 @@ use borrow.Author.Needs.{needs}
 use Rattle.memory.proofs.parent_of.Statement.{statement}
 use Rattle.memory.proofs.parent_of.Tie as tie
 
--- src/lib.rt:109:13
 mul-b : tie.Need-mul-b
 mul-b c = search needs
 
--- src/lib.rt:110:10
 add-if1 : tie.Need-add-if1
 add-if1 c = search needs
 
--- src/lib.rt:110:8
 mul-if1 : tie.Need-mul-if1
 mul-if1 c = search needs
 
--- src/lib.rt:110:8
 element-copy-out-if1 : tie.Need-element-copy-out-if1
 element-copy-out-if1 c = search needs
 
--- src/lib.rt:110:61
 add-t11 : tie.Need-add-t11
 add-t11 c = search needs
 
--- src/lib.rt:110:59
 mul-t12 : tie.Need-mul-t12
 mul-t12 c = search needs
 
--- src/lib.rt:110:59
 element-copy-out-t15 : tie.Need-element-copy-out-t15
 element-copy-out-t15 c = search needs
 
--- src/lib.rt:106:1
 returns : tie.Need-returns
 returns c = rw (c .if1 .taken)
 
--- src/lib.rt:106:1
 returns-2 : tie.Need-returns-2
 returns-2 c = parent-rest _ _ (c .before .if1 .left)
 

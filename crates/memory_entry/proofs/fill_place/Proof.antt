@@ -4,63 +4,49 @@ use borrow.Author.Needs.{needs}
 use Rattle.memory_entry.proofs.fill_place.Statement.{statement}
 use Rattle.memory_entry.proofs.fill_place.Tie as tie
 
--- src/lib.rt:142:9
 returns : tie.Need-returns
 returns c =
     let a = c .before .before .before .before .args in
     fill-not (a .m .now) (a .place % 32) (a .e) (a .dependencies .now) (a .claims .now) (a .realms .now) (c .if1 .taken)
 
--- src/lib.rt:145:9
 returns-2 : tie.Need-returns-2
 returns-2 c =
     let a = c .before .before .before .before .before .args in
     fill-long (a .m .now) (a .place % 32) (a .e) (a .dependencies .now) (a .claims .now) (a .realms .now) (c .before .if1 .left) (c .if2 .taken)
 
--- src/lib.rt:148:15
 mul-row : tie.Need-mul-row
 mul-row c = search needs
 
--- src/lib.rt:148:15
 add-row : tie.Need-add-row
 add-row c = search needs
 
--- src/lib.rt:149:5
 put-words-requires : tie.Need-put-words-requires
 put-words-requires c κs = search needs
 
--- src/lib.rt:150:18
 add-put-words : tie.Need-add-put-words
 add-put-words c = search needs
 
--- src/lib.rt:150:5
 put-words-requires-2 : tie.Need-put-words-requires-2
 put-words-requires-2 c κs = search needs
 
--- src/lib.rt:151:18
 mul-put-words : tie.Need-mul-put-words
 mul-put-words c = search needs
 
--- src/lib.rt:151:18
 add-put-words-2 : tie.Need-add-put-words-2
 add-put-words-2 c = search needs
 
--- src/lib.rt:151:5
 put-words-requires-3 : tie.Need-put-words-requires-3
 put-words-requires-3 c κs = search needs
 
--- src/lib.rt:152:5
 store-entry-requires : tie.Need-store-entry-requires
 store-entry-requires c κs = search needs
 
--- src/lib.rt:153:5
 element-write-m : tie.Need-element-write-m
 element-write-m c = search needs
 
--- src/lib.rt:154:5
 occupy-requires : tie.Need-occupy-requires
 occupy-requires c κs = search needs
 
--- src/lib.rt:137:1
 returns-3 : tie.Need-returns-3
 returns-3 c =
     let s = c .before .before .before .before .before .before .before .before .before .before in

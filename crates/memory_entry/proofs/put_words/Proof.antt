@@ -14,68 +14,54 @@ Inv-loop m₀ from words k₀ m k = (length m ≡ 4488) × (puts m₀ from 0 wor
 abbrev μ-loop : tie.MeasureT-loop
 μ-loop m₀ from words k₀ m k = length words - k
 
--- src/lib.rt:27:5
 known-requires : tie.Need-known-requires Inv-loop μ-loop
 known-requires c κs = search needs
 
--- src/lib.rt:29:5
 loop-holds : tie.Need-loop-holds Inv-loop μ-loop
 loop-holds c = (c .known .ensures, refl)
 
--- src/lib.rt:31:13
 returns : tie.Need-returns Inv-loop μ-loop
 returns c =
     let l = c .before .before .loop in
     let args = c .before .before .before .before .before .before .args in
     sym (l .inv .1 ∙ puts-past (drop (l .k) (args .words .now)) (l .m) (args .from) (l .k) (omega arith))
 
--- src/lib.rt:33:17
 sub-if2 : tie.Need-sub-if2 Inv-loop μ-loop
 sub-if2 c = search needs
 
--- src/lib.rt:34:13
 returns-2 : tie.Need-returns-2 Inv-loop μ-loop
 returns-2 c =
     let l = c .before .before .before .loop in
     let args = c .before .before .before .before .before .before .before .args in
     sym (l .inv .1 ∙ puts-past (drop (l .k) (args .words .now)) (l .m) (args .from) (l .k) (omega arith))
 
--- src/lib.rt:36:23
 mul-m : tie.Need-mul-m Inv-loop μ-loop
 mul-m c = search needs
 
--- src/lib.rt:36:23
 shared-slice-read-m : tie.Need-shared-slice-read-m Inv-loop μ-loop
 shared-slice-read-m c = search needs
 
--- src/lib.rt:36:11
 add-m : tie.Need-add-m Inv-loop μ-loop
 add-m c = search needs
 
--- src/lib.rt:36:9
 mul-m-2 : tie.Need-mul-m-2 Inv-loop μ-loop
 mul-m-2 c = search needs
 
--- src/lib.rt:36:9
 element-write-m : tie.Need-element-write-m Inv-loop μ-loop
 element-write-m c = search needs
 
--- src/lib.rt:37:9
 add-k : tie.Need-add-k Inv-loop μ-loop
 add-k c = search needs
 
--- src/lib.rt:29:5
 loop-less : tie.Need-loop-less Inv-loop μ-loop
 loop-less c = search needs
 
--- src/lib.rt:29:5
 loop-again : tie.Need-loop-again Inv-loop μ-loop
 loop-again c =
     let l = c .before .before .before .before .loop in
     let args = c .before .before .before .before .before .before .before .before .args in
     (simp length-set (l .inv .0), l .inv .1 ∙ puts-next (l .m) (args .words .now) (args .from) (l .k) (omega arith))
 
--- src/lib.rt:24:1
 returns-3 : tie.Need-returns-3 Inv-loop μ-loop
 returns-3 c =
     let l = c .before .loop in

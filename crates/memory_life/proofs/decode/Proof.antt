@@ -3,18 +3,15 @@ use borrow.Author.Needs.{needs}
 use Rattle.memory_life.proofs.decode.Statement.{statement}
 use Rattle.memory_life.proofs.decode.Tie as tie
 
--- src/lib.rt:183:9
 phase-of-requires : tie.Need-phase-of-requires
 phase-of-requires c κs = search needs
 
--- src/lib.rt:184:9
 root-of-requires : tie.Need-root-of-requires
 root-of-requires c κs = search needs
 
 of-requires : tie.Need-of-requires
 of-requires c κs = search needs
 
--- src/lib.rt:180:1
 returns : tie.Need-returns
 unfolding decoded
 returns c = simp (c .before .before .before .phase-of .ensures, c .before .before .root-of .ensures, c .of .ensures)

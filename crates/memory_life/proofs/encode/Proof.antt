@@ -3,27 +3,21 @@ use borrow.Author.Needs.{needs}
 use Rattle.memory_life.proofs.encode.Statement.{statement}
 use Rattle.memory_life.proofs.encode.Tie as tie
 
--- src/lib.rt:203:16
 phase-word-requires : tie.Need-phase-word-requires
 phase-word-requires c κs = search needs
 
--- src/lib.rt:204:18
 cast-t5 : tie.Need-cast-t5
 cast-t5 c = search needs
 
--- src/lib.rt:206:15
 root-tag-requires : tie.Need-root-tag-requires
 root-tag-requires c κs = search needs
 
--- src/lib.rt:207:24
 root-revision-requires : tie.Need-root-revision-requires
 root-revision-requires c κs = search needs
 
--- src/lib.rt:208:24
 root-argument-requires : tie.Need-root-argument-requires
 root-argument-requires c κs = search needs
 
--- src/lib.rt:195:1
 returns : tie.Need-returns
 unfolding encoded
 returns c = simp (c .before .before .before .before .phase-word .ensures, c .before .before .root-tag .ensures, c .before .root-revision .ensures, c .root-argument .ensures)

@@ -4,15 +4,12 @@ use borrow.Author.Needs.{needs}
 use Rattle.memory_life.proofs.load.Statement.{statement}
 use Rattle.memory_life.proofs.load.Tie as tie
 
--- src/lib.rt:215:12
 load-words-requires : tie.Need-load-words-requires
 load-words-requires c κs = search needs
 
--- src/lib.rt:215:5
 decode-requires : tie.Need-decode-requires
 decode-requires c κs = search needs
 
--- src/lib.rt:212:1
 returns : tie.Need-returns
 unfolding lifeAt
 returns c = c .decode .ensures ∙ ap decoded (c .before .load-words .ensures)

@@ -3,19 +3,15 @@ use borrow.Author.Needs.{needs}
 use Rattle.memory_life.proofs.phase_of.Statement.{statement}
 use Rattle.memory_life.proofs.phase_of.Tie as tie
 
--- src/lib.rt:74:1
 returns : tie.Need-returns
 returns c = search needs
 
--- src/lib.rt:74:1
 returns-2 : tie.Need-returns-2
 returns-2 c = search needs
 
--- src/lib.rt:74:1
 returns-3 : tie.Need-returns-3
 returns-3 c = search needs
 
--- src/lib.rt:74:1
 returns-4 : tie.Need-returns-4
 returns-4 c = phase-rest _ (c .match .rest .0 .0 .1) (c .match .rest .0 .1) (c .match .rest .1)
 

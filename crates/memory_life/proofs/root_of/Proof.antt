@@ -3,15 +3,12 @@ use borrow.Author.Needs.{needs}
 use Rattle.memory_life.proofs.root_of.Statement.{statement}
 use Rattle.memory_life.proofs.root_of.Tie as tie
 
--- src/lib.rt:96:1
 returns : tie.Need-returns
 returns c = search needs
 
--- src/lib.rt:96:1
 returns-2 : tie.Need-returns-2
 returns-2 c = rw (c .match .keys2)
 
--- src/lib.rt:96:1
 returns-3 : tie.Need-returns-3
 returns-3 c = root-rest _ _ _ (c .match .rest .0 .1) (c .match .rest .1)
 

@@ -3,15 +3,12 @@ use borrow.Author.Needs.{needs}
 use Rattle.memory_life.proofs.store.Statement.{statement}
 use Rattle.memory_life.proofs.store.Tie as tie
 
--- src/lib.rt:221:32
 encode-requires : tie.Need-encode-requires
 encode-requires c κs = search needs
 
--- src/lib.rt:221:5
 store-words-requires : tie.Need-store-words-requires
 store-words-requires c κs = search needs
 
--- src/lib.rt:218:1
 returns : tie.Need-returns
 unfolding putLife
 returns c = rw (← c .before .encode .ensures) (c .store-words .ensures)

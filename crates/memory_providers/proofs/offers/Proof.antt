@@ -5,20 +5,16 @@ use borrow.Author.Needs.{needs}
 use Rattle.memory_providers.proofs.offers.Statement.{statement}
 use Rattle.memory_providers.proofs.offers.Tie as tie
 
--- src/lib.rt:38:8
 is-taken-requires : tie.Need-is-taken-requires
 is-taken-requires c κs = search needs
 
--- src/lib.rt:39:9
 provides-requires : tie.Need-provides-requires
 provides-requires c κs = search needs
 
--- src/lib.rt:34:1
 returns : tie.Need-returns
 returns c =
     offers-taken _ _ _ _ (omega arith) (sym (c .before .before .is-taken .ensures) ∙ c .before .if1 .taken) (c .provides .ensures)
 
--- src/lib.rt:34:1
 returns-2 : tie.Need-returns-2
 returns-2 c = rw (sym (c .before .is-taken .ensures) ∙ c .if1 .left)
 

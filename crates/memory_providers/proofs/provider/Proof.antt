@@ -16,32 +16,25 @@ Inv-loop m key realm i₀ i =
 abbrev μ-loop : tie.MeasureT-loop
 μ-loop m key realm i₀ i = 32 - i
 
--- src/lib.rt:50:5
 loop-holds : tie.Need-loop-holds Inv-loop μ-loop
 unfolding providerAt
 loop-holds c = (omega arith, refl)
 
--- src/lib.rt:51:12
 offers-requires : tie.Need-offers-requires Inv-loop μ-loop
 offers-requires c κs = search needs
 
--- src/lib.rt:52:13
 returns : tie.Need-returns Inv-loop μ-loop
 returns c = sym (c .before .before .before .loop .inv .1 ∙ search-here _ _ _ (omega arith) (sym (c .before .offers .ensures) ∙ c .if1 .taken))
 
--- src/lib.rt:54:9
 add-i : tie.Need-add-i Inv-loop μ-loop
 add-i c = search needs
 
--- src/lib.rt:50:5
 loop-less : tie.Need-loop-less Inv-loop μ-loop
 loop-less c = search needs
 
--- src/lib.rt:50:5
 loop-again : tie.Need-loop-again Inv-loop μ-loop
 loop-again c = (omega arith, c .before .before .before .loop .inv .1 ∙ search-next _ _ _ (omega arith) (sym (c .before .offers .ensures) ∙ c .if1 .left))
 
--- src/lib.rt:46:1
 returns-2 : tie.Need-returns-2 Inv-loop μ-loop
 returns-2 c = sym (c .before .loop .inv .1 ∙ search-end _ _ _ (omega arith))
 

@@ -14,75 +14,57 @@ Inv-loop m₀ start count end k stop j₀ m j =
 abbrev μ-loop : tie.MeasureT-loop
 μ-loop m₀ start count end k stop j₀ m j = stop - j
 
--- src/lib.rt:67:14
 add-if1 : tie.Need-add-if1 Inv-loop μ-loop
 add-if1 c = search needs
 
--- src/lib.rt:68:9
 returns : tie.Need-returns Inv-loop μ-loop
 returns c = sym (gap-none _ _ _ _ (c .if1 .taken))
 
--- src/lib.rt:70:13
 mul-k : tie.Need-mul-k Inv-loop μ-loop
 mul-k c = search needs
 
--- src/lib.rt:71:17
 sub-stop : tie.Need-sub-stop Inv-loop μ-loop
 sub-stop c = search needs
 
--- src/lib.rt:71:16
 mul-stop : tie.Need-mul-stop Inv-loop μ-loop
 mul-stop c = search needs
 
--- src/lib.rt:71:16
 add-stop : tie.Need-add-stop Inv-loop μ-loop
 add-stop c = search needs
 
--- src/lib.rt:72:17
 mul-j : tie.Need-mul-j Inv-loop μ-loop
 mul-j c = search needs
 
--- src/lib.rt:72:17
 add-j : tie.Need-add-j Inv-loop μ-loop
 add-j c = search needs
 
--- src/lib.rt:73:5
 loop-holds : tie.Need-loop-holds Inv-loop μ-loop
 loop-holds c = (omega arith, omega arith, gap-start _ _ _ _ (omega arith))
 
--- src/lib.rt:74:18
 add-m : tie.Need-add-m Inv-loop μ-loop
 add-m c = search needs
 
--- src/lib.rt:74:16
 mul-m : tie.Need-mul-m Inv-loop μ-loop
 mul-m c = search needs
 
--- src/lib.rt:74:16
 element-copy-out-m : tie.Need-element-copy-out-m Inv-loop μ-loop
 element-copy-out-m c = search needs
 
--- src/lib.rt:74:9
 mul-m-2 : tie.Need-mul-m-2 Inv-loop μ-loop
 mul-m-2 c = search needs
 
--- src/lib.rt:74:9
 element-write-m : tie.Need-element-write-m Inv-loop μ-loop
 element-write-m c = search needs
 
--- src/lib.rt:75:9
 add-j-2 : tie.Need-add-j-2 Inv-loop μ-loop
 add-j-2 c = search needs
 
--- src/lib.rt:73:5
 loop-less : tie.Need-loop-less Inv-loop μ-loop
 loop-less c = search needs
 
--- src/lib.rt:73:5
 loop-again : tie.Need-loop-again Inv-loop μ-loop
 loop-again c = (omega arith, omega arith, c .before .before .loop .inv .2 ∙ moved-next _ _ _ _ (omega arith))
 
--- src/lib.rt:63:1
 returns-2 : tie.Need-returns-2 Inv-loop μ-loop
 returns-2 c = sym (c .before .loop .inv .2 ∙ moved-end _ _ _ _ (omega arith))
 

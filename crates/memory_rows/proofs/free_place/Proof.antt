@@ -6,55 +6,42 @@ use borrow.Author.Needs.{needs}
 use Rattle.memory_rows.proofs.free_place.Statement.{statement}
 use Rattle.memory_rows.proofs.free_place.Tie as tie
 
--- src/lib.rt:120:8
 is-taken-requires : tie.Need-is-taken-requires
 is-taken-requires c κs = search needs
 
--- src/lib.rt:121:13
 start-requires : tie.Need-start-requires
 start-requires c κs = search needs
 
--- src/lib.rt:122:21
 dependencies-requires : tie.Need-dependencies-requires
 dependencies-requires c κs = search needs
 
--- src/lib.rt:122:50
 provisions-requires : tie.Need-provisions-requires
 provisions-requires c κs = search needs
 
--- src/lib.rt:122:21
 add-count : tie.Need-add-count
 add-count c = search needs
 
--- src/lib.rt:122:21
 add-count-2 : tie.Need-add-count-2
 add-count-2 c = search needs
 
--- src/lib.rt:123:27
 rows-in-use-requires : tie.Need-rows-in-use-requires
 rows-in-use-requires c κs = search needs
 
--- src/lib.rt:123:13
 at-most-requires : tie.Need-at-most-requires
 at-most-requires c κs = search needs
 
--- src/lib.rt:124:9
 close-gap-requires : tie.Need-close-gap-requires
 close-gap-requires c κs = search needs
 
--- src/lib.rt:125:25
 add-lower-starts : tie.Need-add-lower-starts
 add-lower-starts c = search needs
 
--- src/lib.rt:125:9
 lower-starts-requires : tie.Need-lower-starts-requires
 lower-starts-requires c κs = search needs
 
--- src/lib.rt:126:9
 vacate-requires : tie.Need-vacate-requires
 vacate-requires c κs = search needs
 
--- src/lib.rt:116:1
 returns : tie.Need-returns
 returns c =
     let p = c .before .before .before .before .before .before in
@@ -70,7 +57,6 @@ returns c =
     (c .before .before .lower-starts .ensures)
     (c .vacate .ensures)
 
--- src/lib.rt:116:1
 returns-2 : tie.Need-returns-2
 returns-2 c =
     let a = c .before .before .before .args in
