@@ -1,3 +1,4 @@
+-- `find` meets its contract: the search from place i on finds what the whole search does, as no place before i has the id.
 use mathlib.Core.Path.{_≡_, refl, sym, _∙_}
 use Prim.Native.Nat.{_≤_, _-_}
 use Rattle.memory.specs.Writes.{findAt, findFrom}

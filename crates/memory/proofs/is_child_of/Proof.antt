@@ -1,3 +1,4 @@
+-- `is_child_of` meets its contract: a tag of 0 is no parent, and any other tag makes the word behind it the parent's id.
 use Rattle.memory.proofs.Codes.{parent-rest}
 use borrow.Author.Needs.{needs}
 use Rattle.memory.proofs.is_child_of.Statement.{statement}

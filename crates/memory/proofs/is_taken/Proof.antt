@@ -1,3 +1,4 @@
+-- `is_taken` meets its contract: below 32 the test is the place's bit, as the definition has it, and past it no place is taken.
 use borrow.Author.Tests.{lt-ltb, le-ltb}
 use Rattle.memory.specs.Layout.{taken}
 use borrow.Author.Needs.{needs}

@@ -1,3 +1,4 @@
+-- `parent_of` meets its contract: a tag of 0 is no parent, and any other tag gives the word behind it.
 use Rattle.memory.proofs.Codes.{parent-rest}
 use borrow.Author.Needs.{needs}
 use Rattle.memory.proofs.parent_of.Statement.{statement}

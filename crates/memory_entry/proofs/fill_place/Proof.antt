@@ -1,3 +1,4 @@
+-- `fill_place` meets its contract: a start or a list too large changes nothing, else each step is the definition's, in its order.
 use Prim.Native.Nat.{_%_}
 use Rattle.memory_entry.proofs.Laws.{fill-steps, fill-not, fill-long}
 use borrow.Author.Needs.{needs}

@@ -1,3 +1,4 @@
+-- `put_words` meets its contract: to store the words from k on over what is stored is to store all, and past the end nothing is stored.
 use mathlib.Core.Path.{_≡_, refl, sym, _∙_}
 use Prim.Native.Nat.{_-_}
 use lib.ListN.{length, drop, length-set}

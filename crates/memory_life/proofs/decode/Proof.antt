@@ -1,3 +1,4 @@
+-- `decode` meets its contract: phase, root and generation are what the calls promise, and the rest is copied.
 use Rattle.memory.specs.View.{decoded}
 use borrow.Author.Needs.{needs}
 use Rattle.memory_life.proofs.decode.Statement.{statement}

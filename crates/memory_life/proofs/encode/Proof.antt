@@ -1,3 +1,4 @@
+-- `encode` meets its contract: the phase's word and the root's three are what the calls promise, and the rest is copied.
 use Rattle.memory.specs.Writes.{encoded}
 use borrow.Author.Needs.{needs}
 use Rattle.memory_life.proofs.encode.Statement.{statement}

@@ -1,3 +1,4 @@
+-- `load` meets its contract: what `decode` makes of the words that `load_words` gives is the life.
 use mathlib.Core.Path.{_∙_, ap}
 use Rattle.memory.specs.View.{decoded, lifeAt}
 use borrow.Author.Needs.{needs}

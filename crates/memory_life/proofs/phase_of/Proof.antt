@@ -1,3 +1,4 @@
+-- `phase_of` meets its contract: each arm is a case of the definition, and a number other than 0, 1 and 2 is read as Unloading.
 use Rattle.memory_life.proofs.Codes.{phase-rest}
 use borrow.Author.Needs.{needs}
 use Rattle.memory_life.proofs.phase_of.Statement.{statement}

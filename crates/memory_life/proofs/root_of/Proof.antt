@@ -1,3 +1,4 @@
+-- `root_of` meets its contract: each arm is a case of the definition, and a tag other than 0 and 1 is a spent root.
 use Rattle.memory_life.proofs.Codes.{root-rest}
 use borrow.Author.Needs.{needs}
 use Rattle.memory_life.proofs.root_of.Statement.{statement}

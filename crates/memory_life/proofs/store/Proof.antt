@@ -1,3 +1,4 @@
+-- `store` meets its contract: the words stored are those that `encode` promises.
 use Rattle.memory.specs.Writes.{putLife}
 use borrow.Author.Needs.{needs}
 use Rattle.memory_life.proofs.store.Statement.{statement}

@@ -1,3 +1,4 @@
+-- `some_words` meets its contract: past the end there is nothing, a part cut short is all the rest, and else the slice is the part.
 use Rattle.memory_lists.proofs.Parts.{part-past, part-rest, part-whole}
 use borrow.Author.Needs.{needs}
 use Rattle.memory_lists.proofs.some_words.Statement.{statement}

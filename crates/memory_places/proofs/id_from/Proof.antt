@@ -1,3 +1,4 @@
+-- `id_from` meets its contract: what is found is the lowest id, at or above the number, of the places from i on.
 use native.Mathlib.Omega.{arith}
 use mathlib.Core.Path.{sym, _∙_}
 use Rattle.memory_places.specs.Lowest.{idOf, lowest-none, lowest-view}

@@ -1,3 +1,4 @@
+-- `lower` meets its contract: the two outcomes of the test, and no second id, are the definition's cases.
 use borrow.Author.Needs.{needs}
 use Rattle.memory_places.proofs.Loops.{lower-first, lower-second, lower-alone}
 use Rattle.memory_places.proofs.lower.Statement.{statement}

@@ -1,3 +1,4 @@
+-- `lowest_free` meets its contract: the complement's trailing zeros are the first free place if below 32, else there is none.
 use Rattle.memory_places.proofs.Words.{free-below, free-none}
 use borrow.Author.Needs.{needs}
 use Rattle.memory_places.proofs.lowest_free.Statement.{statement}

@@ -1,3 +1,4 @@
+-- `occupy` meets its contract: a place past the last or taken changes nothing, and a free one gets its bit.
 use mathlib.Core.Path.{sym, _∙_}
 use Rattle.memory_places.proofs.Words.{or-small, past-occupied, taken-occupied, now-occupied}
 use native.Mathlib.Omega.{arith}

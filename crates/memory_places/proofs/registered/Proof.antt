@@ -1,3 +1,4 @@
+-- `registered` meets its contract: the ones of the occupancy word are as many as the taken places.
 use mathlib.Core.Path.{ap, _∙_}
 use lib.Count.{ones, ones-le}
 use Rattle.memory_places.proofs.Words.{registered-ones}

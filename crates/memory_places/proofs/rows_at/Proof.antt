@@ -1,3 +1,4 @@
+-- `rows_at` meets its contract: the bit set, the rows are the two lists' and the anchor's, 64 at most, and else 0.
 use Prim.Native.Nat.{_%_}
 use Rattle.memory_places.proofs.Loops.{rows-yes, rows-no}
 use borrow.Author.Needs.{needs}

@@ -1,3 +1,4 @@
+-- `rows_in_use` meets its contract: the rows so far and those of the places from 4k on are all rows, and the word is shifted by 4k.
 use mathlib.Core.Path.{sym, _∙_}
 use Prim.Native.Nat.{_-_}
 use Rattle.memory_places.specs.Rows.{rows-view}

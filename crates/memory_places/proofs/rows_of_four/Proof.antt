@@ -1,3 +1,4 @@
+-- `rows_of_four` meets its contract: the word's four lowest bits say which of the four places are taken, and each call counts one place.
 use Rattle.memory_places.proofs.Loops.{rows-four}
 use native.Mathlib.Omega.{arith}
 use borrow.Author.Needs.{needs}

@@ -1,3 +1,4 @@
+-- `vacate` meets its contract: a taken place's bit is in the word and is taken off it, and a free place changes nothing.
 use Rattle.memory_places.specs.Taken.{taken-below}
 use Rattle.memory_places.proofs.Words.{taken-least, now-vacated, free-vacated}
 use Rattle.memory.specs.Layout.{taken}

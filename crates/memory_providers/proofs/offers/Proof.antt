@@ -1,3 +1,4 @@
+-- `offers` meets its contract: a taken place offers what its plugin provides, and a free one nothing.
 use mathlib.Core.Path.{sym, _∙_}
 use Rattle.memory_providers.proofs.Laws.{offers-taken}
 use native.Mathlib.Omega.{arith}

@@ -1,3 +1,4 @@
+-- `provider` meets its contract: the search from place i on finds what the whole search does, as no place before i offers the port.
 use mathlib.Core.Path.{_≡_, refl, sym, _∙_}
 use Prim.Native.Nat.{_≤_, _-_}
 use Rattle.rules.specs.Holds.{port, Plugin, provides}

@@ -1,3 +1,4 @@
+-- `close_gap` meets its contract: to move the words from j on, over those moved so far, is to close the gap.
 use mathlib.Core.Path.{_≡_, sym, _∙_}
 use Prim.Native.Nat.{_+_, _*_, _-_, _≤_}
 use Rattle.memory_rows.specs.Moves.{moved, closedGap}

@@ -1,3 +1,4 @@
+-- `free_place` meets its contract: in a taken place each call is a step of the definition, and a free place changes nothing.
 use Prim.Native.Nat.{_%_}
 use mathlib.Core.Path.{sym, _∙_}
 use Rattle.memory_rows.specs.Laws.{free-steps, free-not}

@@ -1,3 +1,4 @@
+-- `lower_start` meets its contract: a start behind the gap is lowered, and any other is what already stands there.
 use mathlib.Core.Path.{sym}
 use lib.Seq.{set-getD}
 use borrow.Author.Tests.{le-leb, lt-leb}

@@ -1,3 +1,4 @@
+-- `lower_starts` meets its contract: to lower the starts from place i on, over those lowered so far, is to lower all.
 use mathlib.Core.Path.{_≡_, refl, sym, _∙_}
 use Prim.Native.Nat.{_-_, _≤_}
 use Rattle.memory_rows.specs.Moves.{lowerFrom}

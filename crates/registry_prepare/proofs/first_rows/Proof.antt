@@ -1,3 +1,4 @@
+-- `first_rows` meets its contract: where there are fewer rows, all of them are the first ones, and else the part is the list's front.
 use mathlib.Core.Path.{_∙_}
 use Rattle.registry_prepare.proofs.Laws.{all-rows}
 use borrow.Author.Needs.{needs}

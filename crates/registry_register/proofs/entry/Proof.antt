@@ -1,3 +1,4 @@
+-- `entry` meets its contract: field by field, what the calls promise, with the rows in use as the start.
 use Prim.Native.Nat.{_+_}
 use borrow.Author.Needs.{needs}
 use Rattle.registry_register.proofs.entry.Statement.{statement}
