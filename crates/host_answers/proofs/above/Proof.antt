@@ -1,3 +1,4 @@
+-- `above` meets its contract: an id is told by `one`, and its lack by `none`.
 use mathlib.Core.Path.{ap}
 use Rattle.memory_places.specs.Changes.{aboveAnswer}
 use Rattle.host_answers.specs.Told.{statusOf, wordsOf, told}

@@ -1,3 +1,4 @@
+-- `admitted` meets its contract: the admission's numbers are told by `five`, and a refusal leaves the words as they are.
 use mathlib.Core.Path.{refl, ap}
 use Rattle.host_answers.specs.Told.{statusOf, wordsOf, told}
 use Rattle.registry_admit.specs.Answers.{admittedAnswer}

@@ -1,3 +1,4 @@
+-- `begun` meets its contract: the ticket's numbers are told by `four`, and a refusal leaves the words as they are.
 use mathlib.Core.Path.{refl, ap}
 use Rattle.host_answers.specs.Told.{statusOf, wordsOf, told}
 use Rattle.registry_steps.specs.Lives.{begunAnswer}

@@ -1,3 +1,4 @@
+-- `called` meets its contract: the receipt's numbers are told by `six`, and a refusal leaves the words as they are.
 use mathlib.Core.Path.{refl, ap}
 use Rattle.host_answers.specs.Told.{statusOf, wordsOf, told}
 use Rattle.registry_admit.specs.Answers.{calledAnswer}

@@ -1,3 +1,4 @@
+-- `child` meets its contract: a child's numbers are told by `three`, an orphan by `none`, and a refusal leaves the words as they are.
 use mathlib.Core.Path.{refl, ap}
 use Rattle.host_answers.specs.Told.{statusOf, wordsOf, told}
 use Rattle.registry_retire.specs.Answers.{childAnswer}

@@ -1,3 +1,4 @@
+-- `done` meets its contract: each arm is a case of the status, 0 or the refusal's number.
 use Rattle.host_answers.specs.Told.{statusOf}
 use borrow.Author.Needs.{needs}
 use Rattle.host_answers.proofs.done.Statement.{statement}

@@ -1,3 +1,4 @@
+-- `issued` meets its contract: in each arm the numbers that are stored are the root's.
 use mathlib.Core.Path.{sym, ap, _∙_}
 use Rattle.host_answers.specs.Told.{counted}
 use Rattle.rules.specs.Queries.{rootNumbers}

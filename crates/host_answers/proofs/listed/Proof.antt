@@ -1,3 +1,4 @@
+-- `listed` meets its contract: the count is told by `one`, and a refusal leaves the words as they are.
 use mathlib.Core.Path.{refl, ap}
 use Rattle.ports_listed.specs.Answers.{listedAnswer}
 use Rattle.host_answers.specs.Told.{statusOf, wordsOf, told}

@@ -1,3 +1,4 @@
+-- `perhaps` meets its contract: a number is told by `one`, its lack by `none`, and a refusal leaves the words as they are.
 use mathlib.Core.Path.{refl, ap}
 use Rattle.registry_queries.specs.Answers.{perhapsAnswer}
 use Rattle.host_answers.specs.Told.{statusOf, wordsOf, told}

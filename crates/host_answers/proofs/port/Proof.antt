@@ -1,3 +1,4 @@
+-- `port` meets its contract: a port's numbers are told by `two`, its lack by `none`, and a refusal leaves the words as they are.
 use mathlib.Core.Path.{refl, ap}
 use Rattle.host_answers.specs.Told.{statusOf, wordsOf, told}
 use Rattle.registry_queries.specs.Answers.{portAnswer}

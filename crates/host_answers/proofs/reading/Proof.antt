@@ -1,3 +1,4 @@
+-- `reading` meets its contract: the value and its provider are told by `two`, and a refusal leaves the words as they are.
 use mathlib.Core.Path.{refl, ap}
 use Rattle.host_answers.specs.Told.{statusOf, wordsOf, told}
 use Rattle.registry_values.specs.Answers.{readingAnswer}

@@ -1,3 +1,4 @@
+-- `registered` meets its contract: the new id is told by `one`, and a refusal leaves the words as they are.
 use mathlib.Core.Path.{refl, ap}
 use Rattle.registry_register.specs.Written.{registeredAnswer}
 use Rattle.host_answers.specs.Told.{statusOf, wordsOf, told}

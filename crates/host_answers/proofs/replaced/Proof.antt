@@ -1,3 +1,4 @@
+-- `replaced` meets its contract: each arm stores the payload by `one`, with status 0 or the refusal's number.
 use mathlib.Core.Path.{refl, ap}
 use Rattle.host_answers.specs.Told.{statusOf, wordsOf, told}
 use Rattle.registry_replace.specs.Answers.{replacedAnswer}

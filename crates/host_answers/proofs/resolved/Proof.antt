@@ -1,3 +1,4 @@
+-- `resolved` meets its contract: the port's numbers are told by `two`, and a refusal leaves the words as they are.
 use mathlib.Core.Path.{refl, ap}
 use Rattle.host_answers.specs.Told.{statusOf, wordsOf, told}
 use Rattle.ports.specs.Answers.{resolvedAnswer}

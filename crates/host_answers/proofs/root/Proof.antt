@@ -1,3 +1,4 @@
+-- `root` meets its contract: the root's numbers are told by `issued`, and a refusal leaves the words as they are.
 use mathlib.Core.Path.{refl, ap}
 use Rattle.host_answers.specs.Told.{statusOf, wordsOf, told}
 use Rattle.registry_queries.specs.Answers.{rootAnswer}

@@ -1,3 +1,4 @@
+-- `value` meets its contract: a value is told by `one`, and its lack by `none`.
 use mathlib.Core.Path.{ap}
 use Rattle.host_answers.specs.Told.{statusOf, wordsOf, told}
 use Rattle.registry_values.specs.Answers.{valueAnswer}

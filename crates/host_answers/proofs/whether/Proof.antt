@@ -1,3 +1,4 @@
+-- `whether` meets its contract: 1 for yes and 0 for no are told by `one`, and a refusal leaves the words as they are.
 use mathlib.Core.Path.{refl, ap}
 use Rattle.memory_life.specs.Told.{whetherAnswer}
 use Rattle.host_answers.specs.Told.{statusOf, wordsOf, told}

@@ -1,3 +1,4 @@
+-- `yes_or_no` meets its contract: 1 for yes and 0 for no are told by `one`.
 use mathlib.Core.Path.{ap}
 use Rattle.host_answers.specs.Told.{statusOf, wordsOf, told}
 use Rattle.registry_admit.specs.Answers.{admitsAnswer}

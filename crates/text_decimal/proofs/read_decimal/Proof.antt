@@ -1,3 +1,4 @@
+-- `read_decimal` meets its contract: no byte, one byte, a leading zero and any other word are the definition's cases.
 use native.Mathlib.Omega.{arith}
 use mathlib.Core.Path.{sym, _∙_}
 use Rattle.text_decimal.proofs.Reading.{number-empty, number-one, number-zero, number-more}
