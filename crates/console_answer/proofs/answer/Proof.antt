@@ -1,3 +1,4 @@
+-- `answer` meets its contract: `numbers` puts the list that `numbers_in` promises.
 use borrow.Author.Needs.{needs}
 use Rattle.console_answer.proofs.answer.Statement.{statement}
 use Rattle.console_answer.proofs.answer.Tie as tie

@@ -1,3 +1,4 @@
+-- `answer_or_none` meets its contract: the list that `numbers_in` gives is empty, or `numbers` puts it.
 use Rattle.console_answer.proofs.Laws.{none-said, some-said}
 use native.Mathlib.Omega.{arith}
 use borrow.Author.Needs.{needs}

@@ -1,3 +1,4 @@
+-- `decision` meets its contract: in each arm the call puts what the definition puts for that decision.
 use borrow.Author.Needs.{needs}
 use Rattle.console_answer.proofs.decision.Statement.{statement}
 use Rattle.console_answer.proofs.decision.Tie as tie

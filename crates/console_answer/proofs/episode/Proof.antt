@@ -1,3 +1,4 @@
+-- `episode` meets its contract: in each arm the call puts what the definition puts for that generation.
 use borrow.Author.Needs.{needs}
 use Rattle.console_answer.proofs.episode.Statement.{statement}
 use Rattle.console_answer.proofs.episode.Tie as tie

@@ -1,3 +1,4 @@
+-- `front` meets its contract: fewer bytes than asked for are all of them, and else the slice is so many.
 use mathlib.Core.Path.{refl, sym}
 use lib.Seq.{take-all, length-take-le}
 use native.Mathlib.Omega.{arith}

@@ -1,3 +1,4 @@
+-- `identity` meets its contract: the word and the three numbers are put one behind the other, each as its call promises.
 use Rattle.console_answer.specs.Slots.{identityOn}
 use borrow.Author.Needs.{needs}
 use Rattle.console_answer.proofs.identity.Statement.{statement}

@@ -1,3 +1,4 @@
+-- `no` meets its contract: the word and the number behind it are put as the two calls promise.
 use Rattle.console_answer.specs.Answers.{refusalOn}
 use borrow.Author.Needs.{needs}
 use Rattle.console_answer.proofs.no.Statement.{statement}

@@ -1,3 +1,4 @@
+-- `number` meets its contract: the bytes written of `digits` are the number's, and they stand behind a space.
 use Rattle.console_answer.proofs.Laws.{behind-space}
 use borrow.Author.Needs.{needs}
 use Rattle.console_answer.proofs.number.Statement.{statement}

@@ -1,3 +1,4 @@
+-- `numbers_in` meets its contract: no word tells nothing, a count too large tells all words behind it, and any other so many.
 use Rattle.console_answer.proofs.Laws.{none-told, all-told, some-told}
 use native.Mathlib.Omega.{arith}
 use borrow.Author.Needs.{needs}

@@ -1,3 +1,4 @@
+-- `ok` meets its contract: the word, two numbers, generation and decision are put one behind the other, as their calls promise.
 use Rattle.console_answer.specs.Slots.{slotOn}
 use borrow.Author.Needs.{needs}
 use Rattle.console_answer.proofs.ok.Statement.{statement}

@@ -1,3 +1,4 @@
+-- `or_none` meets its contract: a refusal is as `told` says it, and an acceptance is `ok` with what `answer_or_none` puts behind.
 use Rattle.console_answer.proofs.Laws.{refused-or-none, accepted-or-none}
 use borrow.Author.Needs.{needs}
 use Rattle.console_answer.proofs.or_none.Statement.{statement}

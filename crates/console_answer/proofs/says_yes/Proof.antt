@@ -1,3 +1,4 @@
+-- `says_yes` meets its contract: an empty list says no, and else the first number is tested.
 use mathlib.Core.Path.{refl}
 use Rattle.console_answer.proofs.Laws.{no-yes, first-yes}
 use native.Mathlib.Omega.{arith}

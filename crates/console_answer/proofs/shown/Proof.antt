@@ -1,3 +1,4 @@
+-- `shown` meets its contract: a taken decision is the slot's line by `ok`, and a refused one its number's by `no`.
 use Rattle.console_answer.specs.Pages.{numbersOn}
 use borrow.Author.Needs.{needs}
 use Rattle.console_answer.proofs.shown.Statement.{statement}

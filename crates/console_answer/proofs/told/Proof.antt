@@ -1,3 +1,4 @@
+-- `told` meets its contract: status 0 is `ok`, any other the refusal, and the numbers stand behind by `answer`.
 use Rattle.console_answer.proofs.Laws.{accepted, refused}
 use borrow.Author.Needs.{needs}
 use Rattle.console_answer.proofs.told.Statement.{statement}

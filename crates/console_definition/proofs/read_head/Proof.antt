@@ -1,3 +1,4 @@
+-- `read_head` meets its contract: three numbers are read, each from where the last stopped, and `all` says if each is one.
 use Rattle.console_definition.proofs.Drafting.{head-of}
 use borrow.Author.Needs.{needs}
 use Rattle.console_definition.proofs.read_head.Statement.{statement}

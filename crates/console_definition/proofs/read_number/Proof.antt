@@ -1,3 +1,4 @@
+-- `read_number` meets its contract: the next word is a number or is none, and each is a case of the definition.
 use mathlib.Core.Path.{sym, ap, _∙_}
 use Rattle.text_decimal.specs.Numbers.{readOf}
 use Rattle.console_definition.proofs.Drafting.{number-is, number-not}

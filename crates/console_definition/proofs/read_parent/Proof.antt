@@ -1,3 +1,4 @@
+-- `read_parent` meets its contract: the next word is `none`, a number, or neither, and each is a case of the definition.
 use mathlib.Core.Path.{sym, ap, _∙_}
 use Rattle.text_decimal.specs.Numbers.{readOf}
 use Rattle.console_definition.proofs.Drafting.{nobody, parent-of, no-parent}

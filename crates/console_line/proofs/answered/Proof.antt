@@ -1,3 +1,4 @@
+-- `answered` meets its contract: the first word's place among the names is operated on, and byte 10 stands behind what is said.
 use mathlib.Core.Path.{ap, _∙_}
 use mathlib.Core.List.{[], _∷_}
 use Rattle.slot.specs.Slots.{slotOf}

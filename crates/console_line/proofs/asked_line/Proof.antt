@@ -1,3 +1,4 @@
+-- `asked_line` meets its contract: what `carried_out` tells is what `spoken` says.
 use Rattle.console_answer.specs.Pages.{upTo}
 use Rattle.console_names.specs.Table.{askedAt}
 use Rattle.console_line.proofs.Laws.{asked-said}

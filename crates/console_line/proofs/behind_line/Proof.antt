@@ -1,3 +1,4 @@
+-- `behind_line` meets its contract: a word that is no number and a count not due are bad, and else `numbers_line` has the numbers.
 use mathlib.Core.Path.{refl, ap}
 use Rattle.console_answer.specs.Pages.{upTo}
 use Rattle.console_names.specs.Behind.{no-numbers, all-numbers}

@@ -1,3 +1,4 @@
+-- `ended` meets its contract: an empty line, a remark, a line too long and any other are the definition's cases.
 use mathlib.Core.Path.{refl, ap, _∙_}
 use mathlib.Core.List.{[], _∷_}
 use Rattle.slot.specs.Slots.{slotOf}

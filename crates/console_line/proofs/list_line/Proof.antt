@@ -1,3 +1,4 @@
+-- `list_line` meets its contract: the first two numbers are id and place, and what `listed` tells is what `spoken` says.
 use Rattle.console_answer.specs.Pages.{upTo}
 use Rattle.console_line.proofs.Laws.{list-done}
 use borrow.Author.Needs.{needs}

@@ -1,3 +1,4 @@
+-- `numbers_line` meets its contract: in each arm the call does what the definition does for that kind.
 use mathlib.Core.Path.{refl, ap}
 use Rattle.console_answer.specs.Pages.{upTo}
 use Rattle.console_names.specs.declared.Kind.{Kind}

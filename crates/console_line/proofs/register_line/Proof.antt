@@ -1,3 +1,4 @@
+-- `register_line` meets its contract: what `enrolled` tells of the definition in the line is what `spoken` says.
 use Rattle.console_answer.specs.Pages.{upTo}
 use Rattle.console_names.specs.declared.Values.the-variants.{Numbers}
 use Rattle.console_definition.specs.Draft.{draftIn}

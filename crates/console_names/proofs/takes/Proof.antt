@@ -1,3 +1,4 @@
+-- `takes` meets its contract: each arm is the definition's test for that kind of count.
 use mathlib.Core.Path.{sym, ap}
 use Rattle.console_names.specs.declared.Count.{Count}
 use Rattle.console_names.specs.Table.{takes}
