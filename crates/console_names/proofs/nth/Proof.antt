@@ -1,3 +1,4 @@
+-- `nth` meets its contract: a place in the list is read, and behind the last the definition gives 0.
 use mathlib.Core.Path.{sym}
 use lib.ListN.{List·getD-eq-default}
 use borrow.Author.Needs.{needs}

@@ -1,3 +1,4 @@
+-- `rest` meets its contract: of an empty list nothing is left, and else the slice is all behind the first.
 use Rattle.console_names.proofs.Rows.{none-first, behind-first}
 use borrow.Author.Needs.{needs}
 use Rattle.console_names.proofs.rest.Statement.{statement}

@@ -1,3 +1,4 @@
+-- `carried_out` meets its contract: the two operations with a list of numbers are told apart, and for all others `step` promises it.
 use mathlib.Core.Path.{refl}
 use Rattle.console_names.specs.Names.{placeAmong}
 use Rattle.console_operations.specs.Carried.{same}

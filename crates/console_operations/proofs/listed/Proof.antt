@@ -1,3 +1,4 @@
+-- `listed` meets its contract: each arm's call lists what the definition means by that list.
 use mathlib.Core.Path.{ap}
 use Rattle.console_operations.specs.Asked.{whichOf}
 use Rattle.console_operations.proofs.Laws.{same-list}

@@ -1,3 +1,4 @@
+-- `step` meets its contract: each arm's place names the operation that its call does, and any other place is left to `question`.
 use mathlib.Core.Path.{refl}
 use Rattle.console_names.specs.Names.{placeAmong}
 use Rattle.console_names.specs.Table.{operationAt}

@@ -1,3 +1,4 @@
+-- `enrolled` meets its contract: parent and head are read as the draft has them, and `with_lists` promises the rest.
 use mathlib.Core.Path.{ap}
 use Rattle.console_operations.specs.Carried.{same}
 use Rattle.console_definition.specs.Whole.{parts}

@@ -1,3 +1,4 @@
+-- `register` meets its contract: a parent, none and a bad one are the definition's cases, each with its call's promise.
 use mathlib.Core.Path.{refl, ap}
 use Rattle.rules.specs.Holds.{port}
 use Rattle.console_operations.specs.Carried.{same}

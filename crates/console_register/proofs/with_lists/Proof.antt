@@ -1,3 +1,4 @@
+-- `with_lists` meets its contract: a bad head or a list not found is bad, and else the arrays' fronts are the lists to register.
 use mathlib.Core.Path.{refl, sym, _∙_}
 use Rattle.console_operations.specs.Carried.{same}
 use Rattle.console_definition.specs.Draft.{listsIn}

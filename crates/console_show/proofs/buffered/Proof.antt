@@ -1,3 +1,4 @@
+-- `buffered` meets its contract: where the end is not behind the start there is nothing to say, and else `some_words` is the part between.
 use Rattle.console_show.proofs.Laws.{none-between, some-between}
 use borrow.Author.Needs.{needs}
 use Rattle.console_show.proofs.buffered.Statement.{statement}

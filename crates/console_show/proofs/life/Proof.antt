@@ -1,3 +1,4 @@
+-- `life` meets its contract: each of the five fields is told in seven words and put behind the last.
 use mathlib.Core.Path.{refl}
 use Rattle.rules.specs.Queries.{PhaseOf, RetiredMark, Generation, Revision, Payload}
 use Rattle.console_show.proofs.Fields.{length-told, field-said, life-said}

@@ -1,3 +1,4 @@
+-- `root` meets its contract: a root told by one number has nothing queued, so `none` is put, and any other stands as told.
 use mathlib.Core.Path.{refl}
 use Rattle.console_show.proofs.Fields.{none-queued, some-queued}
 use borrow.Author.Needs.{needs}

@@ -1,3 +1,4 @@
+-- `shown` meets its contract: a refused parent is the refusal, and else each field is put behind the last, as it is told.
 use mathlib.Core.Path.{refl, sym, _∙_}
 use Rattle.rules.specs.Queries.{Parent, Anchor}
 use Rattle.console_show.proofs.Fields.{length-told, field-said, all-shown, refusal-shown}

@@ -1,3 +1,4 @@
+-- `spoken` meets its contract: a bad status is said so, and else each arm's call says the values as their kind has it.
 use Rattle.console_show.proofs.Laws.{bad-said, values-said}
 use borrow.Author.Needs.{needs}
 use Rattle.console_show.proofs.spoken.Statement.{statement}

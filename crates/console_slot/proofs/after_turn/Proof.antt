@@ -1,3 +1,4 @@
+-- `after_turn` meets its contract: no turn says so and leaves the slot, and a turn is shown and leaves its own.
 use mathlib.Core.Path.{refl, ap}
 use Rattle.slot.specs.Slots.{slotOf}
 use Rattle.console_answer.specs.Pages.{upTo}

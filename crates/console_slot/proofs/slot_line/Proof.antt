@@ -1,3 +1,4 @@
+-- `slot_line` meets its contract: a word that is no number makes no turn, and else `turned` has the name and the numbers.
 use Rattle.slot.specs.Slots.{slotOf}
 use Rattle.console_answer.specs.Pages.{upTo}
 use Rattle.console_names.specs.Behind.{no-numbers, all-numbers}

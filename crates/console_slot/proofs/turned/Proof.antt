@@ -1,3 +1,4 @@
+-- `turned` meets its contract: no number, three numbers and any other count are the definition's cases.
 use mathlib.Core.Path.{_∙_}
 use Rattle.slot.specs.Slots.{slotOf}
 use Rattle.console_slot.proofs.Turning.{no-number, three-numbers, other-count}

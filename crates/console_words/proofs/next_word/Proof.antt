@@ -1,3 +1,4 @@
+-- `next_word` meets its contract: past the end there is no word, and else it starts past the spaces and stops at the next one.
 use native.Mathlib.Omega.{arith}
 use Rattle.console_words.proofs.Places.{none-left, one-word}
 use borrow.Author.Needs.{needs}

@@ -1,3 +1,4 @@
+-- `longer` meets its contract: a line with room gets the byte, and any other stays and counts as too long.
 use Rattle.replay.proofs.Laws.{one-more, line-with, too-many, line-stays}
 use borrow.Author.Needs.{needs}
 use Rattle.replay.proofs.longer.Statement.{statement}

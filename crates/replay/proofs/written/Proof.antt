@@ -1,3 +1,4 @@
+-- `written` meets its contract: what `ended` leaves of memory, buffer and slot is what is kept, and `say` changes none of it.
 use lib.ListN.{replicate}
 use Rattle.slot.specs.Slots.{slotOf}
 use Rattle.console_answer.specs.Pages.{upTo}
