@@ -1,4 +1,4 @@
--- `yes_no` meets its contract: a refusal is as `told` says it, and an acceptance is `ok` with the word for its first number.
+-- `yes_no` meets its contract: a refusal is as `told` says it, and an acceptance is `ok` with the word that `says_yes` decides.
 use mathlib.Core.Path.{sym, _∙_}
 use mathlib.Core.Bool.{true, false}
 use Rattle.console_answer.proofs.Laws.{refused-yes-no, accepted-yes-no}

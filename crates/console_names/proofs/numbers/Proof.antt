@@ -1,4 +1,4 @@
--- `numbers` meets its contract: a run that stops before the line's end has another word behind it, and any other has none.
+-- `numbers` meets its contract: the run is as the call promises, and it is all there is exactly if it stops at the line's end.
 use native.Mathlib.Omega.{arith}
 use Rattle.console_names.proofs.Naming.{other-behind, none-behind}
 use borrow.Author.Needs.{needs}

@@ -1,4 +1,4 @@
--- `question` meets its contract: each arm's place names the question that its call answers, and no other place has one.
+-- `question` meets its contract: each arm's place names the question that its call answers, and any other place asks for nothing here.
 use Rattle.rules.specs.Queries.{RowsInUse, Registered, NextId}
 use Rattle.rules.specs.Steps.{AskRegistry}
 use Rattle.console_names.specs.Names.{placeAmong}

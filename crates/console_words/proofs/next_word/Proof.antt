@@ -1,4 +1,4 @@
--- `next_word` meets its contract: past the end there is no word, and else it starts past the spaces and stops at the next one.
+-- `next_word` meets its contract: past the end there is no word, and else the two calls give where it starts and where it stops.
 use native.Mathlib.Omega.{arith}
 use Rattle.console_words.proofs.Places.{none-left, one-word}
 use borrow.Author.Needs.{needs}
