@@ -1,4 +1,4 @@
--- What holds of every operation, or of all but some, holds of the one at a place.
+-- What two things come to for all operations but some, they come to at the place of any other.
 use Prim.Native.Nat.{ℕ, zero, suc, _+_}
 use Prim.Native.String.{String}
 use native.Mathlib.Omega.{arith}
@@ -10,20 +10,6 @@ use lib.ListN.{getD}
 use borrow.Author.Tests.{ne-eqb}
 use Rattle.rules.specs.Basics.{pick}
 use Rattle.console_names.specs.Table.{Operation, operations, unknown, operationAt, placeOf}
-
-abbrev pub All : (Operation → Type 0) → List Operation → Type 0
-All P [] = P unknown
-All P (o ∷ os) = P o × All P os
-
-all-in : (P : Operation → Type 0) (os : List Operation) → All P os → (place : ℕ) → P (getD os place unknown)
-all-in P [] h place = h
-all-in P (o ∷ os) h zero = h .0
-all-in P (o ∷ os) h (suc place) = all-in P os (h .1) place
-
--- A fact for each row, in the table's order.
-pub each : (P : Operation → Type 0) → All P operations → (place : ℕ) → P (operationAt place)
-unfolding operationAt
-each P h place = all-in P operations h place
 
 -- A place is that of none of these names, as a match on it leaves it.
 abbrev pub Other : Type 0 → List String → ℕ → Type 0

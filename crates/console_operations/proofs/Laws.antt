@@ -12,7 +12,7 @@ use Rattle.host.specs.Tells.{answer}
 use Rattle.console_names.specs.Names.{placeAmong}
 use Rattle.console_names.specs.Table.{Asked, Bad, Told, first, second, third, fourth, fifth, rest, placeOf, operationAt, askedAt}
 use Rattle.console_names.specs.Others.{Other, the-others}
-use Rattle.console_operations.specs.Asked.{five, exact, question, exactAt, questionAt}
+use Rattle.console_operations.specs.Asked.{three, five, exact, question, exactAt, questionAt}
 use Rattle.console_operations.specs.Carried.{leftBy, Answers, Carried, same, Lists}
 
 pub alike : (m out : List ℕ) (status : ℕ) (out′ : List ℕ) (a b : Asked) → a ≡ b → Answers m b out status out′ → Answers m a out status out′
@@ -50,14 +50,14 @@ module _ (place : ℕ) where
   unfolding placeAmong
   no-more l a b c d e ea eb ec ed ee h = the-others Bad more (λ o. o .asks l) (exact (five (first l) (second l) (third l) (fourth l) (fifth l))) refl place h ∙ rw (ea, eb, ec, ed, ee)
 
-  module _ (l m out : List ℕ) where
-    -- of those, all but these change nothing;
-    pub no-step : (status : ℕ) (out′ : List ℕ) → Other (Unit {0}) steps place → Answers m (questionAt place l) out status out′ → Carried m (exactAt place l) out status out′ m
-    unfolding placeAmong
-    no-step status out′ h t =
-        let k : m ≡ leftBy m (questionAt place l) = the-others m [] (λ o. m) (λ o. leftBy m (question l o)) refl place tt in
-        same m out status out′ m (exactAt place l) (questionAt place l) (the-others Bad steps (exact l) (question l) refl place h) (t, k)
+  -- of those, all but these change nothing, and take at most three;
+  pub no-step : (a b c d e : ℕ) (m out : List ℕ) (status : ℕ) (out′ : List ℕ) → Other (Unit {0}) steps place → Answers m (questionAt place (three a b c)) out status out′ → Carried m (exactAt place (five a b c d e)) out status out′ m
+  unfolding placeAmong
+  no-step a b c d e m out status out′ h t =
+      let k : m ≡ leftBy m (questionAt place (three a b c)) = the-others m [] (λ o. m) (λ o. leftBy m (question (three a b c) o)) refl place tt in
+      same m out status out′ m (exactAt place (five a b c d e)) (questionAt place (three a b c)) (the-others Bad steps (exact (five a b c d e)) (question (three a b c)) refl place h) (t, k)
 
+  module _ (l m out : List ℕ) where
     -- and of those, all but these ask for nothing.
     pub no-question : Other (Unit {0}) questions place → Answers m (questionAt place l) out last out
     unfolding placeAmong

@@ -10,6 +10,9 @@ use Rattle.console_names.specs.declared.Row.{Row}
 use Rattle.console_names.specs.declared.Row.the-variants.{Slot, Register, Takes, Unknown}
 use Rattle.console_names.specs.Table.{Asked, Bad, Operation, operationAt}
 
+abbrev pub three : ℕ → ℕ → ℕ → List ℕ
+three a b c = a ∷ b ∷ c ∷ []
+
 abbrev pub five : ℕ → ℕ → ℕ → ℕ → ℕ → List ℕ
 five a b c d e = a ∷ b ∷ c ∷ d ∷ e ∷ []
 

@@ -4,7 +4,7 @@ ghost use mathlib.Core.List.{[], _∷_};
 ghost use Rattle.host_answers.specs.Told.{counted as told};
 ghost use Rattle.demands.specs.Starts.{blank};
 ghost use Rattle.console_names.specs.Table.{askedAt};
-ghost use Rattle.console_operations.specs.Asked.{five, exactAt, questionAt, whichOf};
+ghost use Rattle.console_operations.specs.Asked.{three, five, exactAt, questionAt, whichOf};
 ghost use Rattle.console_operations.specs.Carried.{Answers, Carried, Lists};
 use console_names::BAD;
 use console_names::BUFFER_ROOM;
@@ -28,18 +28,9 @@ fn opened(m: &mut [u64; WORDS], domain: u64, first: u64) -> u64
     0
 }
 
-// The questions of at most five numbers.
-fn question(
-    m: &[u64; WORDS],
-    place: usize,
-    a: u64,
-    b: u64,
-    c: u64,
-    d: u64,
-    e: u64,
-    out: &mut [u64; ANSWER],
-) -> u64
-    ensures { λ r. ⌜ Answers (now (m .entry)) (questionAt place (five a b c d e)) (now (out .entry)) r (now (out .exit)) ⌝ }
+// The questions of at most three numbers.
+fn question(m: &[u64; WORDS], place: usize, a: u64, b: u64, c: u64, out: &mut [u64; ANSWER]) -> u64
+    ensures { λ r. ⌜ Answers (now (m .entry)) (questionAt place (three a b c)) (now (out .entry)) r (now (out .exit)) ⌝ }
 {
     match place {
         console_names::FITS => host::vaskelbi_fits(m, a, b, out),
@@ -83,7 +74,7 @@ fn step(
         console_names::RETIRE_CHILD => host::vaskelbi_retire_child(m, a, b, c),
         console_names::REMOVE => host::vaskelbi_remove(m, a),
         console_names::OFFER => host::vaskelbi_offer(m, a, b, c, d),
-        _ => question(m, place, a, b, c, d, e, out),
+        _ => question(m, place, a, b, c, out),
     }
 }
 

@@ -3,7 +3,7 @@ use Rattle.rules.specs.Queries.{RowsInUse, Registered, NextId}
 use Rattle.rules.specs.Steps.{AskRegistry}
 use Rattle.console_names.specs.Names.{placeAmong}
 use Rattle.console_names.specs.Table.{operationAt}
-use Rattle.console_operations.specs.Asked.{five}
+use Rattle.console_operations.specs.Asked.{three}
 use Rattle.console_operations.proofs.Laws.{one-told, question-at, no-question}
 use borrow.Author.Needs.{needs}
 use Rattle.console_operations.proofs.question.Statement.{statement}
@@ -52,67 +52,67 @@ returns : tie.Need-returns
 unfolding operationAt
 returns c =
     let x = c .before .before .before .args in
-    question-at (x .place) (five (x .a) (x .b) (x .c) (x .d) (x .e)) (x .m .now) (x .out .now) _ _ _ (c .before .before .match .keys1) (c .vaskelbi-fits .ensures)
+    question-at (x .place) (three (x .a) (x .b) (x .c)) (x .m .now) (x .out .now) _ _ _ (c .before .before .match .keys1) (c .vaskelbi-fits .ensures)
 
 returns-2 : tie.Need-returns-2
 unfolding operationAt
 returns-2 c =
     let x = c .before .before .before .args in
-    question-at (x .place) (five (x .a) (x .b) (x .c) (x .d) (x .e)) (x .m .now) (x .out .now) _ _ _ (c .before .before .match .keys2) (c .vaskelbi-child .ensures)
+    question-at (x .place) (three (x .a) (x .b) (x .c)) (x .m .now) (x .out .now) _ _ _ (c .before .before .match .keys2) (c .vaskelbi-child .ensures)
 
 returns-3 : tie.Need-returns-3
 unfolding operationAt
 returns-3 c =
     let x = c .before .before .before .args in
-    question-at (x .place) (five (x .a) (x .b) (x .c) (x .d) (x .e)) (x .m .now) (x .out .now) _ _ _ (c .before .before .match .keys3) (c .vaskelbi-read .ensures)
+    question-at (x .place) (three (x .a) (x .b) (x .c)) (x .m .now) (x .out .now) _ _ _ (c .before .before .match .keys3) (c .vaskelbi-read .ensures)
 
 returns-4 : tie.Need-returns-4
 unfolding operationAt
 returns-4 c =
     let x = c .before .before .before .args in
-    question-at (x .place) (five (x .a) (x .b) (x .c) (x .d) (x .e)) (x .m .now) (x .out .now) _ _ _ (c .before .before .match .keys4) (c .vaskelbi-visible .ensures)
+    question-at (x .place) (three (x .a) (x .b) (x .c)) (x .m .now) (x .out .now) _ _ _ (c .before .before .match .keys4) (c .vaskelbi-visible .ensures)
 
 returns-5 : tie.Need-returns-5
 unfolding operationAt
 returns-5 c =
     let x = c .before .before .before .args in
-    question-at (x .place) (five (x .a) (x .b) (x .c) (x .d) (x .e)) (x .m .now) (x .out .now) _ _ _ (c .before .before .match .keys5) (c .vaskelbi-missing .ensures)
+    question-at (x .place) (three (x .a) (x .b) (x .c)) (x .m .now) (x .out .now) _ _ _ (c .before .before .match .keys5) (c .vaskelbi-missing .ensures)
 
 returns-6 : tie.Need-returns-6
 unfolding operationAt
 returns-6 c =
     let x = c .before .before .before .args in
-    question-at (x .place) (five (x .a) (x .b) (x .c) (x .d) (x .e)) (x .m .now) (x .out .now) _ _ _ (c .before .before .match .keys6) (c .vaskelbi-declares .ensures)
+    question-at (x .place) (three (x .a) (x .b) (x .c)) (x .m .now) (x .out .now) _ _ _ (c .before .before .match .keys6) (c .vaskelbi-declares .ensures)
 
 returns-7 : tie.Need-returns-7
 unfolding operationAt
 returns-7 c =
     let x = c .before .before .before .args in
-    question-at (x .place) (five (x .a) (x .b) (x .c) (x .d) (x .e)) (x .m .now) (x .out .now) _ _ _ (c .before .before .match .keys7) (c .vaskelbi-lookup .ensures)
+    question-at (x .place) (three (x .a) (x .b) (x .c)) (x .m .now) (x .out .now) _ _ _ (c .before .before .match .keys7) (c .vaskelbi-lookup .ensures)
 
 returns-8 : tie.Need-returns-8
 unfolding operationAt
 returns-8 c =
     let x = c .before .before .before .before .args in
-    question-at (x .place) (five (x .a) (x .b) (x .c) (x .d) (x .e)) (x .m .now) (x .out .now) _ _ _ (c .before .before .before .match .keys8) (one-told (x .m .now) (x .out .now) _ _ (AskRegistry RowsInUse) _ (c .before .before .vaskelbi-rows .ensures) (c .one .ensures .0) (c .one .ensures .1))
+    question-at (x .place) (three (x .a) (x .b) (x .c)) (x .m .now) (x .out .now) _ _ _ (c .before .before .before .match .keys8) (one-told (x .m .now) (x .out .now) _ _ (AskRegistry RowsInUse) _ (c .before .before .vaskelbi-rows .ensures) (c .one .ensures .0) (c .one .ensures .1))
 
 returns-9 : tie.Need-returns-9
 unfolding operationAt
 returns-9 c =
     let x = c .before .before .before .before .args in
-    question-at (x .place) (five (x .a) (x .b) (x .c) (x .d) (x .e)) (x .m .now) (x .out .now) _ _ _ (c .before .before .before .match .keys9) (one-told (x .m .now) (x .out .now) _ _ (AskRegistry Registered) _ (c .before .before .vaskelbi-count .ensures) (c .one2 .ensures .0) (c .one2 .ensures .1))
+    question-at (x .place) (three (x .a) (x .b) (x .c)) (x .m .now) (x .out .now) _ _ _ (c .before .before .before .match .keys9) (one-told (x .m .now) (x .out .now) _ _ (AskRegistry Registered) _ (c .before .before .vaskelbi-count .ensures) (c .one2 .ensures .0) (c .one2 .ensures .1))
 
 returns-10 : tie.Need-returns-10
 unfolding operationAt
 returns-10 c =
     let x = c .before .before .before .before .args in
-    question-at (x .place) (five (x .a) (x .b) (x .c) (x .d) (x .e)) (x .m .now) (x .out .now) _ _ _ (c .before .before .before .match .keys10) (one-told (x .m .now) (x .out .now) _ _ (AskRegistry NextId) _ (c .before .before .vaskelbi-next .ensures) (c .one3 .ensures .0) (c .one3 .ensures .1))
+    question-at (x .place) (three (x .a) (x .b) (x .c)) (x .m .now) (x .out .now) _ _ _ (c .before .before .before .match .keys10) (one-told (x .m .now) (x .out .now) _ _ (AskRegistry NextId) _ (c .before .before .vaskelbi-next .ensures) (c .one3 .ensures .0) (c .one3 .ensures .1))
 
 returns-11 : tie.Need-returns-11
 unfolding placeAmong
 returns-11 c =
     let x = c .before .args in
-    no-question (x .place) (five (x .a) (x .b) (x .c) (x .d) (x .e)) (x .m .now) (x .out .now) (c .match .rest)
+    no-question (x .place) (three (x .a) (x .b) (x .c)) (x .m .now) (x .out .now) (c .match .rest)
 
 pub question-spec : {M : Type 1} → statement M
 question-spec =

@@ -132,7 +132,7 @@ returns-14 : tie.Need-returns-14
 unfolding placeAmong
 returns-14 c =
     let x = c .before .before .before .before .args in
-    no-step (x .place) (five (x .a) (x .b) (x .c) (x .d) (x .e)) (x .m .now) (x .out .now) _ _ (c .before .before .before .match .rest) (c .question .ensures)
+    no-step (x .place) (x .a) (x .b) (x .c) (x .d) (x .e) (x .m .now) (x .out .now) _ _ (c .before .before .before .match .rest) (c .question .ensures)
 
 pub step-spec : {M : Type 1} → statement M
 step-spec =
