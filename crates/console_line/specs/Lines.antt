@@ -5,7 +5,8 @@ use mathlib.Core.List.{List, [], _∷_}
 use mathlib.Core.Option.{Option, none, some}
 use lib.ListN.{length}
 use Rattle.rules.specs.Basics.{pick}
-use Rattle.rules.specs.Steps.{Listed, lentAfterStep}
+use Rattle.rules.specs.Steps.{lentAfterStep, Write}
+use Rattle.rules.specs.Questions.{Listed}
 use Rattle.memory.specs.View.{view}
 use Rattle.host_answers.specs.Told.{statusOf, wordsOf}
 use Rattle.host.specs.Tells.{answer}
@@ -46,7 +47,7 @@ untold = 0 ∷ 0 ∷ 0 ∷ 0 ∷ 0 ∷ 0 ∷ 0 ∷ []
 -- deps, provs, realms: ID PLACE
 abbrev pub listed : Page → List ℕ → List ℕ → Held → List ℕ → Done
 listed p m buffer held l =
-    let o = Listed (whichOf held) (first l) (second l) buffer in
+    let o = Write (Listed (whichOf held) (first l) (second l)) buffer in
     record { page = spokenOn p Numbers (statusOf (answer m o)) (toldIn (wordsOf (answer m o) untold)); memory = m; buffer = lentAfterStep (view m) o }
 
 -- What is asked of the registry, said and done.

@@ -5,7 +5,8 @@ use mathlib.Core.List.{List, [], _∷_}
 use mathlib.Core.Option.{Option, none, some}
 use lib.ListN.{getD}
 use Rattle.rules.specs.Registration.{Definition}
-use Rattle.rules.specs.Steps.{Op, Listed}
+use Rattle.rules.specs.Steps.{Op, Write}
+use Rattle.rules.specs.Questions.{Listed}
 use Rattle.host.specs.Tells.{answer}
 use Rattle.console_answer.specs.Pages.{Page, putOn, numbersOn}
 use Rattle.console_answer.specs.Answers.{okWord}
@@ -114,5 +115,5 @@ module _ (p : Page) (m : List ℕ) where
   register-said buffer line from = plainly p m Numbers (enrolment (draftIn line from)) (plain-enrolment Numbers (draftIn line from))
 
   -- and the line of a listing.
-  pub listed-said : (buffer : List ℕ) (held : Held) (l : List ℕ) → listed p m buffer held l .page ≡ lineOn p Numbers (answer m (Listed (whichOf held) (first l) (second l) buffer))
-  listed-said buffer held l = said p m Numbers (Listed (whichOf held) (first l) (second l) buffer)
+  pub listed-said : (buffer : List ℕ) (held : Held) (l : List ℕ) → listed p m buffer held l .page ≡ lineOn p Numbers (answer m (Write (Listed (whichOf held) (first l) (second l)) buffer))
+  listed-said buffer held l = said p m Numbers (Write (Listed (whichOf held) (first l) (second l)) buffer)

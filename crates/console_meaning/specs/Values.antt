@@ -21,7 +21,8 @@ use Rattle.rules.specs.Retirement.{Identity, retireFound, retire, retireChild, 
 use Rattle.rules.specs.Values.{valueIn, given, served, seen, firstMissing, offer, read, visible, own, missing, matching, declares}
 use Rattle.rules.specs.Lists.{listing, list}
 use Rattle.rules.specs.Queries.{Field, fieldOf, askPlugin, lowestFrom, idFrom}
-use Rattle.rules.specs.Steps.{Op, answerTo, ResolveKey, DependencyPort, Register, Begin, Ready, Fail, Unload, Finish, Replace, Fits, Admit, Admits, Call, Retire, RetireChild, ChildIdentity, Remove, Offer, Read, Visible, Own, FirstMissing, Matching, Declares, Listed, AskPlugin, AskRegistry, IdFrom}
+use Rattle.rules.specs.Steps.{Op, answerTo, Register, Begin, Ready, Fail, Unload, Finish, Replace, Admit, Call, Retire, RetireChild, Remove, Offer, Ask, Write}
+use Rattle.rules.specs.Questions.{ResolveKey, DependencyPort, Fits, Admits, ChildIdentity, Read, Visible, Own, FirstMissing, Matching, Declares, Listed, AskPlugin, AskRegistry, IdFrom}
 use Rattle.rules.specs.Laws.Tests.{checked-elim, found-elim}
 use Rattle.console_show.specs.Shown.{valuesOf}
 use Rattle.console_show.specs.Told.{one-fits, field-fits}
@@ -103,8 +104,8 @@ few-seen q (some p) = few-picked (isActive (p .phase)) (one (valueIn q (p .provi
 -- No operation answers more than six numbers.
 pub few-values : (r : Registry) (o : Op) → length (valuesOf (answerTo r o)) ≤ 6
 unfolding resolveKey dependencyPort register begin ready fail unload finish replace fits admit admits call retire retireChild childIdentity remove offer read visible own missing matching declares listing list askPlugin idFrom
-few-values r (ResolveKey realms key) = few-checked _ _ (omega arith)
-few-values r (DependencyPort id key) = few-known r id _ λ p. few-first key (p .dependencies)
+few-values r (Ask (ResolveKey realms key)) = few-checked _ _ (omega arith)
+few-values r (Ask (DependencyPort id key)) = few-known r id _ λ p. few-first key (p .dependencies)
 few-values r (Register d) = few-checked _ _ (omega arith)
 few-values r (Begin id) = few-known r id _ λ p. few-checked _ _ (omega arith)
 few-values r (Ready id) = few-known r id _ λ p. few-checked _ _ (omega arith)
@@ -112,25 +113,25 @@ few-values r (Fail id) = few-known r id _ λ p. few-checked _ _ (omega arith)
 few-values r (Unload id) = few-known r id _ λ p. few-checked _ _ (omega arith)
 few-values r (Finish id) = few-known r id _ λ p. few-checked _ _ (omega arith)
 few-values r (Replace id payload) = few-handed payload _ (few-known r id _ λ p. few-checked _ _ (omega arith))
-few-values r (Fits id times) = few-known r id _ λ p. omega arith
+few-values r (Ask (Fits id times)) = few-known r id _ λ p. omega arith
 few-values r (Admit t argument) = few-checked _ _ (few-known r (t .id) _ λ p. few-checked _ _ (omega arith))
-few-values r (Admits t) = omega arith
+few-values r (Ask (Admits t)) = omega arith
 few-values r (Call t) = few-checked _ _ (few-known r (t .id) _ λ p. few-checked _ _ (omega arith))
 few-values r (Retire id) = few-known r id _ λ p. few-checked _ _ (omega arith)
 few-values r (RetireChild c) = few-checked _ _ (of-child Few (omega arith) (c .parent) (lookup r (c .id)))
-few-values r (ChildIdentity id) = few-known r id _ λ p. few-identity (r .domain) id (p .parent)
+few-values r (Ask (ChildIdentity id)) = few-known r id _ λ p. few-identity (r .domain) id (p .parent)
 few-values r (Remove id) = few-known r id _ λ p. few-checked _ _ (omega arith)
 few-values r (Offer id q value) = few-known r id _ λ p. few-checked _ _ (omega arith)
-few-values r (Read id q) = few-known r id _ λ p. few-checked _ _ (few-served q (provider r q))
-few-values r (Visible q) = few-seen q (provider r q)
-few-values r (Own id q) = few-known r id _ λ p. few-one (valueIn q (p .provisions))
-few-values r (FirstMissing id) = few-known r id _ λ p. few-missing (p .provisions)
-few-values r (Matching id ports) = few-known r id _ λ p. omega arith
-few-values r (Declares id q) = few-known r id _ λ p. omega arith
-few-values r (Listed w id place buffer) = few-known r id _ λ p. few-checked _ _ (omega arith)
-few-values r (AskPlugin f id) = few-known r id _ λ p. few-field f p
-few-values r (AskRegistry t) = omega arith
-few-values r (IdFrom n) = few-one (lowestFrom n (plugins r))
+few-values r (Ask (Read id q)) = few-known r id _ λ p. few-checked _ _ (few-served q (provider r q))
+few-values r (Ask (Visible q)) = few-seen q (provider r q)
+few-values r (Ask (Own id q)) = few-known r id _ λ p. few-one (valueIn q (p .provisions))
+few-values r (Ask (FirstMissing id)) = few-known r id _ λ p. few-missing (p .provisions)
+few-values r (Ask (Matching id ports)) = few-known r id _ λ p. omega arith
+few-values r (Ask (Declares id q)) = few-known r id _ λ p. omega arith
+few-values r (Write (Listed w id place) buffer) = few-known r id _ λ p. few-checked _ _ (omega arith)
+few-values r (Ask (AskPlugin f id)) = few-known r id _ λ p. few-field f p
+few-values r (Ask (AskRegistry t)) = omega arith
+few-values r (Ask (IdFrom n)) = few-one (lowestFrom n (plugins r))
 
 -- none at all
 abbrev Empty : List ℕ → Type 0

@@ -8,7 +8,8 @@ use lib.Dec.{eqb, leb}
 use lib.ListN.{getD, drop}
 use Rattle.rules.specs.Holds.{port}
 use Rattle.rules.specs.Queries.{RowsInUse, Registered, NextId}
-use Rattle.rules.specs.Steps.{Op, ResolveKey, DependencyPort, Begin, Ready, Fail, Unload, Finish, Replace, Fits, Admit, Call, Retire, RetireChild, ChildIdentity, Remove, Offer, Read, Visible, FirstMissing, Matching, Declares, AskRegistry}
+use Rattle.rules.specs.Steps.{Op, Begin, Ready, Fail, Unload, Finish, Replace, Admit, Call, Retire, RetireChild, Remove, Offer, Ask}
+use Rattle.rules.specs.Questions.{Question, ResolveKey, DependencyPort, Fits, ChildIdentity, Read, Visible, FirstMissing, Matching, Declares, AskRegistry}
 use Rattle.text_decimal.specs.Text.{bytes}
 use Rattle.console_names.specs.declared.Count.{Count}
 use Rattle.console_names.specs.declared.Count.the-variants.{Exactly, AtLeast}
@@ -53,12 +54,12 @@ abbrev pub step : String → ℕ → Values → (List ℕ → Op) → Operation
 step name n v f = asking true name (Exactly n) v (λ l. asked v (f l))
 
 -- A question of so many numbers.
-abbrev pub ask : String → ℕ → Values → (List ℕ → Op) → Operation
-ask name n v f = asking false name (Exactly n) v (λ l. asked v (f l))
+abbrev pub ask : String → ℕ → Values → (List ℕ → Question) → Operation
+ask name n v f = asking false name (Exactly n) v (λ l. asked v (Ask (f l)))
 
 -- The same, and then as many as wished.
-abbrev pub askMore : String → ℕ → Values → (List ℕ → Op) → Operation
-askMore name n v f = asking false name (AtLeast n) v (λ l. asked v (f l))
+abbrev pub askMore : String → ℕ → Values → (List ℕ → Question) → Operation
+askMore name n v f = asking false name (AtLeast n) v (λ l. asked v (Ask (f l)))
 
 -- An operation that is not the registry's alone.
 abbrev pub other : String → Row → Operation

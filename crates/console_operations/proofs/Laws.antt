@@ -6,7 +6,8 @@ use mathlib.Core.List.{List, [], _∷_}
 use Rattle.rules.specs.Basics.{last}
 use Rattle.rules.specs.Lists.{Which}
 use Rattle.rules.specs.Outcomes.{Accepted}
-use Rattle.rules.specs.Steps.{Op, ResolveKey, Matching}
+use Rattle.rules.specs.Steps.{Op, Ask}
+use Rattle.rules.specs.Questions.{ResolveKey, Matching}
 use Rattle.host_answers.specs.Told.{statusOf, wordsOf, counted as told}
 use Rattle.host.specs.Tells.{answer}
 use Rattle.console_names.specs.Names.{placeAmong}
@@ -37,11 +38,11 @@ abbrev pub questions : List String
 questions = "fits" ∷ "child" ∷ "read" ∷ "visible" ∷ "missing" ∷ "declares" ∷ "lookup" ∷ "rows" ∷ "count" ∷ "next" ∷ []
 
 module _ (place : ℕ) where
-  pub matches-asked : (l : List ℕ) (a : ℕ) (r : List ℕ) → place ≡ placeOf "matches" → a ≡ first l → r ≡ rest l → askedAt place l ≡ Told (Matching a r)
+  pub matches-asked : (l : List ℕ) (a : ℕ) (r : List ℕ) → place ≡ placeOf "matches" → a ≡ first l → r ≡ rest l → askedAt place l ≡ Told (Ask (Matching a r))
   unfolding operationAt placeAmong
   matches-asked l a r e f g = ap (λ (p : ℕ). askedAt p l) e ∙ rw (f, g)
 
-  pub resolve-asked : (l : List ℕ) (a : ℕ) (r : List ℕ) → place ≡ placeOf "resolve" → a ≡ first l → r ≡ rest l → askedAt place l ≡ Told (ResolveKey r a)
+  pub resolve-asked : (l : List ℕ) (a : ℕ) (r : List ℕ) → place ≡ placeOf "resolve" → a ≡ first l → r ≡ rest l → askedAt place l ≡ Told (Ask (ResolveKey r a))
   unfolding operationAt placeAmong
   resolve-asked l a r e f g = ap (λ (p : ℕ). askedAt p l) e ∙ rw (f, g)
 

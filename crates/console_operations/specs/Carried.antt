@@ -4,7 +4,8 @@ use mathlib.Core.Path.{_≡_}
 use mathlib.Core.List.{List}
 use Rattle.rules.specs.Basics.{last}
 use Rattle.rules.specs.Lists.{Which}
-use Rattle.rules.specs.Steps.{Listed, lentAfterStep}
+use Rattle.rules.specs.Steps.{lentAfterStep, Write}
+use Rattle.rules.specs.Questions.{Listed}
 use Rattle.memory.specs.View.{view}
 use Rattle.host_answers.specs.Told.{statusOf, wordsOf, Tells}
 use Rattle.demands.specs.Leaves.{leaves}
@@ -45,4 +46,4 @@ same m out status out′ m′ a b e t = rw e t
 
 -- A listing, and the buffer.
 abbrev pub Lists : List ℕ → Which → ℕ → ℕ → List ℕ → List ℕ → ℕ → List ℕ → List ℕ → Type 0
-Lists m w id from buffer out status out′ buffer′ = Tells (answer m (Listed w id from buffer)) out status out′ × (buffer′ ≡ lentAfterStep (view m) (Listed w id from buffer))
+Lists m w id from buffer out status out′ buffer′ = Tells (answer m (Write (Listed w id from) buffer)) out status out′ × (buffer′ ≡ lentAfterStep (view m) (Write (Listed w id from) buffer))

@@ -4,7 +4,8 @@ use mathlib.Core.Path.{_≡_}
 use mathlib.Core.List.{List, [], _∷_}
 use Rattle.rules.specs.Outcomes.{Answer, Refused, Accepted}
 use Rattle.rules.specs.Queries.{Field, Parent, Anchor, PhaseOf, RetiredMark, Generation, Revision, Payload, RootOf}
-use Rattle.rules.specs.Steps.{AskPlugin}
+use Rattle.rules.specs.Steps.{Ask}
+use Rattle.rules.specs.Questions.{AskPlugin}
 use Rattle.host_answers.specs.Told.{statusOf}
 use Rattle.host.specs.Tells.{answer}
 use Rattle.console_answer.specs.Pages.{Page, putOn, numberOn, numbersOn}
@@ -17,7 +18,7 @@ valuesOf (Accepted l) = l
 
 -- What a memory's words answer to a question about a plugin.
 abbrev pub asked : List ℕ → ℕ → Field → Answer
-asked m id f = answer m (AskPlugin f id)
+asked m id f = answer m (Ask (AskPlugin f id))
 
 -- The id is a plugin's: a question about it is accepted.
 abbrev pub Registered : List ℕ → ℕ → Type 0

@@ -1,22 +1,15 @@
 -- Demand 1: on any words, a refusal answers one of document 01's numbers and leaves the words and the lent buffer as they were.
 use Prim.Native.Nat.{ℕ}
 use native.Mathlib.Omega.{arith}
-use mathlib.Core.Path.{_≡_, refl, ap, _∙_}
+use mathlib.Core.Path.{_≡_, refl, ap}
 use mathlib.Core.List.{List}
 use Rattle.rules.specs.Refusals.{Refusal, number}
-use Rattle.rules.specs.Outcomes.{Refused, Outcome, refuses, answers, answerOf}
-use Rattle.rules.specs.Outcomes as outcome
+use Rattle.rules.specs.Outcomes.{Refused, Outcome, refuses, answers, writes, stores, adds, removes, answerOf}
 use Rattle.rules.specs.Steps.{Op, step, answerTo, lent, lentAfterStep}
 use Rattle.rules.specs.Demand1.{refusal-changes-nothing}
+use Rattle.memory.specs.Ways.{leftBy}
 use Rattle.memory.specs.View.{view}
-use Rattle.memory.specs.Known.{storedLife}
-use Rattle.registry_remove.specs.Words.{removedFrom}
-use Rattle.registry_register.specs.Written.{addedTo}
-use Rattle.registry_replace.specs.Words.{replacedIn}
-use Rattle.registry_ready_finish.specs.Finished.{finishedTo}
-use Rattle.registry_offer.specs.Words.{offeredTo}
-use Rattle.demands.specs.Leaves.{Way, wayOf, leftBy, leaves}
-use Rattle.demands.specs.Leaves.Way.{asks, adds, stores, replaces, finishes, removes, offers}
+use Rattle.demands.specs.Leaves.{wayOf, leaves}
 
 -- An outcome whose answer is a refusal.
 pub record IsRefusal (o : Outcome) (n : ℕ) : Type 0 where
@@ -28,23 +21,14 @@ pub record IsRefusal (o : Outcome) (n : ℕ) : Type 0 where
 refused : (o : Outcome) (n : ℕ) (vs : List ℕ) → answerOf o ≡ Refused n vs → IsRefusal o n
 refused (refuses x ws) n vs e = record { refusal = x; values = ws; outcome = refl; numbered = cc }
 refused (answers ws) n vs e = let z : _≡_ {A = ℕ} 0 1 = cc in absurd (omega arith)
-refused (outcome.writes place l ws) n vs e = let z : _≡_ {A = ℕ} 0 1 = cc in absurd (omega arith)
-refused (outcome.stores p ws) n vs e = let z : _≡_ {A = ℕ} 0 1 = cc in absurd (omega arith)
-refused (outcome.adds p ws) n vs e = let z : _≡_ {A = ℕ} 0 1 = cc in absurd (omega arith)
-refused (outcome.removes id ws) n vs e = let z : _≡_ {A = ℕ} 0 1 = cc in absurd (omega arith)
-
-left-same : (w : Way) (m : List ℕ) (x : Refusal) (vs : List ℕ) → leftBy w m (refuses x vs) ≡ m
-unfolding addedTo storedLife replacedIn finishedTo removedFrom offeredTo
-left-same asks m x vs = refl
-left-same adds m x vs = refl
-left-same stores m x vs = refl
-left-same replaces m x vs = refl
-left-same finishes m x vs = refl
-left-same removes m x vs = refl
-left-same (offers id q value) m x vs = refl
+refused (writes place l ws) n vs e = let z : _≡_ {A = ℕ} 0 1 = cc in absurd (omega arith)
+refused (stores p ws) n vs e = let z : _≡_ {A = ℕ} 0 1 = cc in absurd (omega arith)
+refused (adds p ws) n vs e = let z : _≡_ {A = ℕ} 0 1 = cc in absurd (omega arith)
+refused (removes id ws) n vs e = let z : _≡_ {A = ℕ} 0 1 = cc in absurd (omega arith)
 
 leaves-same : (m : List ℕ) (o : Op) (n : ℕ) → IsRefusal (step (view m) o) n → leaves m o ≡ m
-leaves-same m o n w = ap (leftBy (wayOf o) m) (w .outcome) ∙ left-same (wayOf o) m (w .refusal) (w .values)
+unfolding leftBy
+leaves-same m o n w = ap (leftBy (wayOf o) m) (w .outcome)
 
 pub record Nothing-changed (m : List ℕ) (o : Op) (n : ℕ) : Type 0 where
   pub refusal : Refusal

@@ -3,12 +3,13 @@
 use Prim.Native.Nat.{ℕ}
 use mathlib.Core.Path.{_≡_, refl, sym, subst}
 use mathlib.Core.List.{List}
-use Rattle.rules.specs.Steps.{Op, step, ResolveKey, DependencyPort, Register, Begin, Ready, Fail, Unload, Finish, Replace, Fits, Admit, Admits, Call, Retire, RetireChild, ChildIdentity, Remove, Offer, Read, Visible, Own, FirstMissing, Matching, Declares, Listed, AskPlugin, AskRegistry, IdFrom}
+use Rattle.rules.specs.Steps.{Op, step, Register, Begin, Ready, Fail, Unload, Finish, Replace, Admit, Call, Retire, RetireChild, Remove, Offer, Ask, Write}
 use Rattle.rules.specs.Built.{Built}
 use Rattle.rules.specs.Kept.{step-built}
 use Rattle.rules.specs.Kept.Reach.{nothing, reach}
 use Rattle.rules.specs.Kept.Operations.{asked-same}
 use Rattle.memory.specs.View.{view}
+use Rattle.memory.specs.Ways.{leftBy, asking, asking-leaves}
 use Rattle.memory_rows.specs.Dense.{Refines}
 use Rattle.memory_rows.specs.Stored.{life-refines}
 use Rattle.registry_remove.specs.Refines.{remove-refines}
@@ -24,8 +25,10 @@ pub data Made : List ℕ → Type 0 where
   begins : (m : List ℕ) → Begun m → Made m
   goesOn : (m : List ℕ) → Made m → (o : Op) → Made (leaves m o)
 
-question : (m : List ℕ) → Sound m → (o : Op) → reach o ≡ nothing → Refines m m (step (view m) o)
-question m s o e = record { registry = sym (asked-same (view m) o e); dense = s .dense }
+question : (m : List ℕ) → Sound m → (o : Op) → reach o ≡ nothing → Refines m (leftBy asking m (step (view m) o)) (step (view m) o)
+question m s o e =
+    let n : leftBy asking m (step (view m) o) ≡ m = asking-leaves m (step (view m) o) in
+    rw n (record { registry = sym (asked-same (view m) o e); dense = s .dense })
 
 -- On any sound words.
 pub sound-refines : (m : List ℕ) → Sound m → (o : Op) → Refines m (leaves m o) (step (view m) o)
@@ -42,21 +45,8 @@ sound-refines m s (Retire id) = life-refines m (s .dense) (Retire id) refl
 sound-refines m s (RetireChild c) = life-refines m (s .dense) (RetireChild c) refl
 sound-refines m s (Remove id) = remove-refines m (s .dense) id
 sound-refines m s (Offer id q v) = offer-refines m (s .dense) (s .built) id q v
-sound-refines m s (ResolveKey l k) = question m s (ResolveKey l k) refl
-sound-refines m s (DependencyPort id k) = question m s (DependencyPort id k) refl
-sound-refines m s (Fits id n) = question m s (Fits id n) refl
-sound-refines m s (Admits t) = question m s (Admits t) refl
-sound-refines m s (ChildIdentity id) = question m s (ChildIdentity id) refl
-sound-refines m s (Read id q) = question m s (Read id q) refl
-sound-refines m s (Visible q) = question m s (Visible q) refl
-sound-refines m s (Own id q) = question m s (Own id q) refl
-sound-refines m s (FirstMissing id) = question m s (FirstMissing id) refl
-sound-refines m s (Matching id l) = question m s (Matching id l) refl
-sound-refines m s (Declares id q) = question m s (Declares id q) refl
-sound-refines m s (Listed w id place l) = question m s (Listed w id place l) refl
-sound-refines m s (AskPlugin f id) = question m s (AskPlugin f id) refl
-sound-refines m s (AskRegistry t) = question m s (AskRegistry t) refl
-sound-refines m s (IdFrom n) = question m s (IdFrom n) refl
+sound-refines m s (Ask q) = question m s (Ask q) refl
+sound-refines m s (Write w l) = question m s (Write w l) refl
 
 pub keeps : (m : List ℕ) → Sound m → (o : Op) → Sound (leaves m o)
 keeps m s o = let r = sound-refines m s o in record { dense = r .dense; built = subst Built (sym (r .registry)) (step-built (view m) (s .built) o) }

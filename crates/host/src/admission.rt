@@ -1,5 +1,6 @@
 // Admission and call.
-ghost use Rattle.rules.specs.Steps.{Admit, Admits, Call};
+ghost use Rattle.rules.specs.Steps.{Admit, Call, Ask};
+ghost use Rattle.rules.specs.Questions.{Admits};
 ghost use Rattle.registry_admit.specs.Answers.{ticket, invocation};
 ghost use Rattle.host_answers.specs.Told.{Tells};
 ghost use Rattle.host.specs.Tells.{answer, DoesAndTells};
@@ -36,7 +37,7 @@ pub extern "C" fn vaskelbi_admits(
     kind: u64,
     out: &mut [u64; ANSWER],
 ) -> u64
-    ensures { λ r. ⌜ Tells (answer (now (m .entry)) (Admits (ticket domain id generation kind))) (now (out .entry)) r (now (out .exit)) ⌝ }
+    ensures { λ r. ⌜ Tells (answer (now (m .entry)) (Ask (Admits (ticket domain id generation kind)))) (now (out .entry)) r (now (out .exit)) ⌝ }
 {
     host_answers::yes_or_no(registry_admit::admits(m, domain, id, generation, kind), out)
 }

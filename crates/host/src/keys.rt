@@ -1,7 +1,8 @@
 // Ports and realms, and the dependency list: a key is looked up.
 ghost use Rattle.rules.specs.Outcomes.{answerOf};
 ghost use Rattle.rules.specs.Ports.{resolveKey};
-ghost use Rattle.rules.specs.Steps.{DependencyPort};
+ghost use Rattle.rules.specs.Steps.{Ask};
+ghost use Rattle.rules.specs.Questions.{DependencyPort};
 ghost use Rattle.host_answers.specs.Told.{Tells};
 ghost use Rattle.host.specs.Tells.{answer};
 use host_answers::ANSWER;
@@ -23,7 +24,7 @@ pub extern "C" fn vaskelbi_lookup(
     key: u64,
     out: &mut [u64; ANSWER],
 ) -> u64
-    ensures { λ r. ⌜ Tells (answer (now (m .entry)) (DependencyPort id key)) (now (out .entry)) r (now (out .exit)) ⌝ }
+    ensures { λ r. ⌜ Tells (answer (now (m .entry)) (Ask (DependencyPort id key))) (now (out .entry)) r (now (out .exit)) ⌝ }
 {
     host_answers::port(registry_queries::dependency_port(m, id, key), out)
 }

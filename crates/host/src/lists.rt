@@ -1,6 +1,7 @@
 // Lists: a plugin's ports and realm rows into the host's buffer.
 ghost use Rattle.rules.specs.Lists.{Dependencies, Provisions, RealmRows};
-ghost use Rattle.rules.specs.Steps.{Listed};
+ghost use Rattle.rules.specs.Steps.{Write};
+ghost use Rattle.rules.specs.Questions.{Listed};
 ghost use Rattle.host.specs.Tells.{ListsAndTells};
 use host_answers::ANSWER;
 use memory::WORDS;
@@ -14,7 +15,7 @@ pub extern "C" fn vaskelbi_list_dependencies(
     buffer: &mut [u64],
     out: &mut [u64; ANSWER],
 ) -> u64
-    ensures { λ r. ⌜ ListsAndTells (now (m .entry)) (Listed Dependencies id place (now (buffer .entry)))
+    ensures { λ r. ⌜ ListsAndTells (now (m .entry)) (Write (Listed Dependencies id place) (now (buffer .entry)))
         (now (out .entry)) r (now (out .exit)) (now (buffer .exit)) ⌝ }
 {
     host_answers::listed(
@@ -31,7 +32,7 @@ pub extern "C" fn vaskelbi_list_provisions(
     buffer: &mut [u64],
     out: &mut [u64; ANSWER],
 ) -> u64
-    ensures { λ r. ⌜ ListsAndTells (now (m .entry)) (Listed Provisions id place (now (buffer .entry)))
+    ensures { λ r. ⌜ ListsAndTells (now (m .entry)) (Write (Listed Provisions id place) (now (buffer .entry)))
         (now (out .entry)) r (now (out .exit)) (now (buffer .exit)) ⌝ }
 {
     host_answers::listed(registry_queries::list_provisions(m, id, place, buffer), out)
@@ -45,7 +46,7 @@ pub extern "C" fn vaskelbi_list_realms(
     buffer: &mut [u64],
     out: &mut [u64; ANSWER],
 ) -> u64
-    ensures { λ r. ⌜ ListsAndTells (now (m .entry)) (Listed RealmRows id place (now (buffer .entry)))
+    ensures { λ r. ⌜ ListsAndTells (now (m .entry)) (Write (Listed RealmRows id place) (now (buffer .entry)))
         (now (out .entry)) r (now (out .exit)) (now (buffer .exit)) ⌝ }
 {
     host_answers::listed(registry_queries::list_realms(m, id, place, buffer), out)

@@ -1,5 +1,6 @@
 // Replacement of a payload, and whether a count of replacements fits.
-ghost use Rattle.rules.specs.Steps.{Replace, Fits};
+ghost use Rattle.rules.specs.Steps.{Replace, Ask};
+ghost use Rattle.rules.specs.Questions.{Fits};
 ghost use Rattle.host_answers.specs.Told.{Tells};
 ghost use Rattle.host.specs.Tells.{answer, DoesAndTells};
 use host_answers::ANSWER;
@@ -26,7 +27,7 @@ pub extern "C" fn vaskelbi_fits(
     count: u64,
     out: &mut [u64; ANSWER],
 ) -> u64
-    ensures { λ r. ⌜ Tells (answer (now (m .entry)) (Fits id count)) (now (out .entry)) r (now (out .exit)) ⌝ }
+    ensures { λ r. ⌜ Tells (answer (now (m .entry)) (Ask (Fits id count))) (now (out .entry)) r (now (out .exit)) ⌝ }
 {
     host_answers::whether(registry_replace::fits(m, id, count), out)
 }

@@ -1,5 +1,6 @@
 // Retirement by id and by child identity, a plugin's child identity, and removal.
-ghost use Rattle.rules.specs.Steps.{Retire, RetireChild, ChildIdentity, Remove};
+ghost use Rattle.rules.specs.Steps.{Retire, RetireChild, Remove, Ask};
+ghost use Rattle.rules.specs.Questions.{ChildIdentity};
 ghost use Rattle.registry_retire.specs.Answers.{identified};
 ghost use Rattle.host_answers.specs.Told.{Tells};
 ghost use Rattle.host.specs.Tells.{answer, Does};
@@ -28,7 +29,7 @@ pub extern "C" fn vaskelbi_retire_child(
 // A plugin's child identity: domain, parent, id; no number without a parent.
 #[no_mangle]
 pub extern "C" fn vaskelbi_child(m: &[u64; WORDS], id: u64, out: &mut [u64; ANSWER]) -> u64
-    ensures { λ r. ⌜ Tells (answer (now (m .entry)) (ChildIdentity id)) (now (out .entry)) r (now (out .exit)) ⌝ }
+    ensures { λ r. ⌜ Tells (answer (now (m .entry)) (Ask (ChildIdentity id))) (now (out .entry)) r (now (out .exit)) ⌝ }
 {
     host_answers::child(registry_retire::child_identity(m, id), out)
 }

@@ -1,6 +1,7 @@
 // Values: they are offered and read, and what a plugin declares or still lacks is asked.
 ghost use Rattle.rules.specs.Holds.{port};
-ghost use Rattle.rules.specs.Steps.{Offer, Read, Visible, Own, FirstMissing, Matching, Declares};
+ghost use Rattle.rules.specs.Steps.{Offer, Ask};
+ghost use Rattle.rules.specs.Questions.{Read, Visible, Own, FirstMissing, Matching, Declares};
 ghost use Rattle.host_answers.specs.Told.{Tells};
 ghost use Rattle.host.specs.Tells.{answer, Does};
 use host_answers::ANSWER;
@@ -28,7 +29,7 @@ pub extern "C" fn vaskelbi_read(
     realm: u64,
     out: &mut [u64; ANSWER],
 ) -> u64
-    ensures { λ r. ⌜ Tells (answer (now (m .entry)) (Read id (port key realm))) (now (out .entry)) r (now (out .exit)) ⌝ }
+    ensures { λ r. ⌜ Tells (answer (now (m .entry)) (Ask (Read id (port key realm)))) (now (out .entry)) r (now (out .exit)) ⌝ }
 {
     host_answers::reading(registry_values::read(m, id, key, realm), out)
 }
@@ -41,7 +42,7 @@ pub extern "C" fn vaskelbi_visible(
     realm: u64,
     out: &mut [u64; ANSWER],
 ) -> u64
-    ensures { λ r. ⌜ Tells (answer (now (m .entry)) (Visible (port key realm))) (now (out .entry)) r (now (out .exit)) ⌝ }
+    ensures { λ r. ⌜ Tells (answer (now (m .entry)) (Ask (Visible (port key realm)))) (now (out .entry)) r (now (out .exit)) ⌝ }
 {
     host_answers::value(registry_values::visible(m, key, realm), out)
 }
@@ -55,7 +56,7 @@ pub extern "C" fn vaskelbi_own(
     realm: u64,
     out: &mut [u64; ANSWER],
 ) -> u64
-    ensures { λ r. ⌜ Tells (answer (now (m .entry)) (Own id (port key realm))) (now (out .entry)) r (now (out .exit)) ⌝ }
+    ensures { λ r. ⌜ Tells (answer (now (m .entry)) (Ask (Own id (port key realm)))) (now (out .entry)) r (now (out .exit)) ⌝ }
 {
     host_answers::perhaps(registry_values::own(m, id, key, realm), out)
 }
@@ -63,7 +64,7 @@ pub extern "C" fn vaskelbi_own(
 // The first provision without a value, or no number.
 #[no_mangle]
 pub extern "C" fn vaskelbi_missing(m: &[u64; WORDS], id: u64, out: &mut [u64; ANSWER]) -> u64
-    ensures { λ r. ⌜ Tells (answer (now (m .entry)) (FirstMissing id)) (now (out .entry)) r (now (out .exit)) ⌝ }
+    ensures { λ r. ⌜ Tells (answer (now (m .entry)) (Ask (FirstMissing id))) (now (out .entry)) r (now (out .exit)) ⌝ }
 {
     host_answers::port(registry_values::missing(m, id), out)
 }
@@ -76,7 +77,7 @@ pub extern "C" fn vaskelbi_matches(
     list: &[u64],
     out: &mut [u64; ANSWER],
 ) -> u64
-    ensures { λ r. ⌜ Tells (answer (now (m .entry)) (Matching id (now (list .entry)))) (now (out .entry)) r (now (out .exit)) ⌝ }
+    ensures { λ r. ⌜ Tells (answer (now (m .entry)) (Ask (Matching id (now (list .entry))))) (now (out .entry)) r (now (out .exit)) ⌝ }
 {
     host_answers::whether(registry_values::matches(m, id, list), out)
 }
@@ -89,7 +90,7 @@ pub extern "C" fn vaskelbi_declares(
     realm: u64,
     out: &mut [u64; ANSWER],
 ) -> u64
-    ensures { λ r. ⌜ Tells (answer (now (m .entry)) (Declares id (port key realm))) (now (out .entry)) r (now (out .exit)) ⌝ }
+    ensures { λ r. ⌜ Tells (answer (now (m .entry)) (Ask (Declares id (port key realm)))) (now (out .entry)) r (now (out .exit)) ⌝ }
 {
     host_answers::whether(registry_values::declares(m, id, key, realm), out)
 }

@@ -10,10 +10,11 @@ use borrow.Author.Tests.{eqb-true}
 use Rattle.rules.specs.Holds.{Plugin, lookup}
 use Rattle.rules.specs.Generations.{generationOf}
 use Rattle.rules.specs.Refusals.{Unknown}
-use Rattle.rules.specs.Outcomes.{Outcome, refuses, answers, writes, stores, adds, removes, found, known, after}
+use Rattle.rules.specs.Outcomes.{Outcome, refuses, stores, found, known, after}
 use Rattle.memory.specs.Layout.{taken}
 use Rattle.memory.specs.View.{lifeAt, pluginAt, view}
 use Rattle.memory.specs.Writes.{findAt, putLife}
+use Rattle.memory.specs.Ways.{Way, leftBy, byStoring, Sized, storing-sized}
 use Rattle.memory.specs.Frames.{withLife, life-length}
 use Rattle.memory.specs.Lookups.{placed, lookup-view, find-found}
 use Rattle.memory.specs.Stores.{Alone, store-view}
@@ -70,17 +71,15 @@ abbrev pub putLifeAt : List ℕ → Place → Life → List ℕ
 putLifeAt m (At i) l = putLife m i l
 putLifeAt m Nowhere l = m
 
-unfoldable pub storedLife : List ℕ → Outcome → List ℕ
-storedLife m (refuses x vs) = m
-storedLife m (answers vs) = m
-storedLife m (writes place l vs) = m
-storedLife m (stores q vs) = putLifeAt m (findAt m (q .id)) (lifeOf q)
-storedLife m (adds q vs) = m
-storedLife m (removes id vs) = m
+abbrev pub storing : Way
+storing = byStoring (λ m q. putLifeAt m (findAt m (q .id)) (lifeOf q))
+
+abbrev pub storedLife : List ℕ → Outcome → List ℕ
+storedLife = leftBy storing
 
 pub stored-at : (m : List ℕ) (id i : ℕ) → findAt m id ≡ At i → (l : Life) (vs : List ℕ)
     → storedLife m (stores (withLife (pluginAt m i) l) vs) ≡ putLife m i l
-unfolding storedLife
+unfolding leftBy
 stored-at m id i e l vs = rw (at-id m id i e, e)
 
 -- Of a memory in which ids stand once, the registry afterwards is the rule's.
@@ -90,15 +89,9 @@ stored-view m size alone id i e l vs =
     ap view (stored-at m id i e l vs) ∙ store-view m i l (at-below m id i e) size alone (at-taken m id i e) vs
 
 -- On any words, there are as many after a life is stored.
-pub stored-size : (m : List ℕ) (o : Outcome) → length (storedLife m o) ≡ length m
-unfolding storedLife
-stored-size m (refuses x vs) = refl
-stored-size m (answers vs) = refl
-stored-size m (writes place l vs) = refl
-stored-size m (stores q vs) = at (findAt m (q .id))
+pub stored-sized : Sized storing
+stored-sized = storing-sized _ λ m q. at m q (findAt m (q .id))
   where
-    at : (p : Place) → length (putLifeAt m p (lifeOf q)) ≡ length m
-    at Nowhere = refl
-    at (At i) = life-length m i (lifeOf q)
-stored-size m (adds q vs) = refl
-stored-size m (removes id vs) = refl
+    at : (m : List ℕ) (q : Plugin) (p : Place) → length (putLifeAt m p (lifeOf q)) ≡ length m
+    at m q Nowhere = refl
+    at m q (At i) = life-length m i (lifeOf q)

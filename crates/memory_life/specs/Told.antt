@@ -3,11 +3,12 @@ use Prim.Native.Nat.{ℕ, _%_}
 use mathlib.Core.Path.{_≡_, refl, sym, ap, _∙_}
 use mathlib.Core.List.{List, [], _∷_}
 use Rattle.rules.specs.Refusals.{Refusal, number}
-use Rattle.rules.specs.Outcomes.{Answer, Refused, Accepted, Outcome, refuses, answers, stores, answerOf}
+use Rattle.rules.specs.Outcomes.{Answer, Refused, Accepted, Outcome, refuses, answers, stores, Meets}
+use Rattle.memory.specs.Ways.{leftBy, meets-refused}
 use Rattle.memory.specs.View.{lifeAt, pluginAt}
 use Rattle.memory.specs.Writes.{findAt, putLife}
 use Rattle.memory.specs.Frames.{withLife}
-use Rattle.memory.specs.Known.{at-place, storedLife, stored-at}
+use Rattle.memory.specs.Known.{at-place, storing, storedLife, stored-at}
 use Rattle.memory.specs.declared.Life.{Life}
 use Rattle.memory.specs.declared.Place.the-variants.{At}
 use Rattle.memory_life.specs.declared.Done.{Done}
@@ -25,17 +26,11 @@ whetherAnswer whether.Yes = Accepted (1 ∷ [])
 whetherAnswer whether.No = Accepted (0 ∷ [])
 whetherAnswer (whether.Refused n) = Refused n []
 
--- What a function promises by an outcome of the rules: it answers as the outcome does, and leaves what it was lent as this way of
--- storing does. Every operation that stores, and every listing, cites it.
-abbrev pub Meets : (List ℕ → Outcome → List ℕ) → Outcome → List ℕ → Answer → List ℕ → Type 0
-Meets leaves o m a m′ = (a ≡ answerOf o) × (m′ ≡ leaves m o)
-
 pub told-refused : (o : Outcome) (m : List ℕ) (x : Refusal) (vs : List ℕ) → o ≡ refuses x vs → Meets storedLife o m (Refused (number x) vs) m
-unfolding storedLife
-told-refused o m x vs e = (rw e, rw e)
+told-refused = meets-refused storing
 
 pub told-same : (o : Outcome) (m vs : List ℕ) → o ≡ answers vs → Meets storedLife o m (Accepted vs) m
-unfolding storedLife
+unfolding leftBy
 told-same o m vs e = (rw e, rw e)
 
 -- the life of a found plugin, as it was loaded

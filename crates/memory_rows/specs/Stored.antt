@@ -18,6 +18,7 @@ use Rattle.rules.specs.Kept.Plugins.{Alike}
 use Rattle.rules.specs.Kept.Reach.{life, reach, Within}
 use Rattle.rules.specs.Kept.Operations.{Lawful, lawful}
 use Rattle.rules.specs.Laws.Tests.{by-test}
+use Rattle.memory.specs.Ways.{leftBy}
 use Rattle.memory.specs.Layout.{word, taken, idAt}
 use Rattle.memory.specs.View.{pluginAt, placeAt, view}
 use Rattle.memory.specs.Writes.{findAt, putLife}
@@ -155,7 +156,7 @@ module _ (m : List ℕ) (d : Dense m) where
 
   -- Whatever operation stores a life and nothing else.
   pub life-refines : (o : Op) → reach o ≡ life → Refines m (storedLife m (step (view m) o)) (step (view m) o)
-  unfolding Lawful storedLife after
+  unfolding Lawful leftBy after
   life-refines o e = go (step (view m) o) (lawful (view m) o)
     where
       go : (u : Outcome) → Lawful (view m) o u → Stored u

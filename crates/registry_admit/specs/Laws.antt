@@ -11,9 +11,10 @@ use Rattle.rules.specs.Holds.{Plugin, isLoading, withRoot}
 use Rattle.rules.specs.declared.Root.{Root}
 use Rattle.rules.specs.declared.Root.the-variants.{Queued, Spent}
 use Rattle.rules.specs.Refusals.{Refusal, number, Unknown, Retired, InvalidState, Stale}
-use Rattle.rules.specs.Outcomes.{Refused, Accepted, Outcome, refuses, stores, Check, _⇒_, checked, answerOf}
+use Rattle.rules.specs.Outcomes.{Refused, Accepted, Outcome, refuses, stores, Check, _⇒_, checked, answerOf, Meets}
 use Rattle.rules.specs.Phases.{setup}
 use Rattle.rules.specs.Admission.{Ticket, Invocation, five, isUnissued, admit, isAccepted, admits, isLive, receipt, call}
+use Rattle.memory.specs.Ways.{leftBy}
 use Rattle.memory.specs.Layout.{word}
 use Rattle.memory.specs.View.{lifeAt, pluginAt, view}
 use Rattle.memory.specs.Writes.{findAt, putLife}
@@ -21,7 +22,7 @@ use Rattle.memory.specs.Frames.{withLife}
 use Rattle.memory.specs.Known.{at-id, at-known, none-known, lifeOf, life-of, storedLife}
 use Rattle.memory.specs.declared.Life.{Life}
 use Rattle.memory.specs.declared.Place.the-variants.{At, Nowhere}
-use Rattle.memory_life.specs.Told.{Meets, told-stored, life-found}
+use Rattle.memory_life.specs.Told.{told-stored, life-found}
 use Rattle.registry_admit.specs.Answers.{admitsAnswer}
 use Rattle.registry_live.specs.Lives.{verdict, verdictOf, liveOf}
 use Rattle.registry_admit.specs.Lives.{rootedLife}
@@ -53,7 +54,7 @@ record Says (m : List ℕ) (same : Bool) (v : ℕ) (comes o : Outcome) : Type 0 
 
 module _ (m : List ℕ) (o : Outcome) where
   refusal-says : (s : Bool) (x : Refusal) → number x ≢ 0 → Says m s (number x) (refuses x []) o
-  unfolding storedLife
+  unfolding leftBy
   refusal-says s x n = record {
     passes = λ e. absurd (n e);
     stops = λ k. (refl, refl);

@@ -1,9 +1,8 @@
 // Document 01, "Admission and call", over the registry's memory.
 ghost use mathlib.Core.Path.{_≡_};
-ghost use Rattle.rules.specs.Outcomes.{answerOf};
+ghost use Rattle.rules.specs.Outcomes.{answerOf, Meets};
 ghost use Rattle.rules.specs.Admission.{admit, admits, call};
 ghost use Rattle.memory.specs.View.{view};
-ghost use Rattle.memory_life.specs.Told.{Meets};
 ghost use Rattle.memory.specs.Known.{storedLife};
 ghost use Rattle.registry_admit.specs.Answers.{ticket, invocation, admittedAnswer, admitsAnswer, calledAnswer};
 ghost use Rattle.registry_admit.specs.Lives.{rootedLife};

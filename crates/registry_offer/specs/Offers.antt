@@ -14,6 +14,7 @@ use Rattle.rules.specs.Refusals.{Refusal, number, Unknown, Closed, Undeclared, 
 use Rattle.rules.specs.Outcomes.{Answer, Refused, Accepted, refuses, stores, checked, answerOf}
 use Rattle.rules.specs.Ports.{pairs}
 use Rattle.rules.specs.Values.{valueIn, offer}
+use Rattle.memory.specs.Ways.{leftBy}
 use Rattle.memory.specs.Layout.{provPart}
 use Rattle.memory.specs.View.{lifeAt, valueAt, pluginAt, view}
 use Rattle.memory.specs.Writes.{findAt}
@@ -55,7 +56,7 @@ module _ (m : List ℕ) (i : ℕ) (q : Port) where
 
     -- an offer that is stored is stored there
     pub put-there : (id : ℕ) → findAt m id ≡ At i → (v : ℕ) → offeredTo m id q v (stores (withOffered q v (pluginAt m i)) []) ≡ withValue m i j v
-    unfolding offeredTo
+    unfolding leftBy
     put-there id e v = ap (portPut m q v) e ∙ ap (valuePut m i v) t
 
 module _ (m : List ℕ) (id : ℕ) (q : Port) (v : ℕ) where
@@ -64,7 +65,7 @@ module _ (m : List ℕ) (id : ℕ) (q : Port) (v : ℕ) where
   Offered a m′ = (a ≡ answerOf (offer (view m) id q v)) × (m′ ≡ offeredTo m id q v (offer (view m) id q v))
 
   refused : (x : Refusal) → offer (view m) id q v ≡ refuses x [] → Offered (Refused (number x) []) m
-  unfolding offeredTo
+  unfolding leftBy
   refused x e = (rw e, rw e)
 
   pub offered-none : findAt m id ≡ Nowhere → Offered (Refused (number Unknown) []) m

@@ -19,6 +19,7 @@ use Rattle.rules.specs.Registration.{repeats}
 use Rattle.rules.specs.Values.{valueIn, offer}
 use Rattle.rules.specs.Built.{Built}
 use Rattle.rules.specs.Laws.Tests.{by-test, neither, checked-elim}
+use Rattle.memory.specs.Ways.{leftBy}
 use Rattle.memory.specs.Layout.{word, taken, idAt, depsAt, provsAt, provPart}
 use Rattle.memory.specs.View.{valueAt, pluginAt, placeAt, view}
 use Rattle.memory.specs.Writes.{findAt}
@@ -132,7 +133,7 @@ module _ (m : List ℕ) (d : Dense m) (built : Built (view m)) (id : ℕ) (q : P
   Leaves o = Refines m (offeredTo m id q v o) o
 
   refused : (x : Refusal) (vs : List ℕ) → Leaves (refuses x vs)
-  unfolding offeredTo after
+  unfolding leftBy after
   refused x vs = record { registry = refl; dense = d }
 
   module _ (i : ℕ) (e : findAt m id ≡ At i) where

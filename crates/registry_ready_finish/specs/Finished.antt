@@ -3,10 +3,12 @@ use Prim.Native.Nat.{ℕ, _+_, _*_}
 use mathlib.Core.Path.{_≡_, refl, _∙_}
 use mathlib.Core.List.{List}
 use lib.ListN.{length, set, length-set}
+use Rattle.rules.specs.Holds.{Plugin}
 use Rattle.rules.specs.declared.Phase.{Phase}
 use Rattle.rules.specs.declared.Root.the-variants.{Unissued}
-use Rattle.rules.specs.Outcomes.{Outcome, refuses, answers, writes, stores, adds, removes}
+use Rattle.rules.specs.Outcomes.{Outcome}
 use Rattle.memory.specs.Writes.{findAt, putLife}
+use Rattle.memory.specs.Ways.{Way, leftBy, byStoring, Sized, storing-sized}
 use Rattle.memory.specs.Frames.{life-length}
 use Rattle.memory.specs.Known.{lifeOf}
 use Rattle.memory.specs.declared.Life.{Life}
@@ -29,25 +31,17 @@ abbrev pub emptied : List ℕ → Place → Life → List ℕ
 emptied m (At i) l = set (putLife m i l) (i * 72 + 23) 0
 emptied m Nowhere l = m
 
--- The words after a finish; any other outcome leaves them.
-unfoldable pub finishedTo : List ℕ → Outcome → List ℕ
-finishedTo m (refuses x vs) = m
-finishedTo m (answers vs) = m
-finishedTo m (writes place l vs) = m
-finishedTo m (stores q vs) = emptied m (findAt m (q .id)) (lifeOf q)
-finishedTo m (adds q vs) = m
-finishedTo m (removes id vs) = m
+-- The words after a finish.
+abbrev pub finishing : Way
+finishing = byStoring (λ m q. emptied m (findAt m (q .id)) (lifeOf q))
+
+abbrev pub finishedTo : List ℕ → Outcome → List ℕ
+finishedTo = leftBy finishing
 
 -- On any words, there are as many after a finish.
-pub finished-size : (m : List ℕ) (o : Outcome) → length (finishedTo m o) ≡ length m
-unfolding finishedTo
-finished-size m (refuses x vs) = refl
-finished-size m (answers vs) = refl
-finished-size m (writes place l vs) = refl
-finished-size m (stores q vs) = at (findAt m (q .id))
+pub finished-sized : Sized finishing
+finished-sized = storing-sized _ λ m q. at m q (findAt m (q .id))
   where
-    at : (p : Place) → length (emptied m p (lifeOf q)) ≡ length m
-    at Nowhere = refl
-    at (At i) = length-set (putLife m i (lifeOf q)) (i * 72 + 23) 0 ∙ life-length m i (lifeOf q)
-finished-size m (adds q vs) = refl
-finished-size m (removes id vs) = refl
+    at : (m : List ℕ) (q : Plugin) (p : Place) → length (emptied m p (lifeOf q)) ≡ length m
+    at m q Nowhere = refl
+    at m q (At i) = length-set (putLife m i (lifeOf q)) (i * 72 + 23) 0 ∙ life-length m i (lifeOf q)

@@ -13,6 +13,7 @@ use Rattle.rules.specs.Refusals.{Refusal, number, Retired, InvalidState, NotRun
 use Rattle.rules.specs.Ports.{pairs}
 use Rattle.rules.specs.Outcomes.{Refused, Accepted, Outcome, refuses, stores, checked, answerOf}
 use Rattle.rules.specs.Phases as rules
+use Rattle.memory.specs.Ways.{leftBy}
 use Rattle.memory.specs.Layout.{provPart}
 use Rattle.memory.specs.View.{lifeAt, pluginAt, view}
 use Rattle.memory.specs.Writes.{findAt, putLife}
@@ -41,7 +42,7 @@ pub lacks-one : (m : List ℕ) (i : ℕ) (x : Found) → x ≡ lackFrom 0 (plugi
 lacks-one m i x e j f = rw (provisions-at m i) (lack-test m i (pairs (provPart m i)) j (ap (lackFrom 0) (sym (provisions-at m i)) ∙ sym e ∙ f))
 
 pub finished-refused : (o : Outcome) (m : List ℕ) (x : Refusal) → o ≡ refuses x [] → (Refused (number x) [] ≡ answerOf o) × (m ≡ finishedTo m o)
-unfolding finishedTo
+unfolding leftBy
 finished-refused o m x e = (rw e, rw e)
 
 -- a plugin at rest, without values
@@ -90,7 +91,7 @@ module _ (m : List ℕ) (id i : ℕ) (e : findAt m id ≡ At i) (l : Life) (h : 
 
     pub finish-told : (l′ : Life) → l′ ≡ restedLife l p → (m′ : List ℕ) → m′ ≡ putLife m (i % 32) l′ → (m″ : List ℕ) → m″ ≡ set m′ (i % 32 * 72 + 23) 0
         → (Accepted [] ≡ answerOf (rules.finish (view m) id)) × (m″ ≡ finishedTo m (rules.finish (view m) id))
-    unfolding finishedTo pluginAt
+    unfolding leftBy pluginAt
     finish-told l′ k m′ s m″ t =
         let a : i % 32 ≡ i = at-place m id i e in
         let w : l′ ≡ restedLife (lifeAt m i) p = k ∙ ap (λ (x : Life). restedLife x p) same in

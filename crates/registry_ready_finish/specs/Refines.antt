@@ -12,6 +12,7 @@ use Rattle.rules.specs.Refusals.{Refusal, Unknown}
 use Rattle.rules.specs.Outcomes.{Outcome, refuses, stores, after}
 use Rattle.rules.specs.Phases as rules
 use Rattle.rules.specs.Laws.Tests.{checked-elim}
+use Rattle.memory.specs.Ways.{leftBy}
 use Rattle.memory.specs.Layout.{word, taken}
 use Rattle.memory.specs.View.{lifeAt, pluginAt, view}
 use Rattle.memory.specs.Writes.{findAt, putLife}
@@ -58,7 +59,7 @@ module _ (m : List ℕ) (d : Dense m) where
         ∙ ap (λ (p : Plugin). withProvisions (map rules.dropped (p .provisions)) p) (plugin-put m i l (at-below m id i e) (d .size))
 
     words : finishedTo m (stores (rested (pluginAt m i)) []) ≡ m₂
-    unfolding finishedTo pluginAt
+    unfolding leftBy pluginAt
     words = rw (at-id m id i e, e)
 
     dense : Dense m₂
@@ -87,7 +88,7 @@ module _ (m : List ℕ) (d : Dense m) where
         }
 
   finished-refused : (x : Refusal) → Finished (refuses x [])
-  unfolding finishedTo after
+  unfolding leftBy after
   finished-refused x = record { registry = refl; dense = d }
 
   pub finish-refines : (id : ℕ) → Refines m (finishedTo m (rules.finish (view m) id)) (rules.finish (view m) id)

@@ -1,9 +1,10 @@
 // Document 01, "Phases": ready, which asks for every value, and finish, which drops them.
 ghost use mathlib.Core.Path.{_≡_};
+ghost use Rattle.rules.specs.Outcomes.{Meets};
 ghost use Rattle.rules.specs.Phases.{isSpent, ready, finish};
 ghost use Rattle.memory.specs.View.{view};
 ghost use Rattle.memory.specs.Known.{storedLife};
-ghost use Rattle.memory_life.specs.Told.{Meets, doneAnswer};
+ghost use Rattle.memory_life.specs.Told.{doneAnswer};
 ghost use Rattle.registry_ready_finish.specs.Finished.{restedLife, finishedTo};
 use memory::Life;
 use memory::Place;

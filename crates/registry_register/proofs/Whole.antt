@@ -16,6 +16,7 @@ use Rattle.rules.specs.Outcomes.{Refused, adds, answerOf}
 use Rattle.rules.specs.Registration.{Definition, parentOf, inheritedFrom, resolved, claimed, unoffered, dependenciesOf, newPlugin, claimChecks, roomChecks, register}
 use Rattle.rules.specs.Laws.Tests.{by-test, neither}
 use Rattle.rules.specs.Kept.New.{new-ports}
+use Rattle.memory.specs.Ways.{leftBy}
 use Rattle.memory.specs.Layout.{part, depPart}
 use Rattle.memory.specs.View.{pluginAt, view}
 use Rattle.memory.specs.Writes.{parentId, findAt}
@@ -72,7 +73,7 @@ module _ (m : List ℕ) (parent : Parent) (anchor : Port) (zs ks vs : List ℕ) 
       of (Of id) = at id (findAt m id) refl
 
   refused : (n : ℕ) → RefusesWith (register r d) n → (Refused n [] ≡ answerOf (register r d)) × (m ≡ addedTo m (register r d))
-  unfolding addedTo
+  unfolding leftBy
   refused n w = (rw (w .refused) (ap (λ x. Refused x []) (sym (w .numbered))), rw (w .refused))
 
   new-rows : rowsOf (newPlugin r d) ≡ length (dependenciesOf r d) + length (claimed d)
@@ -171,7 +172,7 @@ module _ (m : List ℕ) (parent : Parent) (anchor : Port) (zs ks vs : List ℕ) 
 
             written : writtenAt m (freeAt m) (newEntry m (parentId parent) payload (l .count) (length cw / 2 - 1) (length zs / 2)) dw cw zs
                 ≡ addedTo m (adds (newPlugin r d) (r .next ∷ []))
-            unfolding addedTo newPlugin
+            unfolding leftBy newPlugin
             written = λ i.
                 writtenAt m (freeAt m) (newEntry m (parentId parent) payload (list-count i) (provision-count i) (sym (length-pairs zs) i)) (list-words i) (all-claims i) (realm-words i)
 

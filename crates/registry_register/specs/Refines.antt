@@ -16,6 +16,7 @@ use Rattle.rules.specs.Registration.{Definition, resolved, unoffered, dependenc
 use Rattle.rules.specs.Built.{Built}
 use Rattle.rules.specs.Kept.New.{new-ports}
 use Rattle.rules.specs.Laws.Tests.{neither, Passed, checked-elim}
+use Rattle.memory.specs.Ways.{leftBy}
 use Rattle.memory.specs.Layout.{word, taken, idAt}
 use Rattle.memory.specs.View.{parentOf, pluginAt, view}
 use Rattle.memory.specs.declared.Place.{Place}
@@ -95,7 +96,7 @@ module _ (m : List ℕ) (d : Definition) where
     o = adds (newPlugin r d) (r .next ∷ [])
 
     written : (at : ℕ) → freeAt m ≡ At at → addedTo m o ≡ filledPlace m at (entryOf n (used m) (word m 2 + 1)) (n .dependencies) (claimWords n) (n .realms)
-    unfolding addedTo newPlugin
+    unfolding leftBy newPlugin
     written at e = rw e (λ i. filledPlace m at (entryOf n (used-is m (dense .size) i) (word m 2 + 1)) (n .dependencies) (flat (d .anchor ∷ new-ports r d i)) (n .realms))
 
     registered : (free : Place) → freeAt m ≡ free → Refines m (addedTo m o) o
@@ -110,6 +111,6 @@ module _ (m : List ℕ) (d : Definition) where
     }
 
   pub register-refines : Dense m → Fresh m → Refines m (addedTo m (register (view m) d)) (register (view m) d)
-  unfolding register addedTo after
+  unfolding register leftBy after
   register-refines dense fresh = checked-elim (λ u. Refines m (addedTo m u) u) (registrationChecks r d) (adds (newPlugin r d) (r .next ∷ []))
       (λ x. record { registry = refl; dense = dense }) (λ p. registered dense fresh p (freeAt m) refl)

@@ -4,14 +4,15 @@ use mathlib.Core.Path.{_≡_, refl, ap}
 use mathlib.Core.List.{List, [], _∷_}
 use mathlib.Core.Option.{Option}
 use lib.ListN.{length}
-use Rattle.rules.specs.Holds.{provided, rowsInUse}
+use Rattle.rules.specs.Holds.{Plugin, provided, rowsInUse}
 use Rattle.rules.specs.declared.Port.{Port}
 use Rattle.rules.specs.Ports.{flat}
-use Rattle.rules.specs.Outcomes.{Answer, Refused, Accepted, Outcome, refuses, answers, writes, stores, adds, removes}
+use Rattle.rules.specs.Outcomes.{Answer, Refused, Accepted, Outcome}
 use Rattle.rules.specs.Registration.{Definition, roomChecks}
 use Rattle.memory.specs.Layout.{word}
 use Rattle.memory.specs.View.{view}
 use Rattle.memory.specs.Writes.{parentId}
+use Rattle.memory.specs.Ways.{Way, leftBy, byAdding, Sized, adding-sized}
 use Rattle.memory.specs.declared.Parent.{Parent}
 use Rattle.memory.specs.declared.Place.{Place}
 use Rattle.memory.specs.declared.Place.the-variants.{At, Nowhere}
@@ -60,16 +61,17 @@ abbrev pub writtenAt : List ℕ → Place → Entry → List ℕ → List ℕ �
 writtenAt m (At p) e dependencies claims realms = filledPlace m p e dependencies claims realms
 writtenAt m Nowhere e dependencies claims realms = m
 
--- The words after a registration: the new plugin stands at the lowest free place. Any other outcome leaves them.
-unfoldable pub addedTo : List ℕ → Outcome → List ℕ
-addedTo m (refuses x vs) = m
-addedTo m (answers vs) = m
-addedTo m (writes place l vs) = m
-addedTo m (stores q vs) = m
-addedTo m (adds q vs) =
+-- The words after a registration: the new plugin stands at the lowest free place.
+abbrev pub entered : List ℕ → Plugin → List ℕ
+entered m q =
     writtenAt m (freeAt m) (newEntry m (q .parent) (q .payload) (length (q .dependencies)) (length (q .provisions)) (length (q .realms .rows)))
     (flat (q .dependencies)) (flat (q .anchor ∷ provided q)) (flat (q .realms .rows))
-addedTo m (removes id vs) = m
+
+abbrev pub adding : Way
+adding = byAdding entered
+
+abbrev pub addedTo : List ℕ → Outcome → List ℕ
+addedTo = leftBy adding
 
 -- The late checks and what is written where they pass, by a count of dependencies and the lent lists.
 abbrev pub lateVerdict : List ℕ → ℕ → List ℕ → Checked
@@ -79,16 +81,16 @@ abbrev pub answerBy : Checked → ℕ → Answer
 answerBy checked.Passed id = Accepted (id ∷ [])
 answerBy (checked.Refused n) id = Refused n []
 
-abbrev pub leftBy : Checked → List ℕ → List ℕ → List ℕ
-leftBy checked.Passed m new = new
-leftBy (checked.Refused n) m new = m
+abbrev pub wordsBy : Checked → List ℕ → List ℕ → List ℕ
+wordsBy checked.Passed m new = new
+wordsBy (checked.Refused n) m new = m
 
 unfoldable pub settledAnswer : List ℕ → ℕ → List ℕ → Answer
 settledAnswer m count claims = answerBy (lateVerdict m count claims) (word m 2)
 
 unfoldable pub settledWords : List ℕ → Option ℕ → ℕ → ℕ → List ℕ → List ℕ → List ℕ → List ℕ
 settledWords m parent payload count dependencies claims realms =
-    leftBy (lateVerdict m count claims) m
+    wordsBy (lateVerdict m count claims) m
     (writtenAt m (freeAt m) (newEntry m parent payload count (length claims / 2 - 1) (length realms / 2)) dependencies claims realms)
 
 -- what the late checks and the writing answer and leave
@@ -97,20 +99,13 @@ Settles m parent payload count dependencies claims realms a m′ =
     (a ≡ settledAnswer m count claims) × (m′ ≡ settledWords m parent payload count dependencies claims realms)
 
 -- On any words, there are as many after a registration.
-pub added-size : (m : List ℕ) (o : Outcome) → length (addedTo m o) ≡ length m
-unfolding addedTo
-added-size m (refuses x vs) = refl
-added-size m (answers vs) = refl
-added-size m (writes place l vs) = refl
-added-size m (stores q vs) = refl
-added-size m (adds q vs) = at (freeAt m)
-  where
-    at : (free : Place)
-        → length (writtenAt m free (newEntry m (q .parent) (q .payload) (length (q .dependencies)) (length (q .provisions)) (length (q .realms .rows)))
-        (flat (q .dependencies)) (flat (q .anchor ∷ provided q)) (flat (q .realms .rows))) ≡ length m
-    at Nowhere = refl
-    at (At p) = filled-size m p _ _ _ _
-added-size m (removes id vs) = refl
+written-size : (m : List ℕ) (free : Place) (e : Entry) (dependencies claims realms : List ℕ)
+    → length (writtenAt m free e dependencies claims realms) ≡ length m
+written-size m Nowhere e dependencies claims realms = refl
+written-size m (At p) e dependencies claims realms = filled-size m p e dependencies claims realms
+
+pub added-sized : Sized adding
+added-sized = adding-sized _ λ m q. written-size m (freeAt m) _ _ _ _
 
 -- Any two outcomes that the promise of a registration allows are equal.
 pub registered-exact : (a b : Registered) → registeredAnswer a ≡ registeredAnswer b → a ≡ b

@@ -1,11 +1,11 @@
 // Document 01, "Registration", over the registry's memory: nothing is written before the last check has passed.
 ghost use mathlib.Core.Path.{_≡_};
 ghost use mathlib.Core.Logic.{_≢_};
+ghost use Rattle.rules.specs.Outcomes.{Meets};
 ghost use Rattle.rules.specs.Holds.{rowsInUse};
 ghost use Rattle.rules.specs.Registration.{register};
 ghost use Rattle.memory.specs.Layout.{word};
 ghost use Rattle.memory.specs.View.{view};
-ghost use Rattle.memory_life.specs.Told.{Meets};
 ghost use Rattle.memory.specs.Writes.{parentId};
 ghost use Rattle.registry_register.specs.Written.{registeredAnswer, definition, newEntry, Settles, addedTo};
 use memory::Parent;

@@ -10,6 +10,7 @@ use Rattle.rules.specs.Holds.{Plugin, plugins, isIdle}
 use Rattle.rules.specs.Refusals.{Refusal, number, Unknown, InvalidState, HasChildren}
 use Rattle.rules.specs.Outcomes.{Outcome, refuses, removes, _⇒_, checked, answerOf}
 use Rattle.rules.specs.Retirement.{isChildOf, remove}
+use Rattle.memory.specs.Ways.{leftBy}
 use Rattle.memory.specs.View.{parentAt, lifeAt, pluginAt, view}
 use Rattle.memory.specs.Writes.{findAt}
 use Rattle.memory.specs.Known.{at-place, at-known, none-known}
@@ -34,7 +35,7 @@ removal m id p =
     (removes id [])
 
 pub freed-refused : (o : Outcome) (m : List ℕ) (x : Refusal) → o ≡ refuses x [] → Freed o m (done.Refused (number x)) m
-unfolding removedFrom
+unfolding leftBy
 freed-refused o m x e = (rw e, rw e)
 
 pub remove-none : (m : List ℕ) (id : ℕ) → findAt m id ≡ Nowhere → remove (view m) id ≡ refuses Unknown []
@@ -64,7 +65,7 @@ module _ (m : List ℕ) (id i : ℕ) (life : Life) (b : Bool) (e : findAt m id �
     remove-done z = remove-found m id i e ∙ rw (removable ∙ y) (rw (sym u ∙ z))
 
     pub freed-done : (m′ : List ℕ) → k ≡ false → m′ ≡ freedPlace m (i % 32) → Freed (remove (view m) id) m done.Accepted m′
-    unfolding removedFrom
+    unfolding leftBy
     freed-done m′ z s = (rw (remove-done z), rw (remove-done z, e) (s ∙ ap (freedPlace m) (at-place m id i e)))
 
 -- whether the plugin of a place names the id as parent

@@ -13,6 +13,7 @@ use Rattle.rules.specs.Refusals.{Refusal, Unknown, InvalidState, HasChildren}
 use Rattle.rules.specs.Outcomes.{Outcome, refuses, removes, _⇒_, after}
 use Rattle.rules.specs.Retirement.{isChildOf, remove}
 use Rattle.rules.specs.Laws.Tests.{checked-elim}
+use Rattle.memory.specs.Ways.{leftBy}
 use Rattle.memory.specs.Layout.{occupancy, taken, idAt}
 use Rattle.memory.specs.View.{pluginAt, placeAt, placesFrom, view}
 use Rattle.memory.specs.Writes.{findAt, puts}
@@ -32,11 +33,11 @@ module _ (m : List ℕ) (d : Dense m) where
   Removed o = Refines m (removedFrom m o) o
 
   removed-refused : (x : Refusal) → Removed (refuses x [])
-  unfolding removedFrom after
+  unfolding leftBy after
   removed-refused x = record { registry = refl; dense = d }
 
   removed-one : (id i : ℕ) → findAt m id ≡ At i → Removed (removes id [])
-  unfolding removedFrom pluginAt
+  unfolding leftBy pluginAt
   removed-one id i e =
       let t = at-taken m id i e in
       let s : idAt m i ≡ id = at-id m id i e in

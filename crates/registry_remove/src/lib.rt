@@ -2,12 +2,13 @@
 ghost use mathlib.Core.Path.{_≡_};
 ghost use mathlib.Core.Bool.{_&&_};
 ghost use mathlib.Core.List.{[], _∷_};
+ghost use Rattle.rules.specs.Outcomes.{Meets};
 ghost use Rattle.rules.specs.Basics.{any};
 ghost use Rattle.rules.specs.Holds.{plugins, isIdle};
 ghost use Rattle.rules.specs.Retirement.{isChildOf, remove};
 ghost use Rattle.memory.specs.View.{view};
 ghost use Rattle.memory.specs.Writes.{puts};
-ghost use Rattle.memory_life.specs.Told.{Meets, doneAnswer};
+ghost use Rattle.memory_life.specs.Told.{doneAnswer};
 ghost use Rattle.registry_remove.specs.Words.{removedFrom};
 use memory::Life;
 use memory::Place;

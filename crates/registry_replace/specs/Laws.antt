@@ -7,8 +7,9 @@ use lib.Dec.{eqb, leb}
 use Rattle.rules.specs.Basics.{last, yesNo}
 use Rattle.rules.specs.Holds.{Plugin, withRevision, withPayload}
 use Rattle.rules.specs.Refusals.{Unknown, Exhausted}
-use Rattle.rules.specs.Outcomes.{Outcome, refuses, answers, stores, _⇒_, checked, handingBack, answerOf}
+use Rattle.rules.specs.Outcomes.{Outcome, refuses, answers, stores, _⇒_, checked, handingBack, answerOf, Meets}
 use Rattle.rules.specs.Replacement.{replace, fits}
+use Rattle.memory.specs.Ways.{meets-refused}
 use Rattle.memory.specs.View.{lifeAt, pluginAt, view}
 use Rattle.memory.specs.Writes.{findAt, renewedAt, renewedLife}
 use Rattle.memory.specs.Frames.{withLife}
@@ -18,7 +19,7 @@ use Rattle.memory.specs.declared.Place.the-variants.{At, Nowhere}
 use Rattle.memory_life.specs.Told.{life-found, whetherAnswer}
 use Rattle.registry_replace.specs.Answers.{replacedAnswer}
 use Rattle.registry_replace.specs.Recipes.{changeOf, was-last, not-last, recipeOf, fitsBehind, fits-sum}
-use Rattle.registry_replace.specs.Words.{Replaces, replaced-refused, replaced-at}
+use Rattle.registry_replace.specs.Words.{replacing, replacedIn, replaced-at}
 use Rattle.registry_replace.specs.declared.Change.{Change}
 use Rattle.registry_replace.specs.declared.Replaced.the-variants as replaced
 use Rattle.memory_life.specs.declared.Whether.the-variants as whether
@@ -56,13 +57,13 @@ module _ (m : List ℕ) (id v : ℕ) where
       loaded : life ≡ lifeAt m i
       loaded = life-found m id i e life l
 
-      pub told-back : (n w : ℕ) → c .answer ≡ replaced.Refused n w → Replaces (replace (view m) id v) m (replacedAnswer (c .answer)) m
+      pub told-back : (n w : ℕ) → c .answer ≡ replaced.Refused n w → Meets replacedIn (replace (view m) id v) m (replacedAnswer (c .answer)) m
       told-back n w a =
           let t : eqb (life .revision) last ≡ true = was-last (recipeOf life) v n w (rw s at a) in
-          rw (s, t) (replaced-refused (replace (view m) id v) m Exhausted (v ∷ []) (replace-last (rw loaded at t)))
+          rw (s, t) (meets-refused replacing (replace (view m) id v) m Exhausted (v ∷ []) (replace-last (rw loaded at t)))
 
       pub told-replaced : (f : ℕ) (m′ : List ℕ) → c .answer ≡ replaced.Former f → m′ ≡ renewedAt m (i % 32) (c .recipe .revision) (c .recipe .payload)
-          → Replaces (replace (view m) id v) m (replacedAnswer (c .answer)) m′
+          → Meets replacedIn (replace (view m) id v) m (replacedAnswer (c .answer)) m′
       told-replaced f m′ a p =
           let t : eqb (lifeAt m i .revision) last ≡ false = rw loaded at (not-last (recipeOf life) v f (rw s at a)) in
           let k : c ≡ record { recipe = record { revision = lifeAt m i .revision + 1; payload = v }; answer = replaced.Former (lifeAt m i .payload) } = s ∙ rw (loaded, t) in

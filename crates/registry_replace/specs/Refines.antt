@@ -8,6 +8,7 @@ use Rattle.rules.specs.Refusals.{Refusal, Unknown, Exhausted}
 use Rattle.rules.specs.Outcomes.{Outcome, refuses, stores, after}
 use Rattle.rules.specs.Replacement.{replace}
 use Rattle.rules.specs.Laws.Tests.{by-test}
+use Rattle.memory.specs.Ways.{leftBy}
 use Rattle.memory.specs.View.{lifeAt, pluginAt, view}
 use Rattle.memory.specs.Writes.{findAt, renewedAt}
 use Rattle.memory.specs.Frames.{withLife, renewed-only}
@@ -25,7 +26,7 @@ module _ (m : List ℕ) (d : Dense m) where
   Left o = Refines m (replacedIn m o) o
 
   left-refused : (x : Refusal) (vs : List ℕ) → Left (refuses x vs)
-  unfolding replacedIn after
+  unfolding leftBy after
   left-refused x vs = record { registry = refl; dense = d }
 
   left-replaced : (id i v : ℕ) → findAt m id ≡ At i → (vs : List ℕ) → Left (stores (withLife (pluginAt m i) (replacedLife (lifeAt m i) v)) vs)

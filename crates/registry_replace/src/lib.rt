@@ -1,9 +1,9 @@
 // Document 01, "Replacement", over the registry's memory.
 ghost use mathlib.Core.Path.{_≡_};
-ghost use Rattle.rules.specs.Outcomes.{answerOf};
+ghost use Rattle.rules.specs.Outcomes.{answerOf, Meets};
 ghost use Rattle.rules.specs.Replacement.{replace, fits};
 ghost use Rattle.memory.specs.View.{view};
-ghost use Rattle.memory_life.specs.Told.{Meets, whetherAnswer};
+ghost use Rattle.memory_life.specs.Told.{whetherAnswer};
 ghost use Rattle.registry_replace.specs.Answers.{replacedAnswer};
 ghost use Rattle.registry_replace.specs.Recipes.{changeOf, fitsBehind};
 ghost use Rattle.registry_replace.specs.Words.{replacedIn};

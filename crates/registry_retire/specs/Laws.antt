@@ -11,7 +11,7 @@ use borrow.Author.Tests.{lt-ltb, le-ltb, le-leb, lt-leb, eq-eqb, ne-eqb}
 use Rattle.rules.specs.Basics.{holds}
 use Rattle.rules.specs.Holds.{lookup}
 use Rattle.rules.specs.Refusals.{Unknown, Retired, InvalidState}
-use Rattle.rules.specs.Outcomes.{Refused, Accepted, Outcome, refuses, answers, checked, answerOf}
+use Rattle.rules.specs.Outcomes.{Refused, Accepted, Outcome, refuses, answers, checked, answerOf, Meets}
 use Rattle.rules.specs.Retirement.{Identity, isChildOf, retire, retireFound, retireChild, identity, childIdentity}
 use Rattle.memory.specs.Layout.{word}
 use Rattle.memory.specs.View.{parentAt, lifeAt, pluginAt, view}
@@ -21,7 +21,7 @@ use Rattle.memory.specs.declared.Life.{Life}
 use Rattle.memory.specs.declared.Parent.{Parent}
 use Rattle.memory.specs.declared.Parent.the-variants.{Of, Nobody}
 use Rattle.memory.specs.declared.Place.the-variants.{At, Nowhere}
-use Rattle.memory_life.specs.Told.{Meets, told-refused, told-stored, life-found}
+use Rattle.memory_life.specs.Told.{told-refused, told-stored, life-found}
 use Rattle.registry_retire.specs.Answers.{childAnswer}
 use Rattle.registry_retire.specs.Marks.{markedLife}
 use Rattle.registry_retire.specs.declared.Child.the-variants as child

@@ -1,10 +1,10 @@
 // Document 01, "Retirement", over the registry's memory, but for removal.
 ghost use mathlib.Core.Path.{_≡_};
-ghost use Rattle.rules.specs.Outcomes.{answerOf};
+ghost use Rattle.rules.specs.Outcomes.{answerOf, Meets};
 ghost use Rattle.rules.specs.Retirement.{retire, retireChild, childIdentity};
 ghost use Rattle.memory.specs.View.{view};
 ghost use Rattle.memory.specs.Known.{storedLife};
-ghost use Rattle.memory_life.specs.Told.{Meets, doneAnswer};
+ghost use Rattle.memory_life.specs.Told.{doneAnswer};
 ghost use Rattle.registry_retire.specs.Answers.{identified, childAnswer};
 ghost use Rattle.registry_retire.specs.Marks.{markedLife};
 use memory::Life;

@@ -11,7 +11,7 @@ use Rattle.rules.specs.Basics.{all, last}
 use Rattle.rules.specs.Generations.{nextGeneration}
 use Rattle.rules.specs.declared.Phase.{Phase}
 use Rattle.rules.specs.Refusals.{Retired, InvalidState, Exhausted, Unavailable, InUse}
-use Rattle.rules.specs.Outcomes.{Accepted, refuses, stores, checked}
+use Rattle.rules.specs.Outcomes.{Accepted, refuses, stores, checked, Meets}
 use Rattle.rules.specs.Ports.{pairs}
 use Rattle.rules.specs.Phases as rules
 use Rattle.memory.specs.Layout.{word, depPart}
@@ -21,7 +21,7 @@ use Rattle.memory.specs.Frames.{withLife}
 use Rattle.memory.specs.Known.{at-place, at-known, storedLife}
 use Rattle.memory.specs.declared.Life.{Life}
 use Rattle.memory.specs.declared.Place.the-variants.{At}
-use Rattle.memory_life.specs.Told.{Meets, life-found, generation-found, told-stored}
+use Rattle.memory_life.specs.Told.{life-found, generation-found, told-stored}
 use Rattle.registry_steps.specs.Lives.{movedLife, begunLife}
 
 module _ (m : List ℕ) (id i : ℕ) (e : findAt m id ≡ At i) (l : Life) (h : l ≡ lifeAt m (i % 32)) where

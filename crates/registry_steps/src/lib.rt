@@ -1,9 +1,10 @@
 // Document 01, "Phases": each step looks the id up once, and the table of phases and steps says where it leads.
 ghost use mathlib.Core.Path.{_≡_};
+ghost use Rattle.rules.specs.Outcomes.{Meets};
 ghost use Rattle.rules.specs.Phases.{begin, fail, unload};
 ghost use Rattle.memory.specs.View.{view};
 ghost use Rattle.memory.specs.Known.{storedLife};
-ghost use Rattle.memory_life.specs.Told.{Meets, doneAnswer};
+ghost use Rattle.memory_life.specs.Told.{doneAnswer};
 ghost use Rattle.registry_steps.specs.Lives.{begunAnswer, movedLife, begunLife};
 use memory::Life;
 use memory::Place;

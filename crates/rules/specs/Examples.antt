@@ -14,7 +14,8 @@ use Rattle.rules.specs.Replacement.{replace, fits}
 use Rattle.rules.specs.Admission.{Ticket, Invocation, admit, isLive, call}
 use Rattle.rules.specs.Lists.{Dependencies, listing, list}
 use Rattle.rules.specs.Queries.{RowsInUse}
-use Rattle.rules.specs.Steps.{Op, ResolveKey, DependencyPort, Register, Begin, Replace, Fits, Admit, Call, Listed, AskRegistry, answerTo, afterStep, lentAfterStep, run}
+use Rattle.rules.specs.Steps.{Op, Register, Begin, Replace, Admit, Call, answerTo, afterStep, lentAfterStep, run, Ask, Write}
+use Rattle.rules.specs.Questions.{ResolveKey, DependencyPort, Fits, Listed, AskRegistry}
 
 -- a registration with payload 40
 abbrev pub registers : Option ℕ → Port → List ℕ → List ℕ → List ℕ → Op
@@ -41,7 +42,7 @@ answersTo ops = answersFrom fresh ops
 
 -- the dependencies of plugin id after a sequence, listed into a buffer
 abbrev pub listed : List Op → ℕ → List ℕ → List ℕ
-listed ops id buffer = lentAfterStep (run fresh ops .registry) (Listed Dependencies id 0 buffer)
+listed ops id buffer = lentAfterStep (run fresh ops .registry) (Write (Listed Dependencies id 0) buffer)
 
 abbrev pub E1-realms : List ℕ
 E1-realms = 2 ∷ 5 ∷ 9 ∷ 1 ∷ []
@@ -116,16 +117,16 @@ invocation id generation revision argument = record {
 }
 
 pub record Examples : Type 0 where
-  pub E1 : answersTo (ResolveKey E1-realms 2 ∷ ResolveKey E1-realms 3 ∷ []) ≡ Accepted (2 ∷ 5 ∷ []) ∷ Accepted (3 ∷ 0 ∷ []) ∷ []
+  pub E1 : answersTo (Ask (ResolveKey E1-realms 2) ∷ Ask (ResolveKey E1-realms 3) ∷ []) ≡ Accepted (2 ∷ 5 ∷ []) ∷ Accepted (3 ∷ 0 ∷ []) ∷ []
   pub E2 : listed E2-plugins 2 (0 ∷ 0 ∷ 0 ∷ 0 ∷ 0 ∷ 0 ∷ []) ≡ 9 ∷ 1 ∷ 2 ∷ 0 ∷ 2 ∷ 5 ∷ []
   pub E3 : listed E3-plugins 2 (0 ∷ 0 ∷ []) ≡ 2 ∷ 5 ∷ []
   pub E4 : listed E4-plugins 2 (0 ∷ 0 ∷ []) ≡ 4 ∷ 0 ∷ []
   pub E4-begin : answerTo (run fresh E4-plugins .registry) (Begin 2) ≡ Refused 14 []
   pub E5 : listed E5-plugins 3 (0 ∷ 0 ∷ 0 ∷ 0 ∷ 0 ∷ 0 ∷ []) ≡ 2 ∷ 0 ∷ 2 ∷ 5 ∷ 2 ∷ 7 ∷ []
-  pub E5-key : answerTo (run fresh E5-plugins .registry) (DependencyPort 3 2) ≡ Accepted (2 ∷ 0 ∷ [])
-  pub E6 : answersFrom E6-registry (Fits 1 3 ∷ Fits 1 4 ∷ []) ≡ Accepted (1 ∷ []) ∷ Accepted (0 ∷ []) ∷ []
+  pub E5-key : answerTo (run fresh E5-plugins .registry) (Ask (DependencyPort 3 2)) ≡ Accepted (2 ∷ 0 ∷ [])
+  pub E6 : answersFrom E6-registry (Ask (Fits 1 3) ∷ Ask (Fits 1 4) ∷ []) ≡ Accepted (1 ∷ []) ∷ Accepted (0 ∷ []) ∷ []
   pub E7
-      : answersTo (plain ∷ Listed Dependencies 1 0 [] ∷ AskRegistry RowsInUse ∷ [])
+      : answersTo (plain ∷ Write (Listed Dependencies 1 0) [] ∷ Ask (AskRegistry RowsInUse) ∷ [])
       ≡ Accepted (1 ∷ []) ∷ Accepted (0 ∷ []) ∷ Accepted (1 ∷ []) ∷ []
   pub E8
       : answersTo (registers none (port 100 0) (2 ∷ 5 ∷ 2 ∷ 1 ∷ []) [] [] ∷ registers none (port 100 0) (9 ∷ 1 ∷ 2 ∷ 5 ∷ []) [] [] ∷ [])

@@ -10,9 +10,7 @@ use Rattle.rules.specs.Basics.{pick, all, sameNumbers}
 use Rattle.rules.specs.Holds.{Plugin, Registry, lookup}
 use Rattle.rules.specs.Outcomes.{Answer, Refused, Accepted}
 use Rattle.rules.specs.Admission.{Invocation, five, receipt}
-use Rattle.rules.specs.Steps.{Op, Event, ResolveKey, DependencyPort, Register, Begin, Ready, Fail, Unload, Finish, Replace, Fits, Admit, Admits, Call}
-use Rattle.rules.specs.Steps.{Retire, RetireChild, ChildIdentity, Remove, Offer, Read, Visible, Own, FirstMissing, Matching, Declares}
-use Rattle.rules.specs.Steps.{Listed, AskPlugin, AskRegistry, IdFrom}
+use Rattle.rules.specs.Steps.{Op, Event, Register, Begin, Ready, Fail, Unload, Finish, Replace, Admit, Call, Ask, Retire, RetireChild, Remove, Offer, Write}
 
 -- What an accepted operation tells of a plugin, as far as demand 3 goes.
 pub data Told : Type 0 where
@@ -48,21 +46,8 @@ told (Begin id) vs = none
 told (Unload id) vs = none
 told (Finish id) vs = none
 told (Offer id q v) vs = none
-told (ResolveKey l k) vs = none
-told (DependencyPort id k) vs = none
-told (Fits id n) vs = none
-told (Admits t) vs = none
-told (ChildIdentity id) vs = none
-told (Read id q) vs = none
-told (Visible q) vs = none
-told (Own id q) vs = none
-told (FirstMissing id) vs = none
-told (Matching id l) vs = none
-told (Declares id q) vs = none
-told (Listed w id place l) vs = none
-told (AskPlugin f id) vs = none
-told (AskRegistry t) vs = none
-told (IdFrom n) vs = none
+told (Ask q) vs = none
+told (Write w l) vs = none
 
 -- A refused operation tells nothing.
 abbrev pub noted : Op → Answer → Option Note

@@ -1,4 +1,5 @@
 pub mod Tests
+pub mod Quiet
 pub mod Lookups
 pub mod Lowest
 pub mod Members

@@ -14,6 +14,7 @@ pub mod Values
 pub mod Lists
 pub mod Slot
 pub mod Queries
+pub mod Questions
 pub mod Steps
 pub mod Examples
 pub mod Reached

@@ -1,5 +1,6 @@
 -- Document 01, "Refusal numbers": what an operation comes to. A refusal answers its number and changes nothing.
 use Prim.Native.Nat.{ℕ, _+_}
+use mathlib.Core.Path.{_≡_}
 use mathlib.Core.Bool.{Bool}
 use mathlib.Core.List.{List, [], _∷_, _++_, map}
 use mathlib.Core.Option.{Option, none, some}
@@ -103,3 +104,8 @@ lentAfter buffer (writes place l vs) = written buffer place l
 lentAfter buffer (stores p vs) = buffer
 lentAfter buffer (adds p vs) = buffer
 lentAfter buffer (removes id vs) = buffer
+
+-- What a function promises by an outcome: it answers as the outcome does, and leaves what it was lent, the registry's words or a
+-- buffer, as this says.
+abbrev pub Meets : (List ℕ → Outcome → List ℕ) → Outcome → List ℕ → Answer → List ℕ → Type 0
+Meets leaves o m a m′ = (a ≡ answerOf o) × (m′ ≡ leaves m o)

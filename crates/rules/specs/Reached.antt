@@ -24,44 +24,50 @@ use Rattle.rules.specs.Retirement.{retire, retireChild, childIdentity, r
 use Rattle.rules.specs.Values.{offer, read, visible, own, missing, matching, declares}
 use Rattle.rules.specs.Lists.{listing, list}
 use Rattle.rules.specs.Queries.{askPlugin, idFrom}
-use Rattle.rules.specs.Steps.{Op, ResolveKey, DependencyPort, Register, Begin, Ready, Fail, Unload, Finish, Replace, Fits, Admit, Admits, Call}
-use Rattle.rules.specs.Steps.{Retire, RetireChild, ChildIdentity, Remove, Offer, Read, Visible, Own, FirstMissing, Matching, Declares}
-use Rattle.rules.specs.Steps.{Listed, AskPlugin, AskRegistry, IdFrom}
+use Rattle.rules.specs.Steps.{Op, Register, Begin, Ready, Fail, Unload, Finish, Replace, Admit, Call, Ask, Retire, RetireChild, Remove, Offer, Write}
+use Rattle.rules.specs.Questions.{Question, ResolveKey, DependencyPort, Fits, Admits, ChildIdentity, Read, Visible, Own, FirstMissing, Matching, Declares, AskPlugin, AskRegistry, IdFrom, Writing, Listed}
 use Rattle.rules.specs.Examples.{fresh, worn, holding}
 use Rattle.rules.specs.Reached.Transcripts.{Line, Holds, keys}
 use Rattle.rules.specs.Reached.Registrations.{registrations, lastId, fullAndLast, crowd, fullAndLong}
 use Rattle.rules.specs.Reached.Lives.{life, family, questions, exhausted, exhaustedLoading, unissued}
 
--- the operations, numbered in their order
+-- the operations, numbered in their order: what changes the registry from 0 on, questions from 100 on, what is written to a lent
+-- buffer from 200 on
+abbrev pub questionKind : Question → ℕ
+questionKind (ResolveKey realms key) = 0
+questionKind (DependencyPort id key) = 1
+questionKind (Fits id times) = 2
+questionKind (Admits t) = 3
+questionKind (ChildIdentity id) = 4
+questionKind (Read id q) = 5
+questionKind (Visible q) = 6
+questionKind (Own id q) = 7
+questionKind (FirstMissing id) = 8
+questionKind (Matching id ports) = 9
+questionKind (Declares id q) = 10
+questionKind (AskPlugin f id) = 11
+questionKind (AskRegistry t) = 12
+questionKind (IdFrom n) = 13
+
+abbrev pub writingKind : Writing → ℕ
+writingKind (Listed w id place) = 0
+
 abbrev pub kind : Op → ℕ
-kind (ResolveKey realms key) = 0
-kind (DependencyPort id key) = 1
-kind (Register d) = 2
-kind (Begin id) = 3
-kind (Ready id) = 4
-kind (Fail id) = 5
-kind (Unload id) = 6
-kind (Finish id) = 7
-kind (Replace id payload) = 8
-kind (Fits id times) = 9
-kind (Admit t argument) = 10
-kind (Admits t) = 11
-kind (Call t) = 12
-kind (Retire id) = 13
-kind (RetireChild c) = 14
-kind (ChildIdentity id) = 15
-kind (Remove id) = 16
-kind (Offer id q value) = 17
-kind (Read id q) = 18
-kind (Visible q) = 19
-kind (Own id q) = 20
-kind (FirstMissing id) = 21
-kind (Matching id ports) = 22
-kind (Declares id q) = 23
-kind (Listed w id place buffer) = 24
-kind (AskPlugin f id) = 25
-kind (AskRegistry t) = 26
-kind (IdFrom n) = 27
+kind (Register d) = 0
+kind (Begin id) = 1
+kind (Ready id) = 2
+kind (Fail id) = 3
+kind (Unload id) = 4
+kind (Finish id) = 5
+kind (Replace id payload) = 6
+kind (Admit t argument) = 7
+kind (Call t) = 8
+kind (Retire id) = 9
+kind (RetireChild c) = 10
+kind (Remove id) = 11
+kind (Offer id q value) = 12
+kind (Ask q) = 100 + questionKind q
+kind (Write w buffer) = 200 + writingKind w
 
 abbrev pub isRefusal : ℕ → Answer → Bool
 isRefusal n (Refused m vs) = eqb m n
@@ -96,7 +102,7 @@ pub record Reached : Type 0 where
   pub fullAndLast : Holds (opened 7 (2 ^ 64 - 33)) fullAndLast
   pub crowd : Holds fresh crowd
   pub fullAndLong : Holds fresh fullAndLong
-  pub every-operation : all acceptedSomewhere (keys 28 0) ≡ true
+  pub every-operation : all acceptedSomewhere (keys 13 0 ++ keys 14 100 ++ keys 1 200) ≡ true
   pub every-refusal : all givenSomewhere (keys 23 1) ≡ true
 
 pub reached : Reached

@@ -2,7 +2,8 @@
 use mathlib.Core.Path.{sym, _∙_}
 use mathlib.Core.List.{[], _∷_}
 use Rattle.rules.specs.Refusals.{Unknown}
-use Rattle.registry_replace.specs.Words.{replaced-refused}
+use Rattle.memory.specs.Ways.{meets-refused}
+use Rattle.registry_replace.specs.Words.{replacing}
 use Rattle.registry_replace.specs.Laws.{replace-none, told-back, told-replaced}
 use borrow.Author.Needs.{needs}
 use Rattle.registry_replace.proofs.replace.Statement.{statement}
@@ -18,7 +19,7 @@ enum-told : tie.Need-enum-told
 enum-told c = search needs
 
 returns : tie.Need-returns
-returns c = replaced-refused _ _ Unknown (_ ∷ []) (replace-none _ _ _ (sym (c .before .before .find .ensures) ∙ c .enum-told .given .1))
+returns c = meets-refused replacing _ _ Unknown (_ ∷ []) (replace-none _ _ _ (sym (c .before .before .find .ensures) ∙ c .enum-told .given .1))
 
 load-requires : tie.Need-load-requires
 load-requires c κs = search needs

@@ -9,21 +9,16 @@ use borrow.Author.Tests.{eqb-true, not-false, leb-false}
 use Rattle.rules.specs.Holds.{Port, Plugin, Registry, lookup, isLoading}
 use Rattle.rules.specs.Refusals.{Unknown}
 use Rattle.rules.specs.Outcomes.{Outcome, refuses, answers, writes, stores, adds, removes, Check, checked, known, handingBack}
-use Rattle.rules.specs.Ports.{resolveKey}
-use Rattle.rules.specs.Dependencies.{dependencyPort}
 use Rattle.rules.specs.Registration.{Definition, newPlugin, register}
 use Rattle.rules.specs.Phases.{begin, ready, fail, unload, finish}
-use Rattle.rules.specs.Replacement.{replace, fits}
-use Rattle.rules.specs.Admission.{Ticket, Invocation, five, isLive, admit, admits, call}
-use Rattle.rules.specs.Retirement.{Identity, retire, retireFound, retireChild, childIdentity, remove}
-use Rattle.rules.specs.Values.{offer, read, visible, own, missing, matching, declares}
-use Rattle.rules.specs.Lists.{Which, listing, list}
-use Rattle.rules.specs.Queries.{askPlugin, idFrom}
-use Rattle.rules.specs.Steps.{Op, Event, step, ResolveKey, DependencyPort, Register, Begin, Ready, Fail, Unload, Finish, Replace, Fits, Admit, Admits, Call}
-use Rattle.rules.specs.Steps.{Retire, RetireChild, ChildIdentity, Remove, Offer, Read, Visible, Own, FirstMissing, Matching, Declares}
-use Rattle.rules.specs.Steps.{Listed, AskPlugin, AskRegistry, IdFrom}
+use Rattle.rules.specs.Replacement.{replace}
+use Rattle.rules.specs.Admission.{Ticket, Invocation, five, isLive, admit, call}
+use Rattle.rules.specs.Retirement.{Identity, retire, retireFound, retireChild, remove}
+use Rattle.rules.specs.Values.{offer}
+use Rattle.rules.specs.Steps.{Op, Event, step, Register, Begin, Ready, Fail, Unload, Finish, Replace, Admit, Call, Ask, Retire, RetireChild, Remove, Offer, Write}
 use Rattle.rules.specs.History.{registered, removed, replaced, settled, retired, admitted, called, told}
 use Rattle.rules.specs.Laws.Tests.{both, neither, Passed, checked-elim, found-elim}
+use Rattle.rules.specs.Laws.Quiet.{Quiet, reply-quiet, writing-quiet}
 use Rattle.rules.specs.Laws.Lookups.{lookup-id}
 use Rattle.rules.specs.Laws.Table.{begins, readies, fails, unloads, finishes, is-idle, is-loading}
 use Rattle.rules.specs.Demand3.Link.{callable, Linked, Good, tells, tells-none, refused, answered, wrote, answered-absent, stored-one, added-one, removed-one}
@@ -137,26 +132,18 @@ module _ (s : Registry) (es : List Event) (r : Registry) (w : Linked s es r) whe
         alive = rw (not-loading (s .domain) (newPlugin r f) t refl);
       }
 
-  -- the questions
-  asks : (o : Op) (id : ℕ) (f : Plugin → List ℕ) → ((vs : List ℕ) → told o vs ≡ none) → Good s es r o (known r id (λ p. answers (f p)))
-  asks o id f n = knows o id _ λ p e. answered s es r w o (f p) (n (f p))
-
-  read-kept : (id : ℕ) (q : Port) → Good s es r (Read id q) (read r id q)
-  unfolding read
-  read-kept id q = knows _ _ _ λ p e. passes _ _ _ λ c. answered s es r w _ _ refl
-
-  list-kept : (w : Which) (id place : ℕ) (l : List ℕ) → Good s es r (Listed w id place l) (list r w id place l)
-  unfolding list listing
-  list-kept k id place l = knows _ _ _ λ p e. passes _ _ _ λ c. wrote s es r w _ place _ _ refl
-
-  resolve-kept : (l : List ℕ) (k : ℕ) → Good s es r (ResolveKey l k) (resolveKey l k)
-  unfolding resolveKey
-  resolve-kept l k = passes _ _ _ λ c. answered s es r w _ _ refl
+  -- a question, and what is written to a lent buffer
+  quietly : (o : Op) (u : Outcome) → ((vs : List ℕ) → told o vs ≡ none) → Quiet u → Good s es r o u
+  quietly o (refuses x vs) n h = refused s es r w o x vs
+  quietly o (answers vs) n h = answered s es r w o vs (n vs)
+  quietly o (writes place l vs) n h = wrote s es r w o place l vs (n vs)
+  quietly o (stores q vs) n h = absurd h
+  quietly o (adds q vs) n h = absurd h
+  quietly o (removes id vs) n h = absurd h
 
   pub kept : (o : Op) → Good s es r o (step r o)
-  unfolding dependencyPort fits admits childIdentity visible own missing matching declares askPlugin idFrom
-  kept (ResolveKey realms key) = resolve-kept realms key
-  kept (DependencyPort id key) = asks _ id _ (λ vs. refl)
+  kept (Ask q) = quietly _ _ (λ vs. refl) (reply-quiet r q)
+  kept (Write k l) = quietly _ _ (λ vs. refl) (writing-quiet r k l)
   kept (Register f) = register-kept f
   kept (Begin id) = begin-kept id
   kept (Ready id) = ready-kept id
@@ -164,22 +151,9 @@ module _ (s : Registry) (es : List Event) (r : Registry) (w : Linked s es r) whe
   kept (Unload id) = unload-kept id
   kept (Finish id) = finish-kept id
   kept (Replace id payload) = replace-kept id payload
-  kept (Fits id times) = asks _ id _ (λ vs. refl)
   kept (Admit t argument) = admit-kept t argument
-  kept (Admits t) = answered s es r w _ _ refl
   kept (Call t) = call-kept t
   kept (Retire id) = retire-kept id
   kept (RetireChild c) = retire-child-kept c
-  kept (ChildIdentity id) = asks _ id _ (λ vs. refl)
   kept (Remove id) = remove-kept id
   kept (Offer id q value) = offer-kept id q value
-  kept (Read id q) = read-kept id q
-  kept (Visible q) = answered s es r w _ _ refl
-  kept (Own id q) = asks _ id _ (λ vs. refl)
-  kept (FirstMissing id) = asks _ id _ (λ vs. refl)
-  kept (Matching id ports) = asks _ id _ (λ vs. refl)
-  kept (Declares id q) = asks _ id _ (λ vs. refl)
-  kept (Listed k id place buffer) = list-kept k id place buffer
-  kept (AskPlugin f id) = asks _ id _ (λ vs. refl)
-  kept (AskRegistry t) = answered s es r w _ _ refl
-  kept (IdFrom n) = answered s es r w _ _ refl

@@ -10,21 +10,16 @@ use borrow.Author.Tests.{eqb-false, not-false}
 use Rattle.rules.specs.Basics.{all, last}
 use Rattle.rules.specs.Holds.{Port, Plugin, Registry, lookup, Phase, Idle, Loading, Active, Unloading, isLoading, isActive, Root, Unissued, Queued, Spent, withRetired}
 use Rattle.rules.specs.Outcomes.{Outcome, refuses, answers, writes, stores, adds, removes, Check, checked, known, handingBack, after}
-use Rattle.rules.specs.Ports.{resolveKey}
-use Rattle.rules.specs.Dependencies.{dependencyPort}
 use Rattle.rules.specs.Registration.{Definition, newPlugin, register}
 use Rattle.rules.specs.Phases.{available, inUse, isSpent, dropped, begin, ready, fail, unload, finish}
-use Rattle.rules.specs.Replacement.{replace, fits}
-use Rattle.rules.specs.Admission.{Ticket, Invocation, isLive, admit, admits, call}
-use Rattle.rules.specs.Retirement.{Identity, retire, retireFound, retireChild, childIdentity, remove}
-use Rattle.rules.specs.Values.{offered, offer, read, visible, own, missing, matching, declares}
-use Rattle.rules.specs.Lists.{listing, list}
-use Rattle.rules.specs.Queries.{askPlugin, idFrom}
-use Rattle.rules.specs.Steps.{Op, step, ResolveKey, DependencyPort, Register, Begin, Ready, Fail, Unload, Finish, Replace, Fits, Admit, Admits, Call}
-use Rattle.rules.specs.Steps.{Retire, RetireChild, ChildIdentity, Remove, Offer, Read, Visible, Own, FirstMissing, Matching, Declares}
-use Rattle.rules.specs.Steps.{Listed, AskPlugin, AskRegistry, IdFrom}
+use Rattle.rules.specs.Replacement.{replace}
+use Rattle.rules.specs.Admission.{Ticket, Invocation, isLive, admit, call}
+use Rattle.rules.specs.Retirement.{Identity, retire, retireFound, retireChild, remove}
+use Rattle.rules.specs.Values.{offered, offer}
+use Rattle.rules.specs.Steps.{Op, step, Register, Begin, Ready, Fail, Unload, Finish, Replace, Admit, Call, Ask, Retire, RetireChild, Remove, Offer, Write}
 use Rattle.rules.specs.Acts.{Act, joins, leaves, begins, stays, act}
 use Rattle.rules.specs.Laws.Tests.{both, neither, Passed, checked-elim, found-elim}
+use Rattle.rules.specs.Laws.Quiet.{Quiet, reply-quiet, writing-quiet}
 use Rattle.rules.specs.Laws.Lookups.{lookup-id}
 use Rattle.rules.specs.Laws.Table as table
 use Rattle.rules.specs.Laws.Table.{readies, fails, unloads, finishes, is-loading}
@@ -76,10 +71,6 @@ module _ (r : Registry) where
   answered : (o : Op) (vs : List ℕ) → act o ≡ stays → Lawful r o (answers vs)
   unfolding Lawful
   answered o vs n = n
-
-  wrote : (o : Op) (place : ℕ) (l vs : List ℕ) → act o ≡ stays → Lawful r o (writes place l vs)
-  unfolding Lawful
-  wrote o place l vs n = n
 
   -- the plugin p, found under id, becomes q
   module _ (o : Op) (vs : List ℕ) (id : ℕ) (p q : Plugin) (e : lookup r id ≡ some p) (n : Dated (act o) p q) (a : Alike p q) (l : Lively p → Lively q)
@@ -199,14 +190,19 @@ module _ (r : Registry) where
   unfolding register Lawful
   register-lawful d = passes _ _ _ λ c. (d, refl, refl, refl, new-joins r d c, refl)
 
-  -- the questions
-  asks : (o : Op) (id : ℕ) (f : Plugin → List ℕ) → act o ≡ stays → Lawful r o (known r id (λ p. answers (f p)))
-  asks o id f n = knows o id _ λ p e. answered o (f p) n
+  -- a question, and what is written to a lent buffer
+  quietly : (o : Op) (u : Outcome) → act o ≡ stays → Quiet u → Lawful r o u
+  unfolding Lawful
+  quietly o (refuses x vs) n h = tt
+  quietly o (answers vs) n h = n
+  quietly o (writes place l vs) n h = n
+  quietly o (stores q vs) n h = absurd h
+  quietly o (adds q vs) n h = absurd h
+  quietly o (removes id vs) n h = absurd h
 
   pub lawful : (o : Op) → Lawful r o (step r o)
-  unfolding resolveKey dependencyPort fits admits childIdentity read visible own missing matching declares list listing askPlugin idFrom
-  lawful (ResolveKey realms key) = passes _ _ _ λ c. answered _ _ refl
-  lawful (DependencyPort id key) = asks _ id _ refl
+  lawful (Ask q) = quietly _ _ refl (reply-quiet r q)
+  lawful (Write w l) = quietly _ _ refl (writing-quiet r w l)
   lawful (Register d) = register-lawful d
   lawful (Begin id) = begin-lawful id
   lawful (Ready id) = ready-lawful id
@@ -214,25 +210,12 @@ module _ (r : Registry) where
   lawful (Unload id) = unload-lawful id
   lawful (Finish id) = finish-lawful id
   lawful (Replace id payload) = replace-lawful id payload
-  lawful (Fits id times) = asks _ id _ refl
   lawful (Admit t argument) = admit-lawful t argument
-  lawful (Admits t) = answered _ _ refl
   lawful (Call t) = call-lawful t
   lawful (Retire id) = retire-lawful id
   lawful (RetireChild c) = retire-child-lawful c
-  lawful (ChildIdentity id) = asks _ id _ refl
   lawful (Remove id) = remove-lawful id
   lawful (Offer id q value) = offer-lawful id q value
-  lawful (Read id q) = knows _ _ _ λ p e. passes _ _ _ λ c. answered _ _ refl
-  lawful (Visible q) = answered _ _ refl
-  lawful (Own id q) = asks _ id _ refl
-  lawful (FirstMissing id) = asks _ id _ refl
-  lawful (Matching id ports) = asks _ id _ refl
-  lawful (Declares id q) = asks _ id _ refl
-  lawful (Listed w id place buffer) = knows _ _ _ λ p e. passes _ _ _ λ c. wrote _ place _ _ refl
-  lawful (AskPlugin f id) = asks _ id _ refl
-  lawful (AskRegistry t) = answered _ _ refl
-  lawful (IdFrom n) = answered _ _ refl
 
 -- A question leaves the registry as it is.
 pub asked-same : (r : Registry) (o : Op) → reach o ≡ nothing → after r (step r o) ≡ r

@@ -1,9 +1,7 @@
 -- How far an operation reaches: what of the registry it may change.
 use mathlib.Core.Path.{_≡_}
 use Rattle.rules.specs.Holds.{Plugin}
-use Rattle.rules.specs.Steps.{Op, ResolveKey, DependencyPort, Register, Begin, Ready, Fail, Unload, Finish, Replace, Fits, Admit, Admits, Call}
-use Rattle.rules.specs.Steps.{Retire, RetireChild, ChildIdentity, Remove, Offer, Read, Visible, Own, FirstMissing, Matching, Declares}
-use Rattle.rules.specs.Steps.{Listed, AskPlugin, AskRegistry, IdFrom}
+use Rattle.rules.specs.Steps.{Op, Register, Begin, Ready, Fail, Unload, Finish, Replace, Admit, Call, Ask, Retire, RetireChild, Remove, Offer, Write}
 
 pub data Reach : Type 0 where
   -- a question
@@ -29,21 +27,8 @@ reach (Admit t a) = life
 reach (Call t) = life
 reach (Retire id) = life
 reach (RetireChild c) = life
-reach (ResolveKey l k) = nothing
-reach (DependencyPort id k) = nothing
-reach (Fits id n) = nothing
-reach (Admits t) = nothing
-reach (ChildIdentity id) = nothing
-reach (Read id q) = nothing
-reach (Visible q) = nothing
-reach (Own id q) = nothing
-reach (FirstMissing id) = nothing
-reach (Matching id l) = nothing
-reach (Declares id q) = nothing
-reach (Listed w id place l) = nothing
-reach (AskPlugin f id) = nothing
-reach (AskRegistry t) = nothing
-reach (IdFrom n) = nothing
+reach (Ask q) = nothing
+reach (Write w l) = nothing
 
 -- Where p turns into q: how far that may go.
 abbrev pub Within : Reach → Plugin → Plugin → Type 0

@@ -10,9 +10,8 @@ use Rattle.rules.specs.Outcomes.{Refused}
 use Rattle.rules.specs.Lists.{Dependencies, Provisions, RealmRows}
 use Rattle.rules.specs.Queries.{Parent, Anchor, PhaseOf, RetiredMark, Generation, Revision, Payload, RootOf}
 use Rattle.rules.specs.Queries.{Domain, FirstId}
-use Rattle.rules.specs.Steps.{ResolveKey, DependencyPort, Begin, Ready, Fail, Unload, Finish, Replace, Fits, Admit, Admits, Call}
-use Rattle.rules.specs.Steps.{Retire, RetireChild, ChildIdentity, Remove, Offer, Read, Visible, Own, FirstMissing, Matching, Declares}
-use Rattle.rules.specs.Steps.{Listed, AskPlugin, AskRegistry, IdFrom}
+use Rattle.rules.specs.Steps.{Begin, Ready, Fail, Unload, Finish, Replace, Admit, Call, Ask, Retire, RetireChild, Remove, Offer, Write}
+use Rattle.rules.specs.Questions.{ResolveKey, DependencyPort, Fits, Admits, ChildIdentity, Read, Visible, Own, FirstMissing, Matching, Declares, Listed, AskPlugin, AskRegistry, IdFrom}
 use Rattle.rules.specs.Examples.{registers, plain, ticket, invocation}
 use Rattle.rules.specs.Reached.Transcripts.{Line, _↝_, ok, refused, child}
 
@@ -21,11 +20,11 @@ abbrev pub life : List Line
 life =
     registers none (port 100 0) (6 ∷ 3 ∷ []) [] (5 ∷ 6 ∷ []) ↝ ok (1 ∷ [])
     ∷ registers none (port 101 0) [] (5 ∷ 100 ∷ []) [] ↝ ok (2 ∷ [])
-    ∷ ResolveKey (2 ∷ []) 6 ↝ refused BadRealms
-    ∷ ResolveKey (6 ∷ 3 ∷ []) 6 ↝ ok (6 ∷ 3 ∷ [])
-    ∷ DependencyPort 9 5 ↝ refused Unknown
-    ∷ DependencyPort 2 100 ↝ ok (100 ∷ 0 ∷ [])
-    ∷ DependencyPort 2 6 ↝ ok []
+    ∷ Ask (ResolveKey (2 ∷ []) 6) ↝ refused BadRealms
+    ∷ Ask (ResolveKey (6 ∷ 3 ∷ []) 6) ↝ ok (6 ∷ 3 ∷ [])
+    ∷ Ask (DependencyPort 9 5) ↝ refused Unknown
+    ∷ Ask (DependencyPort 2 100) ↝ ok (100 ∷ 0 ∷ [])
+    ∷ Ask (DependencyPort 2 6) ↝ ok []
     ∷ Begin 9 ↝ refused Unknown
     ∷ Begin 2 ↝ refused Unavailable
     ∷ Ready 9 ↝ refused Unknown
@@ -38,16 +37,16 @@ life =
     ∷ Finish 1 ↝ refused InvalidState
     ∷ Offer 9 (port 5 0) 50 ↝ refused Unknown
     ∷ Offer 1 (port 7 0) 50 ↝ refused Closed
-    ∷ Read 9 (port 5 0) ↝ refused Unknown
-    ∷ Read 2 (port 7 0) ↝ refused Closed
-    ∷ Declares 9 (port 5 0) ↝ refused Unknown
-    ∷ Declares 1 (port 5 0) ↝ ok (1 ∷ [])
-    ∷ Declares 2 (port 5 0) ↝ ok (0 ∷ [])
-    ∷ Admits (ticket 1 1) ↝ ok (0 ∷ [])
+    ∷ Ask (Read 9 (port 5 0)) ↝ refused Unknown
+    ∷ Ask (Read 2 (port 7 0)) ↝ refused Closed
+    ∷ Ask (Declares 9 (port 5 0)) ↝ refused Unknown
+    ∷ Ask (Declares 1 (port 5 0)) ↝ ok (1 ∷ [])
+    ∷ Ask (Declares 2 (port 5 0)) ↝ ok (0 ∷ [])
+    ∷ Ask (Admits (ticket 1 1)) ↝ ok (0 ∷ [])
     ∷ Begin 1 ↝ ok (7 ∷ 1 ∷ 1 ∷ 1 ∷ [])
     ∷ Begin 1 ↝ refused InvalidState
     ∷ Ready 1 ↝ refused NotRun
-    ∷ Admits (ticket 1 1) ↝ ok (1 ∷ [])
+    ∷ Ask (Admits (ticket 1 1)) ↝ ok (1 ∷ [])
     ∷ Admit (record { domain = 8; id = 9; generation = 1; kind = 1 }) 24 ↝ refused InvalidState
     ∷ Admit (record { domain = 7; id = 9; generation = 1; kind = 2 }) 24 ↝ refused InvalidState
     ∷ Admit (ticket 9 1) 24 ↝ refused Unknown
@@ -56,8 +55,8 @@ life =
     ∷ Admit (ticket 1 1) 24 ↝ ok (7 ∷ 1 ∷ 1 ∷ 0 ∷ 24 ∷ [])
     ∷ Admit (ticket 1 2) 24 ↝ refused Stale
     ∷ Admit (ticket 1 1) 24 ↝ refused InvalidState
-    ∷ Admits (ticket 1 1) ↝ ok (0 ∷ [])
-    ∷ AskPlugin RootOf 1 ↝ ok (1 ∷ 0 ∷ 24 ∷ [])
+    ∷ Ask (Admits (ticket 1 1)) ↝ ok (0 ∷ [])
+    ∷ Ask (AskPlugin RootOf 1) ↝ ok (1 ∷ 0 ∷ 24 ∷ [])
     ∷ Ready 1 ↝ refused NotRun
     ∷ Call (record { domain = 8; id = 9; generation = 1; revision = 0; argument = 24 }) ↝ refused InvalidState
     ∷ Call (invocation 9 1 0 24) ↝ refused Unknown
@@ -66,42 +65,42 @@ life =
     ∷ Call (invocation 1 1 0 25) ↝ refused Stale
     ∷ Call (invocation 1 1 0 24) ↝ ok (7 ∷ 1 ∷ 1 ∷ 0 ∷ 40 ∷ 24 ∷ [])
     ∷ Ready 1 ↝ refused Missing
-    ∷ FirstMissing 9 ↝ refused Unknown
-    ∷ FirstMissing 1 ↝ ok (5 ∷ 0 ∷ [])
+    ∷ Ask (FirstMissing 9) ↝ refused Unknown
+    ∷ Ask (FirstMissing 1) ↝ ok (5 ∷ 0 ∷ [])
     ∷ Offer 1 (port 100 0) 50 ↝ refused Undeclared
     ∷ Offer 1 (port 5 0) 50 ↝ ok []
     ∷ Offer 1 (port 5 0) 51 ↝ refused Duplicate
-    ∷ FirstMissing 1 ↝ ok (6 ∷ 3 ∷ [])
-    ∷ Visible (port 5 0) ↝ ok []
+    ∷ Ask (FirstMissing 1) ↝ ok (6 ∷ 3 ∷ [])
+    ∷ Ask (Visible (port 5 0)) ↝ ok []
     ∷ Offer 1 (port 6 3) 60 ↝ ok []
-    ∷ FirstMissing 1 ↝ ok []
-    ∷ Own 9 (port 5 0) ↝ refused Unknown
-    ∷ Own 1 (port 6 3) ↝ ok (60 ∷ [])
-    ∷ Own 1 (port 6 0) ↝ ok []
+    ∷ Ask (FirstMissing 1) ↝ ok []
+    ∷ Ask (Own 9 (port 5 0)) ↝ refused Unknown
+    ∷ Ask (Own 1 (port 6 3)) ↝ ok (60 ∷ [])
+    ∷ Ask (Own 1 (port 6 0)) ↝ ok []
     ∷ Begin 2 ↝ refused Unavailable
     ∷ Ready 1 ↝ ok []
-    ∷ Visible (port 5 0) ↝ ok (50 ∷ [])
-    ∷ Visible (port 100 0) ↝ ok []
-    ∷ Visible (port 7 0) ↝ ok []
+    ∷ Ask (Visible (port 5 0)) ↝ ok (50 ∷ [])
+    ∷ Ask (Visible (port 100 0)) ↝ ok []
+    ∷ Ask (Visible (port 7 0)) ↝ ok []
     ∷ Offer 1 (port 5 0) 52 ↝ refused Closed
     ∷ Begin 2 ↝ ok (7 ∷ 2 ∷ 1 ∷ 1 ∷ [])
-    ∷ Read 2 (port 6 3) ↝ refused Undeclared
-    ∷ Read 2 (port 7 0) ↝ refused Undeclared
-    ∷ Read 2 (port 100 0) ↝ refused Missing
-    ∷ Read 2 (port 5 0) ↝ ok (50 ∷ 1 ∷ [])
-    ∷ Declares 2 (port 5 0) ↝ ok (1 ∷ [])
+    ∷ Ask (Read 2 (port 6 3)) ↝ refused Undeclared
+    ∷ Ask (Read 2 (port 7 0)) ↝ refused Undeclared
+    ∷ Ask (Read 2 (port 100 0)) ↝ refused Missing
+    ∷ Ask (Read 2 (port 5 0)) ↝ ok (50 ∷ 1 ∷ [])
+    ∷ Ask (Declares 2 (port 5 0)) ↝ ok (1 ∷ [])
     ∷ Unload 1 ↝ refused InUse
-    ∷ Matching 9 (5 ∷ []) ↝ refused Unknown
-    ∷ Matching 1 (5 ∷ 0 ∷ 6 ∷ 3 ∷ []) ↝ ok (1 ∷ [])
-    ∷ Matching 1 (6 ∷ 3 ∷ 5 ∷ 0 ∷ []) ↝ ok (0 ∷ [])
-    ∷ Matching 1 (5 ∷ 0 ∷ 6 ∷ 3 ∷ 7 ∷ []) ↝ ok (0 ∷ [])
+    ∷ Ask (Matching 9 (5 ∷ [])) ↝ refused Unknown
+    ∷ Ask (Matching 1 (5 ∷ 0 ∷ 6 ∷ 3 ∷ [])) ↝ ok (1 ∷ [])
+    ∷ Ask (Matching 1 (6 ∷ 3 ∷ 5 ∷ 0 ∷ [])) ↝ ok (0 ∷ [])
+    ∷ Ask (Matching 1 (5 ∷ 0 ∷ 6 ∷ 3 ∷ 7 ∷ [])) ↝ ok (0 ∷ [])
     ∷ Fail 2 ↝ ok []
     ∷ Unload 1 ↝ ok []
-    ∷ Own 1 (port 5 0) ↝ ok (50 ∷ [])
-    ∷ AskPlugin RootOf 1 ↝ ok (2 ∷ [])
+    ∷ Ask (Own 1 (port 5 0)) ↝ ok (50 ∷ [])
+    ∷ Ask (AskPlugin RootOf 1) ↝ ok (2 ∷ [])
     ∷ Finish 1 ↝ ok []
-    ∷ Own 1 (port 5 0) ↝ ok []
-    ∷ AskPlugin RootOf 1 ↝ ok (0 ∷ [])
+    ∷ Ask (Own 1 (port 5 0)) ↝ ok []
+    ∷ Ask (AskPlugin RootOf 1) ↝ ok (0 ∷ [])
     ∷ Begin 1 ↝ ok (7 ∷ 1 ∷ 2 ∷ 1 ∷ [])
     ∷ Call (invocation 1 1 0 24) ↝ refused Stale
     ∷ []
@@ -113,12 +112,12 @@ family =
     ∷ registers (some 1) (port 101 0) [] [] [] ↝ ok (2 ∷ [])
     ∷ Replace 9 41 ↝ Refused (number Unknown) (41 ∷ [])
     ∷ Replace 1 41 ↝ ok (40 ∷ [])
-    ∷ Fits 9 1 ↝ refused Unknown
-    ∷ Fits 1 (2 ^ 64 - 2) ↝ ok (1 ∷ [])
-    ∷ Fits 1 (2 ^ 64 - 1) ↝ ok (0 ∷ [])
-    ∷ ChildIdentity 9 ↝ refused Unknown
-    ∷ ChildIdentity 1 ↝ ok []
-    ∷ ChildIdentity 2 ↝ ok (7 ∷ 1 ∷ 2 ∷ [])
+    ∷ Ask (Fits 9 1) ↝ refused Unknown
+    ∷ Ask (Fits 1 (2 ^ 64 - 2)) ↝ ok (1 ∷ [])
+    ∷ Ask (Fits 1 (2 ^ 64 - 1)) ↝ ok (0 ∷ [])
+    ∷ Ask (ChildIdentity 9) ↝ refused Unknown
+    ∷ Ask (ChildIdentity 1) ↝ ok []
+    ∷ Ask (ChildIdentity 2) ↝ ok (7 ∷ 1 ∷ 2 ∷ [])
     ∷ Remove 9 ↝ refused Unknown
     ∷ Remove 1 ↝ refused InvalidState
     ∷ Retire 9 ↝ refused Unknown
@@ -144,13 +143,13 @@ family =
     ∷ Finish 2 ↝ ok []
     ∷ Remove 2 ↝ ok []
     ∷ RetireChild (child 7 3 2) ↝ ok []
-    ∷ AskPlugin PhaseOf 2 ↝ refused Unknown
+    ∷ Ask (AskPlugin PhaseOf 2) ↝ refused Unknown
     ∷ Remove 1 ↝ ok []
     ∷ registers (some 2) (port 101 0) [] [] [] ↝ refused Unknown
     ∷ registers none (port 101 0) [] [] [] ↝ ok (3 ∷ [])
-    ∷ IdFrom 0 ↝ ok (3 ∷ [])
-    ∷ IdFrom 3 ↝ ok (3 ∷ [])
-    ∷ IdFrom 4 ↝ ok []
+    ∷ Ask (IdFrom 0) ↝ ok (3 ∷ [])
+    ∷ Ask (IdFrom 3) ↝ ok (3 ∷ [])
+    ∷ Ask (IdFrom 4) ↝ ok []
     ∷ []
 
 -- Queries and lists of one plugin.
@@ -158,31 +157,31 @@ abbrev pub questions : List Line
 questions =
     registers none (port 100 4) (2 ∷ 5 ∷ []) (9 ∷ []) (2 ∷ []) ↝ ok (1 ∷ [])
     ∷ registers (some 1) (port 101 0) [] [] [] ↝ ok (2 ∷ [])
-    ∷ AskPlugin Parent 1 ↝ ok []
-    ∷ AskPlugin Parent 2 ↝ ok (1 ∷ [])
-    ∷ AskPlugin Anchor 1 ↝ ok (100 ∷ 4 ∷ [])
-    ∷ AskPlugin PhaseOf 1 ↝ ok (0 ∷ [])
-    ∷ AskPlugin RetiredMark 1 ↝ ok (0 ∷ [])
-    ∷ AskPlugin Generation 1 ↝ ok (0 ∷ [])
-    ∷ AskPlugin Revision 1 ↝ ok (0 ∷ [])
-    ∷ AskPlugin Payload 1 ↝ ok (40 ∷ [])
-    ∷ AskPlugin RootOf 1 ↝ ok (0 ∷ [])
-    ∷ AskPlugin Payload 9 ↝ refused Unknown
-    ∷ AskRegistry Domain ↝ ok (7 ∷ [])
-    ∷ AskRegistry FirstId ↝ ok (1 ∷ [])
-    ∷ IdFrom 2 ↝ ok (2 ∷ [])
-    ∷ Listed Dependencies 9 4 (1 ∷ 1 ∷ 1 ∷ []) ↝ refused Unknown
-    ∷ Listed Dependencies 1 4 (1 ∷ 1 ∷ 1 ∷ []) ↝ refused ShortBuffer
-    ∷ Listed Provisions 1 2 (1 ∷ 1 ∷ 1 ∷ []) ↝ refused ShortBuffer
-    ∷ Listed RealmRows 1 1 (1 ∷ 1 ∷ 1 ∷ []) ↝ ok (1 ∷ [])
-    ∷ Listed RealmRows 2 3 (1 ∷ 1 ∷ 1 ∷ []) ↝ ok (0 ∷ [])
+    ∷ Ask (AskPlugin Parent 1) ↝ ok []
+    ∷ Ask (AskPlugin Parent 2) ↝ ok (1 ∷ [])
+    ∷ Ask (AskPlugin Anchor 1) ↝ ok (100 ∷ 4 ∷ [])
+    ∷ Ask (AskPlugin PhaseOf 1) ↝ ok (0 ∷ [])
+    ∷ Ask (AskPlugin RetiredMark 1) ↝ ok (0 ∷ [])
+    ∷ Ask (AskPlugin Generation 1) ↝ ok (0 ∷ [])
+    ∷ Ask (AskPlugin Revision 1) ↝ ok (0 ∷ [])
+    ∷ Ask (AskPlugin Payload 1) ↝ ok (40 ∷ [])
+    ∷ Ask (AskPlugin RootOf 1) ↝ ok (0 ∷ [])
+    ∷ Ask (AskPlugin Payload 9) ↝ refused Unknown
+    ∷ Ask (AskRegistry Domain) ↝ ok (7 ∷ [])
+    ∷ Ask (AskRegistry FirstId) ↝ ok (1 ∷ [])
+    ∷ Ask (IdFrom 2) ↝ ok (2 ∷ [])
+    ∷ Write (Listed Dependencies 9 4) (1 ∷ 1 ∷ 1 ∷ []) ↝ refused Unknown
+    ∷ Write (Listed Dependencies 1 4) (1 ∷ 1 ∷ 1 ∷ []) ↝ refused ShortBuffer
+    ∷ Write (Listed Provisions 1 2) (1 ∷ 1 ∷ 1 ∷ []) ↝ refused ShortBuffer
+    ∷ Write (Listed RealmRows 1 1) (1 ∷ 1 ∷ 1 ∷ []) ↝ ok (1 ∷ [])
+    ∷ Write (Listed RealmRows 2 3) (1 ∷ 1 ∷ 1 ∷ []) ↝ ok (0 ∷ [])
     ∷ []
 
 -- Numbers at their end: an Idle plugin with the last revision and generation that depends on a port without provider.
 abbrev pub exhausted : List Line
 exhausted =
     Replace 1 41 ↝ Refused (number Exhausted) (41 ∷ [])
-    ∷ Fits 1 0 ↝ ok (1 ∷ [])
+    ∷ Ask (Fits 1 0) ↝ ok (1 ∷ [])
     ∷ Begin 1 ↝ refused Exhausted
     ∷ []
 

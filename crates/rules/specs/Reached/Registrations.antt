@@ -6,9 +6,8 @@ use Rattle.rules.specs.Holds.{port}
 use Rattle.rules.specs.Refusals.{Unknown, Retired, InvalidState, BadRealms, TooManyKeys, DuplicateDependency, DuplicateProvision, Taken}
 use Rattle.rules.specs.Refusals.{NoId, Full, TooLong, NoRows}
 use Rattle.rules.specs.Queries.{NextId, Registered, RowsInUse}
-use Rattle.rules.specs.Steps.{Begin, Fail}
-use Rattle.rules.specs.Steps.{Retire, RetireChild}
-use Rattle.rules.specs.Steps.{AskRegistry}
+use Rattle.rules.specs.Steps.{Begin, Fail, Retire, RetireChild, Ask}
+use Rattle.rules.specs.Questions.{AskRegistry}
 use Rattle.rules.specs.Examples.{registers, plain}
 use Rattle.rules.specs.Reached.Transcripts.{Line, _↝_, ok, refused, keys, realmRows, child}
 
@@ -34,8 +33,8 @@ registrations =
     ∷ Retire 2 ↝ ok []
     ∷ registers (some 2) (port 102 0) [] [] [] ↝ refused Retired
     ∷ registers (some 1) (port 102 0) [] [] [] ↝ ok (3 ∷ [])
-    ∷ AskRegistry Registered ↝ ok (3 ∷ [])
-    ∷ AskRegistry RowsInUse ↝ ok ((32 + 1 + 33) ∷ [])
+    ∷ Ask (AskRegistry Registered) ↝ ok (3 ∷ [])
+    ∷ Ask (AskRegistry RowsInUse) ↝ ok ((32 + 1 + 33) ∷ [])
     ∷ []
 
 -- The last id, and it is taken before it is out of ids.
@@ -45,7 +44,7 @@ lastId =
     ∷ plain ↝ refused Taken
     ∷ registers none (port 101 0) [] [] [] ↝ refused NoId
     ∷ RetireChild (child 7 0 (2 ^ 64 - 1)) ↝ refused Unknown
-    ∷ AskRegistry NextId ↝ ok ((2 ^ 64 - 1) ∷ [])
+    ∷ Ask (AskRegistry NextId) ↝ ok ((2 ^ 64 - 1) ∷ [])
     ∷ []
 
 -- n plugins with anchors from k on and nothing else, ids from i on
@@ -69,7 +68,7 @@ crowd =
     ∷ registers (some 1) (port 1002 0) (realmRows 16 1 5) [] (keys 15 2100) ↝ ok (2 ∷ [])
     ∷ grandchildren 14 3000 3
     ++ registers (some 1) (port 1003 0) (realmRows 16 1 7) [] (keys 15 2200) ↝ ok (17 ∷ [])
-    ∷ AskRegistry RowsInUse ↝ ok (1024 ∷ [])
+    ∷ Ask (AskRegistry RowsInUse) ↝ ok (1024 ∷ [])
     ∷ registers (some 2) (port 999 0) (realmRows 16 1 6) (40 ∷ []) [] ↝ refused TooLong
     ∷ registers none (port 999 0) [] [] [] ↝ refused NoRows
     ∷ []

@@ -9,8 +9,7 @@ use Rattle.rules.specs.Holds.{Registry}
 use Rattle.rules.specs.Refusals.{Refusal, number}
 use Rattle.rules.specs.Outcomes.{Answer, Refused, Accepted, answerOf, after}
 use Rattle.rules.specs.Retirement.{Identity}
-use Rattle.rules.specs.Steps.{Op}
-use Rattle.rules.specs.Steps.{step}
+use Rattle.rules.specs.Steps.{Op, step}
 
 infix 68 _↝_
 -- A line of a transcript: an operation and its answer.
