@@ -3,7 +3,7 @@ use Prim.Native.Nat.{ℕ, _%_}
 use native.Mathlib.Omega.{arith}
 use mathlib.Core.Path.{_≡_, refl, sym, ap, _∙_}
 use mathlib.Core.Logic.{_≢_}
-use mathlib.Core.Bool.{Bool, true, false, not, _||_}
+use mathlib.Core.Bool.{Bool, true, false}
 use mathlib.Core.List.{List, [], _∷_}
 use lib.Dec.{eqb}
 use borrow.Author.Tests.{eq-eqb, ne-eqb, eqb-true}
@@ -11,9 +11,9 @@ use Rattle.rules.specs.Holds.{Plugin, isLoading, withRoot}
 use Rattle.rules.specs.declared.Root.{Root}
 use Rattle.rules.specs.declared.Root.the-variants.{Queued, Spent}
 use Rattle.rules.specs.Refusals.{Refusal, number, Unknown, Retired, InvalidState, Stale}
-use Rattle.rules.specs.Outcomes.{Refused, Accepted, Outcome, refuses, stores, Check, _⇒_, checked, answerOf, Meets}
+use Rattle.rules.specs.Outcomes.{Refused, Accepted, Outcome, refuses, stores, checked, answerOf, Meets}
 use Rattle.rules.specs.Phases.{setup}
-use Rattle.rules.specs.Admission.{Ticket, Invocation, five, isUnissued, admit, isAccepted, admits, isLive, receipt, call}
+use Rattle.rules.specs.Admission.{Ticket, Invocation, five, isUnissued, admissionChecks, admit, isAccepted, admits, isLive, receipt, call}
 use Rattle.memory.specs.Ways.{leftBy}
 use Rattle.memory.specs.Layout.{word}
 use Rattle.memory.specs.View.{lifeAt, pluginAt, view}
@@ -41,11 +41,6 @@ module _ (m : List ℕ) (id i : ℕ) (life : Life) (e : findAt m id ≡ At i) (l
   told-rooted o r vs l′ m′ k s p =
       told-stored o m id i vs (rootedLife r life) m′ e (k ∙ ap (λ x. stores x vs) (rooted-plugin r)) (p ∙ ap (putLife m (i % 32)) s)
 
--- The rule's checks of a found plugin, over their four tests.
-abbrev tests : Bool → Bool → Bool → Bool → List Check
-tests retired loading same unissued =
-    (retired ⇒ Retired) ∷ (not loading || not same ⇒ Stale) ∷ (not unissued ⇒ InvalidState) ∷ []
-
 -- What a verdict says of what they come to, with the outcome where they all pass.
 record Says (m : List ℕ) (same : Bool) (v : ℕ) (comes o : Outcome) : Type 0 where
   passes : v ≡ 0 → (same ≡ true) × (comes ≡ o)
@@ -61,7 +56,7 @@ module _ (m : List ℕ) (o : Outcome) where
     accepts = λ y. sym (ne-eqb (number x) 0 n);
   }
 
-  verdict-says : (r l s u : Bool) → Says m s (verdict r l s u) (checked (tests r l s u) o) o
+  verdict-says : (r l s u : Bool) → Says m s (verdict r l s u) (checked (admissionChecks r l s u) o) o
   unfolding checked
   verdict-says true l s u = refusal-says s Retired (λ e. omega arith)
   verdict-says false true true true = record { passes = λ e. (refl, refl); stops = λ k. absurd (k refl); accepts = λ y. y }

@@ -1,14 +1,15 @@
 -- What admission and call ask of a found plugin's life.
 use Prim.Native.Nat.{ℕ}
-use mathlib.Core.Path.{_≡_, refl, sym, _∙_}
+use mathlib.Core.Path.{_≡_, refl, sym, ap, _∙_}
 use mathlib.Core.Logic.{_≢_}
-use mathlib.Core.Bool.{Bool, true, false, _&&_, and-true, and-false}
+use mathlib.Core.Bool.{Bool, true, false, not, _&&_, _||_, and-true, and-false}
 use lib.Dec.{eqb}
 use borrow.Author.Tests.{eq-eqb, ne-eqb}
 use Rattle.rules.specs.Basics.{pick}
 use Rattle.rules.specs.Holds.{isLoading}
 use Rattle.rules.specs.Refusals.{number, Retired, InvalidState, Stale}
-use Rattle.rules.specs.Admission.{isUnissued, isQueued}
+use Rattle.rules.specs.Outcomes.{firstNumber}
+use Rattle.rules.specs.Admission.{isUnissued, isQueued, admissionChecks}
 use Rattle.rules.specs.declared.Phase.{Phase}
 use Rattle.rules.specs.declared.Root.{Root}
 use Rattle.rules.specs.declared.Root.the-variants.{Queued}
@@ -20,8 +21,7 @@ isCurrent l g = isLoading (l .phase) && eqb (l .generation .0) g
 
 -- the number of the first refusal; 0 where nothing refuses
 abbrev pub verdict : Bool → Bool → Bool → Bool → ℕ
-verdict retired loading same unissued =
-    pick retired (number Retired) (pick (loading && same) (pick unissued 0 (number InvalidState)) (number Stale))
+verdict retired loading same unissued = firstNumber (admissionChecks retired loading same unissued)
 
 unfoldable pub verdictOf : Life → ℕ → ℕ
 verdictOf l g = verdict (l .retired) (isLoading (l .phase)) (eqb (l .generation .0) g) (isUnissued (l .root))
@@ -52,14 +52,27 @@ pub verdict-retired : (l : Life) (g : ℕ) → l .retired ≡ true → number Re
 unfolding verdictOf
 verdict-retired l g y = rw y
 
+-- Loading and of the generation are one check
+one-check : (l s : Bool) → (not l || not s) ≡ not (l && s)
+one-check true s = refl
+one-check false s = refl
+
+turned : (u : Bool) (n : ℕ) → pick u 0 n ≡ pick (not u) n 0
+turned true n = refl
+turned false n = refl
+
 module _ (l : Life) (g : ℕ) (b : Bool) (k : b ≡ isCurrent l g) where
+  same-check : (not (isLoading (l .phase)) || not (eqb (l .generation .0) g)) ≡ not b
+  unfolding isCurrent
+  same-check = one-check (isLoading (l .phase)) (eqb (l .generation .0) g) ∙ ap not (sym k)
+
   pub verdict-stale : l .retired ≡ false → b ≡ false → number Stale ≡ verdictOf l g
-  unfolding isCurrent verdictOf
-  verdict-stale f n = rw (f, sym k ∙ n)
+  unfolding verdictOf
+  verdict-stale f n = rw (f, same-check ∙ ap not n)
 
   pub verdict-current : l .retired ≡ false → b ≡ true → (r : Root) → l .root ≡ r → pick (isUnissued r) 0 (number InvalidState) ≡ verdictOf l g
-  unfolding isCurrent verdictOf
-  verdict-current f y r e = rw (f, sym k ∙ y, e)
+  unfolding verdictOf
+  verdict-current f y r e = rw (f, same-check ∙ ap not y, e) (turned (isUnissued r) (number InvalidState))
 
   module _ (v a : ℕ) where
     regrouped-life : liveOf l g v a ≡ (isCurrent l g && eqb (l .revision) v && isQueued (l .root) v a)

@@ -6,7 +6,7 @@ use lib.Dec.{eqb}
 use Rattle.rules.specs.Basics.{yesNo}
 use Rattle.rules.specs.Holds.{Plugin, Registry, isLoading, Root, Unissued, Queued, Spent, withRoot}
 use Rattle.rules.specs.Refusals.{Retired, InvalidState, Stale}
-use Rattle.rules.specs.Outcomes.{Answer, Refused, Accepted, Outcome, answers, stores, answerOf, _⇒_, checked, known}
+use Rattle.rules.specs.Outcomes.{Answer, Refused, Accepted, Outcome, answers, stores, answerOf, Check, _⇒_, checked, known}
 use Rattle.rules.specs.Phases.{setup}
 
 pub record Ticket : Type 0 where
@@ -31,15 +31,19 @@ isUnissued Unissued = true
 isUnissued (Queued v a) = false
 isUnissued Spent = false
 
+-- What admission asks of a found plugin: whether it is retired, Loading, of the ticket's generation, and its root Unissued.
+abbrev pub admissionChecks : Bool → Bool → Bool → Bool → List Check
+admissionChecks retired loading same unissued =
+    (retired ⇒ Retired)
+    ∷ (not loading || not same ⇒ Stale)
+    ∷ (not unissued ⇒ InvalidState)
+    ∷ []
+
 -- Admission: domain or kind 3, then 1, 2, then 13 if not Loading or another generation, then 3 if root isn't Unissued.
 unfoldable pub admit : Registry → Ticket → ℕ → Outcome
 admit r t a =
     checked ((not (eqb (t .domain) (r .domain)) || not (eqb (t .kind) setup) ⇒ InvalidState) ∷ []) (known r (t .id) λ p.
-    checked
-    ((p .retired ⇒ Retired)
-    ∷ (not (isLoading (p .phase)) || not (eqb (p .generation) (t .generation)) ⇒ Stale)
-    ∷ (not (isUnissued (p .root)) ⇒ InvalidState)
-    ∷ [])
+    checked (admissionChecks (p .retired) (isLoading (p .phase)) (eqb (p .generation) (t .generation)) (isUnissued (p .root)))
     (stores (withRoot (Queued (p .revision) a) p) (r .domain ∷ p .id ∷ p .generation ∷ p .revision ∷ a ∷ [])))
 
 abbrev pub isAccepted : Answer → Bool

@@ -43,6 +43,11 @@ unfoldable pub checked : List Check → Outcome → Outcome
 checked [] u = u
 checked (c ∷ cs) u = pick (c .test) (refuses (c .refusal) []) (checked cs u)
 
+-- The number of the first check that refuses; 0 where all pass.
+abbrev pub firstNumber : List Check → ℕ
+firstNumber [] = 0
+firstNumber (c ∷ cs) = pick (c .test) (number (c .refusal)) (firstNumber cs)
+
 -- The id is looked up once; 1 if it names no registered plugin.
 unfoldable pub found : Option Plugin → (Plugin → Outcome) → Outcome
 found none f = refuses Unknown []
