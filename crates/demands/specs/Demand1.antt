@@ -1,15 +1,16 @@
 -- Demand 1: on any words, a refusal answers one of document 01's numbers and leaves the words and the lent buffer as they were.
 use Prim.Native.Nat.{ℕ}
 use native.Mathlib.Omega.{arith}
-use mathlib.Core.Path.{_≡_, refl, ap}
+use mathlib.Core.Path.{_≡_, refl, ap, _∙_}
 use mathlib.Core.List.{List}
+use mathlib.Core.Option.{Option, none, some}
 use Rattle.rules.specs.Refusals.{Refusal, number}
 use Rattle.rules.specs.Outcomes.{Refused, Outcome, refuses, answers, writes, stores, adds, removes, answerOf}
 use Rattle.rules.specs.Steps.{Op, step, answerTo, lent, lentAfterStep}
 use Rattle.rules.specs.Demand1.{refusal-changes-nothing}
-use Rattle.memory.specs.Ways.{leftBy}
+use Rattle.memory.specs.Ways.{Way, leftBy}
 use Rattle.memory.specs.View.{view}
-use Rattle.demands.specs.Leaves.{wayOf, leaves}
+use Rattle.demands.specs.Leaves.{wayOf, left, leaves}
 
 -- An outcome whose answer is a refusal.
 pub record IsRefusal (o : Outcome) (n : ℕ) : Type 0 where
@@ -26,9 +27,13 @@ refused (stores p ws) n vs e = let z : _≡_ {A = ℕ} 0 1 = cc in absurd (omega
 refused (adds p ws) n vs e = let z : _≡_ {A = ℕ} 0 1 = cc in absurd (omega arith)
 refused (removes id ws) n vs e = let z : _≡_ {A = ℕ} 0 1 = cc in absurd (omega arith)
 
-leaves-same : (m : List ℕ) (o : Op) (n : ℕ) → IsRefusal (step (view m) o) n → leaves m o ≡ m
+left-same : (w : Option Way) (m : List ℕ) (x : Refusal) (vs : List ℕ) → left w m (refuses x vs) ≡ m
 unfolding leftBy
-leaves-same m o n w = ap (leftBy (wayOf o) m) (w .outcome)
+left-same none m x vs = refl
+left-same (some w) m x vs = refl
+
+leaves-same : (m : List ℕ) (o : Op) (n : ℕ) → IsRefusal (step (view m) o) n → leaves m o ≡ m
+leaves-same m o n w = ap (left (wayOf o) m) (w .outcome) ∙ left-same (wayOf o) m (w .refusal) (w .values)
 
 pub record Nothing-changed (m : List ℕ) (o : Op) (n : ℕ) : Type 0 where
   pub refusal : Refusal

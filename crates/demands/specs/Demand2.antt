@@ -9,7 +9,6 @@ use Rattle.rules.specs.Kept.{step-built}
 use Rattle.rules.specs.Kept.Reach.{nothing, reach}
 use Rattle.rules.specs.Kept.Operations.{asked-same}
 use Rattle.memory.specs.View.{view}
-use Rattle.memory.specs.Ways.{leftBy, asking, asking-leaves}
 use Rattle.memory_rows.specs.Dense.{Refines}
 use Rattle.memory_rows.specs.Stored.{life-refines}
 use Rattle.registry_remove.specs.Refines.{remove-refines}
@@ -25,10 +24,8 @@ pub data Made : List ℕ → Type 0 where
   begins : (m : List ℕ) → Begun m → Made m
   goesOn : (m : List ℕ) → Made m → (o : Op) → Made (leaves m o)
 
-question : (m : List ℕ) → Sound m → (o : Op) → reach o ≡ nothing → Refines m (leftBy asking m (step (view m) o)) (step (view m) o)
-question m s o e =
-    let n : leftBy asking m (step (view m) o) ≡ m = asking-leaves m (step (view m) o) in
-    rw n (record { registry = sym (asked-same (view m) o e); dense = s .dense })
+question : (m : List ℕ) → Sound m → (o : Op) → reach o ≡ nothing → Refines m m (step (view m) o)
+question m s o e = record { registry = sym (asked-same (view m) o e); dense = s .dense }
 
 -- On any sound words.
 pub sound-refines : (m : List ℕ) → Sound m → (o : Op) → Refines m (leaves m o) (step (view m) o)

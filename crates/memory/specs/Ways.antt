@@ -21,7 +21,7 @@ leftBy w m (stores q vs) = w .stored m q
 leftBy w m (adds q vs) = w .added m q
 leftBy w m (removes id vs) = w .removed m id
 
--- Most ways know one outcome alone; a question's knows none.
+-- Each way knows one outcome alone.
 abbrev pub byStoring : (List ℕ → Plugin → List ℕ) → Way
 byStoring f = record { stored = f; added = λ m q. m; removed = λ m id. m }
 
@@ -30,18 +30,6 @@ byAdding f = record { stored = λ m q. m; added = f; removed = λ m id. m }
 
 abbrev pub byRemoving : (List ℕ → ℕ → List ℕ) → Way
 byRemoving f = record { stored = λ m q. m; added = λ m q. m; removed = f }
-
-abbrev pub asking : Way
-asking = byStoring (λ m q. m)
-
-pub asking-leaves : (m : List ℕ) (o : Outcome) → leftBy asking m o ≡ m
-unfolding leftBy
-asking-leaves m (refuses x vs) = refl
-asking-leaves m (answers vs) = refl
-asking-leaves m (writes place l vs) = refl
-asking-leaves m (stores q vs) = refl
-asking-leaves m (adds q vs) = refl
-asking-leaves m (removes id vs) = refl
 
 -- On any words, there are as many afterwards.
 pub record Sized (w : Way) : Type 0 where
