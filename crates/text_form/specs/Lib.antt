@@ -4,3 +4,6 @@ pub mod Values
 pub mod Text
 pub mod Example
 pub mod Rising
+pub mod Parts
+pub mod Same
+pub mod Sizes
