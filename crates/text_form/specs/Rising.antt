@@ -2,18 +2,18 @@
 -- lowest id from a number on goes through it.
 use Prim.Native.Nat.{ℕ, suc, _+_, _≤_, _<_}
 use native.Mathlib.Omega.{arith}
-use mathlib.Core.Path.{_≡_, refl, sym, ap, _∙_, subst}
-use mathlib.Core.Bool.{Bool, true, false, true≢false}
-use mathlib.Core.List.{List, [], _∷_, map}
+use mathlib.Core.Path.{_≡_, refl, sym, ap, _∙_}
+use mathlib.Core.Bool.{true, false, true≢false}
+use mathlib.Core.List.{List, [], _∷_}
 use mathlib.Core.Option.{Option, none, some}
 use mathlib.Core.Logic.{_⊎_, inl, inr, ⊎-elim}
 use lib.Dec.{eqb, ltb}
 use lib.ListN.{length}
-use borrow.Author.Tests.{ltb-true, ltb-false, lt-ltb, le-ltb, eqb-true, eqb-false, eq-eqb, ne-eqb}
+use borrow.Author.Tests.{ltb-true, ltb-false, eqb-true, eqb-false, eq-eqb, ne-eqb}
 use Rattle.rules.specs.Basics.{pick, any, first, isSome, sum, twice}
 use Rattle.rules.specs.Holds.{Plugin, Registry, plugins, lookup, count}
-use Rattle.rules.specs.Outcomes.{Accepted, answers, answerOf}
-use Rattle.rules.specs.Queries.{lowestFrom, idFrom}
+use Rattle.rules.specs.Outcomes.{Accepted, answerOf}
+use Rattle.rules.specs.Queries.{idFrom}
 use Rattle.rules.specs.Built.{Built, idsOf}
 use Rattle.rules.specs.Laws.Members.{In, first-in, lookup-in}
 use Rattle.rules.specs.Laws.Lookups.{lookup-id}
@@ -21,6 +21,8 @@ use Rattle.rules.specs.Laws.Lowest.{Registered, Lowest, id-lowest, none-below}
 use Rattle.rules.specs.Laws.Once.{found-once}
 use Rattle.rules.specs.Laws.Tests.{by-test, neither}
 use Rattle.text_form.specs.Text.{insert, byId}
+-- No law of the order before the examples: another order falls to a computed line first.
+use Rattle.text_form.specs.Example as example
 
 -- The first plugin of an id, as `lookup` finds it.
 abbrev pub ofId : ℕ → List Plugin → Option Plugin

@@ -1,16 +1,10 @@
 -- The text tells two registries apart exactly where they differ in more than the plugins' places.
-use Prim.Native.Nat.{ℕ, _≤_}
-use native.Mathlib.Omega.{arith}
-use mathlib.Core.Path.{_≡_, refl, sym, ap, _∙_}
-use mathlib.Core.List.{List, [], _∷_}
+use Prim.Native.Nat.{ℕ}
+use mathlib.Core.Path.{_≡_, sym, ap, _∙_}
 use mathlib.Core.Option.{some}
-use lib.ListN.{length}
-use Rattle.rules.specs.Basics.{last}
-use Rattle.rules.specs.Holds.{Plugin, Registry, plugins, lookup}
-use Rattle.rules.specs.Laws.Members.{In}
-use Rattle.text_form.specs.Forms.{FitAll}
-use Rattle.text_form.specs.Text.{block, text, Said, byId, said, textOf, readText, read-written}
-use Rattle.text_form.specs.Rising.{by-id-rises, by-id-found, by-id-in, by-id-only}
+use Rattle.rules.specs.Holds.{Registry, plugins, lookup}
+use Rattle.text_form.specs.Text.{text, Said, byId, said, textOf, readText, read-written}
+use Rattle.text_form.specs.Rising.{by-id-rises, by-id-found, by-id-only}
 
 -- Equal up to places: the same numbers, and the same plugin for every id.
 pub record Same (r s : Registry) : Type 0 where

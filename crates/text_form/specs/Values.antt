@@ -16,19 +16,19 @@ use Rattle.rules.specs.Holds.{port, Provision}
 use Rattle.rules.specs.Queries.{phaseNumber}
 use Rattle.text_decimal.specs.Text.{bytes}
 use Rattle.text_decimal.specs.Numbers.{numberOf, valueFrom}
-use Rattle.text_form.specs.Forms.{Read, found, torn, expect, Form, readAny, behind, literal, _then_, either, oneOf, like, counted}
+use Rattle.text_form.specs.Forms.{found, torn, expect, Form, readAny, behind, literal, _then_, either, oneOf, like, counted}
 use Rattle.text_form.specs.Numbers.{numberTo, readNumber, upTo}
 
 -- `key=value`
 abbrev pub line : {A : Type 0} → String → Form A → Form A
 line key value = behind (bytes key ++ bytes "=") value
 
--- A line with a count, and so many lines of another key.
-abbrev pub list : {A : Type 0} → String → String → Form A → Form (List A)
-list plural key value = counted (line plural (numberTo 10 refl)) (line key value)
-
 abbrev pub number : Form ℕ
 number = numberTo 10 refl
+
+-- a count, and a line for each of so many
+abbrev pub list : {A : Type 0} → String → String → Form A → Form (List A)
+list plural key value = counted (line plural number) (line key value)
 
 -- a number with a comma behind it
 abbrev pub comma : Form ℕ
