@@ -54,15 +54,18 @@ module _ (stop : ℕ) (h : noDigit stop ≡ true) where
   pub number-back : (n : ℕ) (rest : List ℕ) → n ≤ last → readNumber stop ((decimalOf n ++ stop ∷ []) ++ rest) ≡ found n rest
   unfolding readNumber
   number-back n rest l =
-      rw (append-assoc (decimalOf n) (stop ∷ []) rest, up-to-back stop (decimalOf n) rest (number-lacks stop h (decimalOf n) n (reads-back n l)), reads-back n l)
+      let lacks = number-lacks stop h (decimalOf n) n (reads-back n l) in
+      rw (append-assoc (decimalOf n) (stop ∷ []) rest, up-to-back stop (decimalOf n) rest lacks, reads-back n l)
 
-  pub number-read : (t : List ℕ) (n : ℕ) (rest : List ℕ) → readNumber stop t ≡ found n rest → (n ≤ last) × ((decimalOf n ++ stop ∷ []) ++ rest ≡ t)
+  pub number-read
+      : (t : List ℕ) (n : ℕ) (rest : List ℕ) → readNumber stop t ≡ found n rest → (n ≤ last) × ((decimalOf n ++ stop ∷ []) ++ rest ≡ t)
   unfolding readNumber
   number-read t n rest e =
       let p = parts (upTo stop t) (λ w r. orTorn (numberOf w) r) n rest e in
       go (p .value) (p .behind) (numberOf (p .value)) refl (up-to-exact stop t (p .value) (p .behind) (p .first)) (p .second)
     where
-      go : (w r : List ℕ) (m : Option ℕ) → numberOf w ≡ m → w ++ stop ∷ r ≡ t → orTorn m r ≡ found n rest → (n ≤ last) × ((decimalOf n ++ stop ∷ []) ++ rest ≡ t)
+      go : (w r : List ℕ) (m : Option ℕ) → numberOf w ≡ m → w ++ stop ∷ r ≡ t → orTorn m r ≡ found n rest
+          → (n ≤ last) × ((decimalOf n ++ stop ∷ []) ++ rest ≡ t)
       go w r none i j k = torn-found n rest k
       go w r (some m) i j k =
           let x = number-exact w n (cc) in

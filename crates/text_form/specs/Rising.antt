@@ -298,7 +298,10 @@ module _ (r : Registry) where
     next-registered x e = lowest x e .one-of
 
     pub rest-next : (x : ℕ) (p : Plugin) → answerOf (idFrom r n) ≡ Accepted (x ∷ []) → lookup r x ≡ some p → restFrom n ≡ p ∷ restFrom (x + 1)
-    rest-next x p e h = rising-same (restFrom n) (p ∷ restFrom (x + 1)) (rest-rises n) (λ q m. let a = rest-above (x + 1) q m in omega (arith, i), rest-rises (x + 1)) found
+    rest-next x p e h =
+        rising-same (restFrom n) (p ∷ restFrom (x + 1)) (rest-rises n)
+        (λ q m. let a = rest-above (x + 1) q m in omega (arith, i), rest-rises (x + 1))
+        found
       where
         w : Lowest (Registered r) n x
         w = lowest x e

@@ -16,7 +16,8 @@ pub record Same (r s : Registry) : Type 0 where
 pub same-text : (r s : Registry) → Same r s → textOf r ≡ textOf s
 unfolding textOf lookup
 same-text r s h =
-    let e : byId (plugins r) ≡ byId (plugins s) = by-id-only (byId (plugins r)) (plugins s) (by-id-rises (plugins r)) (λ x. by-id-found x (plugins r) ∙ h .plugin x) in
+    let e : byId (plugins r) ≡ byId (plugins s) =
+    by-id-only (byId (plugins r)) (plugins s) (by-id-rises (plugins r)) (λ x. by-id-found x (plugins r) ∙ h .plugin x) in
     ap (λ x. text .write x) (λ i. record { domain = h .domain i; first = h .first i; next = h .next i; plugins = e i })
 
 pub text-same : (r s : Registry) → text .Fits (said r) → text .Fits (said s) → textOf r ≡ textOf s → Same r s

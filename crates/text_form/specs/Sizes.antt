@@ -98,7 +98,9 @@ list-most
     : {A : Type 0} {f : Form A} (plural key : String) (k : ℕ) → Most f (λ a. k)
     → Most (list plural key f) (λ l. length (bytes plural ++ bytes "=") + 21 + (length (bytes key ++ bytes "=") + k) * length l)
 list-most {A} {f} plural key k h =
-    record { most = λ l w. rw (sum-same (length (bytes key ++ bytes "=") + k) l) at (counted-most (line-most key h) (length (bytes plural ++ bytes "=") + 21) (line-most plural numberMost) .most l w) }
+    let c = length (bytes plural ++ bytes "=") + 21 in
+    let m = length (bytes key ++ bytes "=") + k in
+    record { most = λ l w. rw (sum-same m l) at (counted-most (line-most key h) c (line-most plural numberMost) .most l w) }
 
 option-most : Most numberOrNone (λ o. 21)
 option-most = record {
@@ -155,7 +157,9 @@ block-length p l =
 pub block-most : (p : Plugin) → block .Fits p → Lists p → length (block .write p) ≤ 1399 + 46 * rowsOf p
 block-most p l o = omega (arith, block-length p l, o .realm-rows, o .dependencies, o .provisions)
 
-blocks-most : (l : List Plugin) → FitAll block l → ((p : Plugin) → In p l → Lists p) → length (writeAll block l) ≤ sum (λ (p : Plugin). 1399 + 46 * rowsOf p) l
+blocks-most
+    : (l : List Plugin) → FitAll block l → ((p : Plugin) → In p l → Lists p)
+    → length (writeAll block l) ≤ sum (λ (p : Plugin). 1399 + 46 * rowsOf p) l
 blocks-most [] h o = omega arith
 blocks-most (p ∷ l) h o =
     omega (arith, length-append (block .write p) (writeAll block l), block-most p (h .0) (o p (inl refl)), blocks-most l (h .1) (λ q m. o q (inr m)))
@@ -171,7 +175,9 @@ plugins-line : (n : ℕ) → n ≤ last → length (line "plugins" number .write
 plugins-line n h = line-most "plugins" numberMost .most n h
 
 -- A registry's text, by its plugins and rows.
-pub text-most : (r : Registry) → text .Fits (said r) → ((p : Plugin) → In p (plugins r) → Lists p) → length (textOf r) ≤ 110 + 1399 * count r + 46 * rowsInUse r
+pub text-most
+    : (r : Registry) → text .Fits (said r) → ((p : Plugin) → In p (plugins r) → Lists p)
+    → length (textOf r) ≤ 110 + 1399 * count r + 46 * rowsInUse r
 unfolding textOf count rowsInUse
 text-most r l o =
     let ps = byId (plugins r) in
@@ -200,7 +206,9 @@ rows-most (p ∷ l) o =
     omega (arith, rows-most l (λ q m. o q (inr m)), k .dependencies, k .provisions)
 
 -- Of 32 plugins, each as long as it may be; and of a registry that operations build.
-pub any-text : (r : Registry) → text .Fits (said r) → ((p : Plugin) → In p (plugins r) → Lists p) → length (r .places) ≤ 32 → length (textOf r) ≤ 139086
+pub any-text
+    : (r : Registry) → text .Fits (said r) → ((p : Plugin) → In p (plugins r) → Lists p) → length (r .places) ≤ 32
+    → length (textOf r) ≤ 139086
 unfolding count rowsInUse
 any-text r l o h = omega (arith, text-most r l o, held-most (r .places), rows-most (plugins r) o)
 
