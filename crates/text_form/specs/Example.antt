@@ -4,6 +4,8 @@ use Prim.Native.String.{String}
 use mathlib.Core.Path.{_≡_, refl}
 use mathlib.Core.List.{List, [], _∷_}
 use mathlib.Core.Option.{none, some}
+use lib.Dec.{eqb}
+use Rattle.rules.specs.Basics.{pick}
 use Rattle.rules.specs.Holds.{port, Registry, opened, lookup, count, provider, rowsInUse}
 use Rattle.rules.specs.Outcomes.{after, checked, found}
 use Rattle.rules.specs.Ports.{badRealms, resolve}
@@ -21,6 +23,14 @@ use Rattle.text_decimal.specs.Numbers.{numberOf, valueFrom}
 use Rattle.text_form.specs.Forms.{expect}
 use Rattle.text_form.specs.Numbers.{readNumber, upTo}
 use Rattle.text_form.specs.Text.{insert, byId, said, textOf, readText, written-read}
+
+-- The document shows a text's lines parted by spaces.
+abbrev pub ended : List ℕ → List ℕ
+ended [] = 10 ∷ []
+ended (b ∷ l) = pick (eqb b 32) 10 b ∷ ended l
+
+abbrev pub shown : String → List ℕ
+shown s = ended (bytes s)
 
 -- of domain 7 and this first id
 abbrev pub built : ℕ → List Op → Registry
@@ -55,30 +65,30 @@ abbrev pub lastId : Registry
 lastId = built (2 ^ 64 - 2) (registers none (port 0 (2 ^ 64 - 1)) [] [] [] ∷ [])
 
 abbrev pub exampleText : String
-exampleText = "domain=7\nfirst=0\nnext=1\nplugins=1\nid=0\nparent=none\nphase=0\nretired=0\ngeneration=0\nrevision=0\npayload=40\nroot=0\nqueued=none\nanchor=9,0\nrealms=1\nrealm=2,5\ndeps=0\nprovs=1\nprov=2,5,none\n"
+exampleText = "domain=7 first=0 next=1 plugins=1 id=0 parent=none phase=0 retired=0 generation=0 revision=0 payload=40 root=0 queued=none anchor=9,0 realms=1 realm=2,5 deps=0 provs=1 prov=2,5,none"
 
 abbrev pub lastIdText : String
-lastIdText = "domain=7\nfirst=18446744073709551614\nnext=18446744073709551615\nplugins=1\nid=18446744073709551614\nparent=none\nphase=0\nretired=0\ngeneration=0\nrevision=0\npayload=40\nroot=0\nqueued=none\nanchor=0,18446744073709551615\nrealms=0\ndeps=0\nprovs=0\n"
+lastIdText = "domain=7 first=18446744073709551614 next=18446744073709551615 plugins=1 id=18446744073709551614 parent=none phase=0 retired=0 generation=0 revision=0 payload=40 root=0 queued=none anchor=0,18446744073709551615 realms=0 deps=0 provs=0"
 
 pub record Texts : Type 0 where
-  pub example-text : textOf example ≡ bytes exampleText
-  pub example-back : readText (bytes exampleText) ≡ some (said example)
-  pub empty : textOf (built 0 []) ≡ bytes "domain=7\nfirst=0\nnext=0\nplugins=0\n"
+  pub example-text : textOf example ≡ shown exampleText
+  pub example-back : readText (shown exampleText) ≡ some (said example)
+  pub empty : textOf (built 0 []) ≡ shown "domain=7 first=0 next=0 plugins=0"
   pub by-rising-id
       : textOf family
-      ≡ bytes "domain=7\nfirst=1\nnext=4\nplugins=2\nid=2\nparent=none\nphase=0\nretired=0\ngeneration=0\nrevision=0\npayload=40\nroot=0\nqueued=none\nanchor=101,0\nrealms=0\ndeps=2\ndep=2,0\ndep=3,0\nprovs=0\nid=3\nparent=2\nphase=0\nretired=0\ngeneration=0\nrevision=0\npayload=40\nroot=0\nqueued=none\nanchor=102,0\nrealms=2\nrealm=2,5\nrealm=9,1\ndeps=3\ndep=9,1\ndep=2,0\ndep=2,5\nprovs=1\nprov=3,0,none\n"
+      ≡ shown "domain=7 first=1 next=4 plugins=2 id=2 parent=none phase=0 retired=0 generation=0 revision=0 payload=40 root=0 queued=none anchor=101,0 realms=0 deps=2 dep=2,0 dep=3,0 provs=0 id=3 parent=2 phase=0 retired=0 generation=0 revision=0 payload=40 root=0 queued=none anchor=102,0 realms=2 realm=2,5 realm=9,1 deps=3 dep=9,1 dep=2,0 dep=2,5 provs=1 prov=3,0,none"
   pub queued-root
       : textOf queued
-      ≡ bytes "domain=7\nfirst=1\nnext=2\nplugins=1\nid=1\nparent=none\nphase=1\nretired=0\ngeneration=1\nrevision=0\npayload=40\nroot=1\nqueued=0,24\nanchor=9,0\nrealms=1\nrealm=2,5\ndeps=0\nprovs=1\nprov=2,5,none\n"
+      ≡ shown "domain=7 first=1 next=2 plugins=1 id=1 parent=none phase=1 retired=0 generation=1 revision=0 payload=40 root=1 queued=0,24 anchor=9,0 realms=1 realm=2,5 deps=0 provs=1 prov=2,5,none"
   pub value
       : textOf served
-      ≡ bytes "domain=7\nfirst=1\nnext=2\nplugins=1\nid=1\nparent=none\nphase=2\nretired=1\ngeneration=1\nrevision=0\npayload=40\nroot=2\nqueued=none\nanchor=9,0\nrealms=1\nrealm=2,5\ndeps=0\nprovs=1\nprov=2,5,77\n"
-  pub last-id : textOf lastId ≡ bytes lastIdText
+      ≡ shown "domain=7 first=1 next=2 plugins=1 id=1 parent=none phase=2 retired=1 generation=1 revision=0 payload=40 root=2 queued=none anchor=9,0 realms=1 realm=2,5 deps=0 provs=1 prov=2,5,77"
+  pub last-id : textOf lastId ≡ shown lastIdText
   -- no texts: a leading zero, 2^64, a count too high or too low, a line that does not end or is not there
-  pub leading-zero : readText (bytes "domain=07\nfirst=0\nnext=0\nplugins=0\n") ≡ none
-  pub too-high : readText (bytes "domain=18446744073709551616\nfirst=0\nnext=0\nplugins=0\n") ≡ none
-  pub one-too-few : readText (bytes "domain=7\nfirst=0\nnext=0\nplugins=1\n") ≡ none
-  pub one-too-many : readText (bytes "domain=7\nfirst=0\nnext=0\nplugins=0\nid=0\n") ≡ none
+  pub leading-zero : readText (shown "domain=07 first=0 next=0 plugins=0") ≡ none
+  pub too-high : readText (shown "domain=18446744073709551616 first=0 next=0 plugins=0") ≡ none
+  pub one-too-few : readText (shown "domain=7 first=0 next=0 plugins=1") ≡ none
+  pub one-too-many : readText (shown "domain=7 first=0 next=0 plugins=0 id=0") ≡ none
   pub unended : readText (bytes "domain=7\nfirst=0\nnext=0\nplugins=0") ≡ none
   pub nothing : readText [] ≡ none
 
@@ -91,7 +101,7 @@ texts = record {
   by-rising-id = refl;
   queued-root = refl;
   value = refl;
-  last-id = written-read (bytes lastIdText) (said lastId) refl .1;
+  last-id = written-read (shown lastIdText) (said lastId) refl .1;
   leading-zero = refl;
   too-high = refl;
   one-too-few = refl;
