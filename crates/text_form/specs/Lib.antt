@@ -1,0 +1,10 @@
+pub mod Forms
+pub mod Numbers
+pub mod Values
+pub mod Text
+pub mod Example
+pub mod Rising
+pub mod Parts
+pub mod Same
+pub mod Sizes
+pub mod Fit
