@@ -1,6 +1,6 @@
 -- The digits of a tenth stand in front of the last digit. The measure is the number.
 use native.Mathlib.Omega.{arith}
-use Rattle.text_decimal.proofs.Writing.{tenth, one-digit, more-digits}
+use Rattle.text_decimal.specs.Writing.{tenth, one-digit, more-digits}
 use borrow.Author.Needs.{needs}
 use Prim.Native.Nat.{ℕ, _<_}
 use borrow.Fn.Kinds.{In}

@@ -4,7 +4,7 @@ use Prim.Native.Nat.{_-_}
 use native.Mathlib.Omega.{arith}
 use lib.ListN.{length, drop}
 use Rattle.text_decimal.specs.Numbers.{valueFrom}
-use Rattle.text_decimal.proofs.Reading.{value-end, value-low, value-high, value-over, value-next}
+use Rattle.text_decimal.specs.Reading.{value-end, value-low, value-high, value-over, value-next}
 use borrow.Author.Needs.{needs}
 use Rattle.text_decimal.proofs.read_digits.Statement.{statement}
 use Rattle.text_decimal.proofs.read_digits.Tie as tie
