@@ -10,7 +10,7 @@ use lib.ListN.{length, getD, take, drop, set, length-drop, drop-of-length-le}
 use lib.Seq.{paste, paste-suc, take-all, take-at, drop-cons}
 use borrow.Author.Tests.{lt-ltb, le-ltb, eq-eqb, ne-eqb}
 use Rattle.rules.specs.Basics.{pick}
-use Rattle.text_decimal.specs.Digits.{decimalOf, Written}
+use Rattle.text_decimal.specs.Digits.{decimalOf}
 use Rattle.console_answer.specs.Pages.{Page, upTo, room, putOn, numberOn, numbersOn}
 use Rattle.console_answer.specs.Answers.{okWord, yesWord, noWord, noneWord, wordOn, toldIn, answerIn, refusalOn, answerOn, orNoneOn, answerOrNoneOn, saysYes, answerYesNoOn}
 
@@ -28,14 +28,10 @@ module _ (text bytes : List ℕ) (from : ℕ) where
   unfolding putOn
   all-put now i h e p = rw (le-ltb room (from + length bytes) h, p, e, take-all (length bytes) bytes (omega arith))
 
--- The part of an array where a number was written is its digits.
-digits : (n r : ℕ) (before after : List ℕ) → Written n r before after → take r after ≡ decimalOf n
-digits n r before after w = ap (λ (l : List ℕ). take r l) (w .bytes) ∙ take-at (decimalOf n) (drop (length (decimalOf n)) before) r (sym (w .count))
-
 -- A space, then the digits.
-pub behind-space : (p q r : Page) (n k : ℕ) (before after : List ℕ) → q ≡ putOn p (32 ∷ []) → Written n k before after → r ≡ putOn q (take k after) → r ≡ numberOn p n
+pub behind-space : (p q r : Page) (n : ℕ) (digits : List ℕ) → q ≡ putOn p (32 ∷ []) → digits ≡ decimalOf n → r ≡ putOn q digits → r ≡ numberOn p n
 unfolding numberOn
-behind-space p q r n k before after e w f = f ∙ rw (e, digits n k before after w)
+behind-space p q r n digits e w f = f ∙ rw (e, w)
 
 module _ (p : Page) (l : List ℕ) (i : ℕ) where
   pub numbers-next : i < length l → numbersOn p (drop i l) ≡ numbersOn (numberOn p (getD l i 0)) (drop (i + 1) l)

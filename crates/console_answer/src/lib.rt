@@ -53,10 +53,10 @@ pub fn put(text: &mut [u8; ROOM], from: usize, bytes: &[u8]) -> usize
 pub fn number(text: &mut [u8; ROOM], from: usize, n: u64) -> usize
     ensures { λ r. ⌜ upTo (now (text .exit)) r ≡ numberOn (upTo (now (text .entry)) from) n ⌝ }
 {
-    let mut digits = [0u8; 20];
-    let long = text_decimal::write_decimal(n, &mut digits);
+    let mut scratch = [0u8; 20];
+    let digits = text_decimal::write_decimal(n, &mut scratch);
     let at = put(text, from, b" ");
-    put(text, at, &digits[..long])
+    put(text, at, digits)
 }
 
 pub fn numbers(text: &mut [u8; ROOM], from: usize, list: &[u64]) -> usize

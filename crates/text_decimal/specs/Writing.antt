@@ -3,13 +3,13 @@ use Prim.Native.Nat.{ℕ, zero, suc, _+_, _-_, _/_, _%_, _^_, _≤_, _<_}
 use mathlib.Core.Path.{_≡_, refl, sym, ap, _∙_}
 use mathlib.Core.List.{List, [], _∷_, _++_, append-assoc}
 use mathlib.Core.Logic.{_⊎_, inl, inr, ⊎-elim}
-use native.Mathlib.Nat.{pow-suc, eq-zero-or-pos}
+use native.Mathlib.Nat.{pow-suc, one-le-pow, eq-zero-or-pos}
 use native.Mathlib.Numerals.{add-one}
 use native.Mathlib.Omega.{arith}
-use lib.ListN.{length, getD, drop, set, length-append, length-drop, length-set}
-use lib.Seq.{drop-cons, set-at, set-split, length-take-le}
+use lib.ListN.{length, take, drop, set, length-append}
+use lib.Seq.{set-split, drop-at, take-at, length-take-le}
 use borrow.Author.Tests.{lt-ltb, le-ltb}
-use Rattle.text_decimal.specs.Digits.{digitsIn, decimalOf, over, Written}
+use Rattle.text_decimal.specs.Digits.{digitsIn, decimalOf, over, shown, Written}
 
 pub below10 : (n : ℕ) → (10 ≤ n) ⊎ (n < 10)
 below10 n = ⊎-elim (λ (z : 10 - n ≡ 0). inl (omega arith)) (λ (p : 0 < 10 - n). inr (omega arith)) (eq-zero-or-pos (10 - n))
@@ -46,26 +46,60 @@ digits-most (suc k) n h =
     let rest : length (decimalOf (n / 10)) ≤ suc k = digits-most k (n / 10) (omega (arith, pow-suc 10 (suc k))) in
     ⊎-elim (λ (g : 10 ≤ n). omega (arith, digits-length n g)) (λ (l : n < 10). omega (arith, ap length (digits-one n l))) (below10 n)
 
--- A tenth of a word's number has at most 19 digits.
-pub tenth : (n : ℕ) → n < 2 ^ 64 → length (decimalOf (n / 10)) ≤ 19
-tenth n h = digits-most 18 (n / 10) (omega arith)
+-- A number has a digit, and from 10 ^ k on at least k + 1.
+pub digits-some : (n : ℕ) → 0 < length (decimalOf n)
+digits-some n = ⊎-elim (λ (g : 10 ≤ n). omega (arith, digits-length n g)) (λ (l : n < 10). omega (arith, ap length (digits-one n l))) (below10 n)
 
-over-last : (d l : List ℕ) (x : ℕ) → over (d ++ x ∷ []) l ≡ d ++ x ∷ drop (suc (length d)) l
-over-last d l x = append-assoc d (x ∷ []) (drop (length (d ++ x ∷ [])) l) ∙ ap (λ (k : ℕ). d ++ x ∷ drop k l) (length-append d (x ∷ []) ∙ add-one (length d))
+pub digits-least : (k n : ℕ) → 10 ^ k ≤ n → suc k ≤ length (decimalOf n)
+digits-least zero n h = digits-some n
+digits-least (suc k) n h =
+    let e = pow-suc 10 k in
+    let p = one-le-pow k 10 (omega arith) in
+    let g : 10 ≤ n = omega arith in
+    let rest : suc k ≤ length (decimalOf (n / 10)) = digits-least k (n / 10) (omega arith) in
+    omega (arith, digits-length n g)
 
-module _ (n : ℕ) (l : List ℕ) (room : length l ≡ 20) where
-  pub one-digit : n < 10 → Written n 1 l (set l 0 (48 + n))
-  one-digit h = record { count = rw (digits-one n h); bytes = rw (digits-one n h) (set-split l 0 (48 + n) (omega arith)); fits = simp length-set (omega arith); part = sym (length-take-le 1 (set l 0 (48 + n)) (simp length-set (omega arith))) }
+-- So many digits, from both sides.
+pub digits-exactly : (k n : ℕ) → k ≤ length (decimalOf n) → 0 < k → n < 10 ^ k → k ≡ length (decimalOf n)
+digits-exactly zero n l p h = absurd (omega arith)
+digits-exactly (suc k) n l p h = omega (arith, digits-most k n h)
 
-  pub more-digits : n < 2 ^ 64 → 10 ≤ n → (at : ℕ) (t : List ℕ) → Written (n / 10) at l t → Written n (at + 1) l (set t at (48 + n % 10))
-  more-digits f h at t w =
-      let d = decimalOf (n / 10) in
-      let few : length d ≤ 19 = tenth n f in
-      let e : at ≡ length d = w .count in
-      let long : length t ≡ 20 = omega (arith, ap length (w .bytes), length-append d (drop (length d) l), length-drop (length d) l) in
-      let there : set t at (48 + n % 10) ≡ over (decimalOf n) l =
-      ap (λ (s : List ℕ). set s at (48 + n % 10)) (w .bytes ∙ ap (λ (r : List ℕ). d ++ r) (drop-cons l (length d) 0 (omega arith)))
-      ∙ set-at d (getD l (length d) 0) (drop (suc (length d)) l) (48 + n % 10) at (sym e)
-      ∙ sym (ap (λ (m : List ℕ). over m l) (digits-more n h) ∙ over-last d l (48 + n % 10))
-      in
-      record { count = omega (arith, digits-length n h); bytes = there; fits = simp length-set (omega arith); part = sym (length-take-le (at + 1) (set t at (48 + n % 10)) (simp length-set (omega arith))) }
+-- No number has more than 20 digits.
+pub digits-room : (n : ℕ) → n < 2 ^ 64 → length (decimalOf n) ≤ 20
+digits-room n h = digits-most 19 n (omega arith)
+
+stored : (l : List ℕ) (i x : ℕ) → i < length l → drop i (set l i x) ≡ x ∷ drop (suc i) l
+stored l i x h = ap (λ (s : List ℕ). drop i s) (set-split l i x h) ∙ drop-at (take i l) (x ∷ drop (suc i) l) i (length-take-le i l (omega arith))
+
+-- The last digit is stored, and those before it are still to come.
+over-last : (d l : List ℕ) (x : ℕ) → length d < length l → over (d ++ x ∷ []) l ≡ over d (set l (length d) x)
+over-last d l x h =
+    append-assoc d (x ∷ []) (drop (length (d ++ x ∷ [])) l)
+    ∙ ap (λ (k : ℕ). d ++ x ∷ drop k l) (length-append d (x ∷ []) ∙ add-one (length d))
+    ∙ ap (λ (r : List ℕ). d ++ r) (sym (stored l (length d) x h))
+
+module _ (n : ℕ) (l : List ℕ) where
+  pub digit-stored : (i : ℕ) → 10 ≤ n → i + 1 ≡ length (decimalOf n) → i < length l → over (decimalOf n) l ≡ over (decimalOf (n / 10)) (set l i (48 + n % 10))
+  digit-stored i g e h =
+      let j : length (decimalOf (n / 10)) ≡ i = omega (arith, digits-length n g) in
+      let k : length (decimalOf (n / 10)) < length l = omega arith in
+      ap (λ (d : List ℕ). over d l) (digits-more n g) ∙ over-last (decimalOf (n / 10)) l (48 + n % 10) k ∙ ap (λ (p : ℕ). over (decimalOf (n / 10)) (set l p (48 + n % 10))) j
+
+  pub first-stored : n < 10 → 0 < length l → over (decimalOf n) l ≡ set l 0 (48 + n)
+  first-stored h p = rw (digits-one n h) (sym (set-split l 0 (48 + n) p))
+
+  -- What the count says of the scratch, from the two equations.
+  pub written : (r : ℕ) (after : List ℕ) → r ≡ length (shown n l) → after ≡ over (shown n l) l → Written n r l after
+  written r after c b =
+      let h : r ≤ length after = omega (arith, ap length b, length-append (shown n l) (drop (length (shown n l)) l)) in
+      record { count = c; bytes = b; fits = h; part = sym (length-take-le r after h) }
+
+  pub too-short : length l < 20 → Written n 0 l l
+  too-short h = written 0 l (rw (lt-ltb (length l) 20 h)) (rw (lt-ltb (length l) 20 h))
+
+  pub long-enough : (r : ℕ) (after : List ℕ) → 20 ≤ length l → r ≡ length (decimalOf n) → after ≡ over (decimalOf n) l → Written n r l after
+  long-enough r after h c b = written r after (rw (le-ltb (length l) 20 h) c) (rw (le-ltb (length l) 20 h) b)
+
+  -- The part that is handed back.
+  pub written-part : (r : ℕ) (after : List ℕ) → Written n r l after → take r after ≡ shown n l
+  written-part r after w = ap (λ (s : List ℕ). take r s) (w .bytes) ∙ take-at (shown n l) (drop (length (shown n l)) l) r (sym (w .count))

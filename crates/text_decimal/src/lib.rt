@@ -1,7 +1,8 @@
 // Numbers as the console writes and reads them: decimal, without leading zeros, at most 2^64 − 1.
 ghost use mathlib.Core.Path.{_≡_};
+ghost use Prim.Native.Nat.{_≤_};
 ghost use lib.ListN.{length};
-ghost use Rattle.text_decimal.specs.Digits.{Written};
+ghost use Rattle.text_decimal.specs.Digits.{decimalOf, over, shown, Written};
 ghost use Rattle.text_decimal.specs.Numbers.{readOf, valueFrom, numberOf};
 
 // The number that a word is, if it is one.
@@ -10,31 +11,56 @@ pub enum Decimal {
     Not,
 }
 
-fn count(bytes: &[u8]) -> usize
-    ensures { λ r. ⌜ r ≡ length (now (bytes .entry)) ⌝ }
+// How many digits a number has: one more for each power of ten that it reaches.
+fn digit_count(n: u64) -> usize
+    ensures { λ r. ⌜ r ≡ length (decimalOf n) ⌝ }
 {
-    bytes.len()
-}
-
-// An array's list is as long as its type says.
-fn known(out: &[u8; 20])
-    ensures { λ _. ⌜ length (now (out .entry)) ≡ 20 ⌝ }
-{
-    count(out);
-}
-
-// The number stands in decimal at the front of out, whose rest stays. The result is how many bytes it takes.
-pub fn write_decimal(n: u64, out: &mut [u8; 20]) -> usize
-    ensures { λ r. ⌜ Written n r (now (out .entry)) (now (out .exit)) ⌝ }
-{
-    known(out);
-    if n < 10 {
-        out[0] = (48 + n) as u8;
-        return 1;
+    let mut count: usize = 1;
+    let mut power: u64 = 10;
+    while count < 19 {
+        if n < power {
+            return count;
+        }
+        power *= 10;
+        count += 1;
     }
-    let at = write_decimal(n / 10, out);
-    out[at] = (48 + n % 10) as u8;
-    at + 1
+    if n < power { 19 } else { 20 }
+}
+
+// The digits of the number, so many, at the front of the scratch, from the last to the first.
+fn fill(n: u64, count: usize, scratch: &mut [u8])
+    requires { ⌜ count ≡ length (decimalOf n) ⌝ ∗ ⌜ count ≤ length (now scratch) ⌝ }
+    ensures { λ _. ⌜ now (scratch .exit) ≡ over (decimalOf n) (now (scratch .entry)) ⌝ }
+{
+    let mut left = n;
+    let mut i = count - 1;
+    while 10 <= left {
+        scratch[i] = (48 + left % 10) as u8;
+        left /= 10;
+        i -= 1;
+    }
+    scratch[0] = (48 + left) as u8;
+}
+
+// The number stands in decimal at the front of the scratch, whose rest stays. The result is how many bytes it takes. A scratch that
+// is shorter than 20 bytes stays as it is, and the result is 0.
+pub fn write_digits(n: u64, scratch: &mut [u8]) -> usize
+    ensures { λ r. ⌜ Written n r (now (scratch .entry)) (now (scratch .exit)) ⌝ }
+{
+    if scratch.len() < 20 {
+        return 0;
+    }
+    let count = digit_count(n);
+    fill(n, count, scratch);
+    count
+}
+
+// The part of the scratch that holds the number in decimal: empty where the scratch is shorter than 20 bytes.
+pub fn write_decimal<'a>(n: u64, scratch: &'a mut [u8]) -> &'a mut [u8]
+    ensures { λ r. ⌜ now r ≡ shown n (now (scratch .entry)) ⌝ }
+{
+    let count = write_digits(n, scratch);
+    &mut scratch[..count]
 }
 
 // The number that these bytes are, each a digit; leading zeros count for nothing.
