@@ -10,7 +10,7 @@ use lib.ListN.{length, getD, take, drop, set, length-drop, drop-of-length-le}
 use lib.Seq.{paste, paste-suc, take-all, take-at, drop-cons}
 use borrow.Author.Tests.{lt-ltb, le-ltb, eq-eqb, ne-eqb}
 use Rattle.rules.specs.Basics.{pick}
-use Rattle.text_decimal.specs.Digits.{decimalOf}
+use Rattle.text_form.specs.Digits.{decimalOf}
 use Rattle.console_answer.specs.Pages.{Page, upTo, room, putOn, numberOn, numbersOn}
 use Rattle.console_answer.specs.Answers.{okWord, yesWord, noWord, noneWord, wordOn, toldIn, answerIn, refusalOn, answerOn, orNoneOn, answerOrNoneOn, saysYes, answerYesNoOn}
 

@@ -6,7 +6,7 @@ use lib.Dec.{eqb}
 use lib.ListN.{getD, take, drop}
 use Rattle.rules.specs.Basics.{pick}
 use Rattle.rules.specs.Outcomes.{Answer, Refused, Accepted}
-use Rattle.text_decimal.specs.Text.{bytes}
+use Rattle.text_form.specs.Bytes.{bytes}
 use Rattle.console_answer.specs.Pages.{Page, putOn, numberOn, numbersOn}
 
 abbrev pub okWord : List ℕ

@@ -5,7 +5,7 @@ use lib.Dec.{ltb}
 use lib.ListN.{length}
 use Rattle.rules.specs.Basics.{pick}
 use Rattle.rules.specs.Outcomes.{written}
-use Rattle.text_decimal.specs.Digits.{decimalOf}
+use Rattle.text_form.specs.Digits.{decimalOf}
 
 pub record Page : Type 0 where
   pub text : List ℕ

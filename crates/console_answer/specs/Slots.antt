@@ -5,7 +5,7 @@ use mathlib.Core.Option.{Option, none, some}
 use Rattle.rules.specs.Outcomes.{Answer, Refused, Accepted}
 use Rattle.rules.specs.Retirement.{Identity}
 use Rattle.rules.specs.Slot.{Slot, Decided, Decision, Pending, Assigned, Failed, Cancelled}
-use Rattle.text_decimal.specs.Text.{bytes}
+use Rattle.text_form.specs.Bytes.{bytes}
 use Rattle.console_answer.specs.Pages.{Page, putOn, numberOn}
 use Rattle.console_answer.specs.Answers.{okWord, noneWord, wordOn, answerOn}
 

@@ -7,8 +7,8 @@ use mathlib.Core.Option.{none, some}
 use lib.Dec.{eqb}
 use lib.ListN.{length}
 use Rattle.rules.specs.Basics.{sameNumbers}
-use Rattle.text_decimal.specs.Text.{bytes}
-use Rattle.text_decimal.specs.Numbers.{numberOf}
+use Rattle.text_form.specs.Bytes.{bytes}
+use Rattle.text_form.specs.Words.{numberOf}
 use Rattle.console_words.specs.Words.{nextWord, bytesOf}
 use Rattle.console_words.specs.Runs.{numberAt, runFrom, Gathered}
 use Rattle.console_words.specs.declared.Span.{Span}

@@ -8,7 +8,7 @@ use lib.ListN.{length}
 use Rattle.rules.specs.Basics.{pick, isSome, orElse, sameNumbers}
 use Rattle.rules.specs.Holds.{port}
 use Rattle.rules.specs.Registration.{Definition}
-use Rattle.text_decimal.specs.Text.{bytes}
+use Rattle.text_form.specs.Bytes.{bytes}
 use Rattle.console_words.specs.Words.{nextWord, bytesOf}
 use Rattle.console_words.specs.Runs.{Numbers, numberAt, runFrom}
 use Rattle.console_definition.specs.declared.Parent.{Parent}

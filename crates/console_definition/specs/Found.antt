@@ -3,7 +3,7 @@ use Prim.Native.Nat.{ℕ}
 use mathlib.Core.Path.{_≡_}
 use mathlib.Core.List.{List}
 use lib.ListN.{length}
-use Rattle.text_decimal.specs.Digits.{over}
+use Rattle.text_form.specs.Digits.{over}
 use Rattle.console_words.specs.Fronts.{Front}
 use Rattle.console_definition.specs.Draft.{Listed, ThreeLists}
 use Rattle.console_definition.specs.declared.Counted.{Counted}

@@ -10,7 +10,7 @@ use Rattle.rules.specs.Holds.{port}
 use Rattle.rules.specs.Queries.{RowsInUse, Registered, NextId}
 use Rattle.rules.specs.Steps.{Op, Begin, Ready, Fail, Unload, Finish, Replace, Admit, Call, Retire, RetireChild, Remove, Offer, Ask}
 use Rattle.rules.specs.Questions.{Question, ResolveKey, DependencyPort, Fits, ChildIdentity, Read, Visible, FirstMissing, Matching, Declares, AskRegistry}
-use Rattle.text_decimal.specs.Text.{bytes}
+use Rattle.text_form.specs.Bytes.{bytes}
 use Rattle.console_names.specs.declared.Count.{Count}
 use Rattle.console_names.specs.declared.Count.the-variants.{Exactly, AtLeast}
 use Rattle.console_names.specs.declared.Values.{Values}

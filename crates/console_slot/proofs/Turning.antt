@@ -9,7 +9,7 @@ use lib.ListN.{length, getD}
 use Rattle.rules.specs.Basics.{sameNumbers}
 use Rattle.rules.specs.Retirement.{Identity}
 use Rattle.rules.specs.Slot as rules
-use Rattle.text_decimal.specs.Text.{bytes}
+use Rattle.text_form.specs.Bytes.{bytes}
 use Rattle.console_slot.specs.Turns.{newSlot, withNone, withThree, turnedBy}
 
 abbrev pub newTurn : rules.Slot → Option rules.Decided

@@ -6,7 +6,7 @@ use Rattle.rules.specs.Basics.{pick, sameNumbers}
 use Rattle.rules.specs.Outcomes.{Accepted}
 use Rattle.rules.specs.Retirement.{Identity}
 use Rattle.rules.specs.Slot as rules
-use Rattle.text_decimal.specs.Text.{bytes}
+use Rattle.text_form.specs.Bytes.{bytes}
 use Rattle.slot.specs.Slots.{decidedOf}
 use Rattle.console_slot.specs.declared.Turn.{Turn}
 use Rattle.console_slot.specs.declared.Turn.the-variants.{Bad, Now}

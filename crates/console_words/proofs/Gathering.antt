@@ -7,7 +7,7 @@ use native.Mathlib.Numerals.{add-one}
 use native.Mathlib.Omega.{arith}
 use lib.ListN.{length, take, drop, set, length-set, take-append-drop}
 use lib.Seq.{length-take-le, drop-drop, drop-set-lt, take-suc-set}
-use Rattle.text_decimal.specs.Numbers.{numberOf}
+use Rattle.text_form.specs.Words.{numberOf}
 use Rattle.console_words.specs.Words.{nextWord, bytesOf}
 use Rattle.console_words.specs.declared.Span.{Span}
 use Rattle.console_words.specs.Runs.{Numbers, orStop, runFrom, Gathered}

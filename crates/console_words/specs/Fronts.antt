@@ -5,7 +5,7 @@ use mathlib.Core.List.{List}
 use native.Mathlib.Omega.{arith}
 use lib.ListN.{length, length-append, take, drop}
 use lib.Seq.{take-append-seam}
-use Rattle.text_decimal.specs.Digits.{over}
+use Rattle.text_form.specs.Digits.{over}
 
 -- A list of n numbers went there; the last two say that n fits the array, for whoever takes that part.
 pub record Front (l : List ℕ) (n : ℕ) (before after : List ℕ) : Type 0 where

@@ -4,8 +4,8 @@ use mathlib.Core.Path.{_≡_}
 use mathlib.Core.List.{List, [], _∷_}
 use mathlib.Core.Option.{Option, none, some}
 use lib.ListN.{length}
-use Rattle.text_decimal.specs.Digits.{over}
-use Rattle.text_decimal.specs.Numbers.{numberOf}
+use Rattle.text_form.specs.Digits.{over}
+use Rattle.text_form.specs.Words.{numberOf}
 use Rattle.console_words.specs.Words.{nextWord, bytesOf}
 use Rattle.console_words.specs.declared.Run.{Run}
 

@@ -13,7 +13,7 @@ use lib.ListN.{length, take, drop, drop-of-length-le}
 use lib.Seq.{drop-drop}
 use borrow.Author.Tests.{lt-ltb, le-ltb}
 use Rattle.rules.specs.Basics.{pick}
-use Rattle.text_decimal.specs.Numbers.{numberOf}
+use Rattle.text_form.specs.Words.{numberOf}
 use Rattle.console_words.specs.Runs.{orStop, runFrom}
 use Rattle.console_words.specs.Words.{space, spaces, wordLength, nextWord, bytesOf}
 

@@ -4,7 +4,7 @@ use mathlib.Core.Path.{_≡_, ap}
 use mathlib.Core.List.{List}
 use Rattle.slot.specs.Slots.{slotOf}
 use Rattle.slot.specs.Exact.{slot-exact}
-use Rattle.text_decimal.specs.Digits.{Written}
+use Rattle.text_form.specs.Digits.{Written}
 use Rattle.console_words.specs.Words.{Spanned}
 use Rattle.console_words.specs.Runs.{Gathered}
 use Rattle.console_words.specs.Fronts.{Front}

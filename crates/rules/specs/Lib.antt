@@ -14,9 +14,11 @@ pub mod Values
 pub mod Lists
 pub mod Slot
 pub mod Queries
+pub mod Text
 pub mod Questions
 pub mod Steps
 pub mod Examples
+pub mod TextExamples
 pub mod Reached
 pub mod Acts
 pub mod Demand1

@@ -10,6 +10,7 @@ use Rattle.rules.specs.Admission.{Ticket, admits}
 use Rattle.rules.specs.Retirement.{childIdentity}
 use Rattle.rules.specs.Values.{read, visible, own, missing, matching, declares}
 use Rattle.rules.specs.Lists.{Which, list}
+use Rattle.rules.specs.Text.{writeText}
 use Rattle.rules.specs.Queries.{Field, Total, askPlugin, askRegistry, idFrom}
 
 pub data Question : Type 0 where
@@ -47,6 +48,8 @@ reply r (IdFrom n) = idFrom r n
 -- What is written to a lent buffer.
 pub data Writing : Type 0 where
   Listed : Which → (id place : ℕ) → Writing
+  Text : Writing
 
 abbrev pub writing : Registry → Writing → (buffer : List ℕ) → Outcome
 writing r (Listed w id place) buffer = list r w id place buffer
+writing r Text buffer = writeText r buffer

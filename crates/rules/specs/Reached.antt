@@ -24,8 +24,10 @@ use Rattle.rules.specs.Retirement.{retire, retireChild, childIdentity, r
 use Rattle.rules.specs.Values.{offer, read, visible, own, missing, matching, declares}
 use Rattle.rules.specs.Lists.{listing, list}
 use Rattle.rules.specs.Queries.{askPlugin, idFrom}
+use Rattle.text_form.specs.Digits.{decimalOf, digitsIn}
+use Rattle.rules.specs.Text.{insert, byId, textOf, writeText}
 use Rattle.rules.specs.Steps.{Op, Register, Begin, Ready, Fail, Unload, Finish, Replace, Admit, Call, Ask, Retire, RetireChild, Remove, Offer, Write}
-use Rattle.rules.specs.Questions.{Question, ResolveKey, DependencyPort, Fits, Admits, ChildIdentity, Read, Visible, Own, FirstMissing, Matching, Declares, AskPlugin, AskRegistry, IdFrom, Writing, Listed}
+use Rattle.rules.specs.Questions.{Question, ResolveKey, DependencyPort, Fits, Admits, ChildIdentity, Read, Visible, Own, FirstMissing, Matching, Declares, AskPlugin, AskRegistry, IdFrom, Writing, Listed, Text}
 use Rattle.rules.specs.Examples.{fresh, worn, holding}
 use Rattle.rules.specs.Reached.Transcripts.{Line, Holds, keys}
 use Rattle.rules.specs.Reached.Registrations.{registrations, lastId, fullAndLast, crowd, fullAndLong}
@@ -51,6 +53,7 @@ questionKind (IdFrom n) = 13
 
 abbrev pub writingKind : Writing → ℕ
 writingKind (Listed w id place) = 0
+writingKind Text = 1
 
 abbrev pub kind : Op → ℕ
 kind (Register d) = 0
@@ -102,11 +105,11 @@ pub record Reached : Type 0 where
   pub fullAndLast : Holds (opened 7 (2 ^ 64 - 33)) fullAndLast
   pub crowd : Holds fresh crowd
   pub fullAndLong : Holds fresh fullAndLong
-  pub every-operation : all acceptedSomewhere (keys 13 0 ++ keys 14 100 ++ keys 1 200) ≡ true
+  pub every-operation : all acceptedSomewhere (keys 13 0 ++ keys 14 100 ++ keys 2 200) ≡ true
   pub every-refusal : all givenSomewhere (keys 23 1) ≡ true
 
 pub reached : Reached
-unfolding after lentAfter checked found handingBack lookup count provider rowsInUse badRealms resolve resolveKey dependencyList dependencyPort dependenciesOf newPlugin register begin ready fail unload finish replace fits admit admits isLive call retire retireChild childIdentity remove offer read visible own missing matching declares listing list askPlugin idFrom
+unfolding after lentAfter checked found handingBack lookup count provider rowsInUse badRealms resolve resolveKey dependencyList dependencyPort dependenciesOf newPlugin register begin ready fail unload finish replace fits admit admits isLive call retire retireChild childIdentity remove offer read visible own missing matching declares listing list askPlugin idFrom writeText textOf insert byId decimalOf digitsIn
 reached = record {
   registrations = refl;
   lastId = refl;

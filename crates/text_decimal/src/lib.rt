@@ -2,8 +2,9 @@
 ghost use mathlib.Core.Path.{_≡_};
 ghost use Prim.Native.Nat.{_≤_};
 ghost use lib.ListN.{length};
-ghost use Rattle.text_decimal.specs.Digits.{decimalOf, over, shown, Written};
-ghost use Rattle.text_decimal.specs.Numbers.{readOf, valueFrom, numberOf};
+ghost use Rattle.text_form.specs.Digits.{decimalOf, over, shown, Written};
+ghost use Rattle.text_form.specs.Words.{valueFrom, numberOf};
+ghost use Rattle.text_decimal.specs.Numbers.{readOf};
 
 // The number that a word is, if it is one.
 pub enum Decimal {

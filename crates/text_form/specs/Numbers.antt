@@ -8,13 +8,13 @@ use mathlib.Core.Option.{Option, none, some}
 use lib.Dec.{eqb}
 use lib.ListN.{length}
 use borrow.Author.Tests.{eqb-true, eq-eqb}
-use Rattle.rules.specs.Basics.{pick, any, last}
-use Rattle.rules.specs.Laws.Tests.{by-test, neither}
-use Rattle.text_decimal.specs.Digits.{decimalOf}
-use Rattle.text_decimal.specs.Numbers.{noDigit, numberOf}
-use Rattle.text_decimal.specs.Writing.{digits-most}
-use Rattle.text_decimal.specs.Back.{reads-back}
-use Rattle.text_decimal.specs.Exact.{number-exact, number-lacks}
+use Rattle.rules_basics.specs.Basics.{pick, any, last}
+use Rattle.rules_basics.specs.Tests.{by-test, neither}
+use Rattle.text_form.specs.Digits.{decimalOf}
+use Rattle.text_form.specs.Words.{noDigit, numberOf}
+use Rattle.text_form.specs.Writing.{digits-most}
+use Rattle.text_form.specs.Back.{reads-back}
+use Rattle.text_form.specs.Exact.{number-exact, number-lacks}
 use Rattle.text_form.specs.Forms.{Read, found, torn, andThen, Form, torn-found, parts}
 
 -- The bytes before the first of this kind.

@@ -1,1 +1,1 @@
-// Document 02 [1], the registry as text: definitions and their laws, in specs/. No code.
+// Texts as forms: what is written and what is read by one description, with its two laws. Definitions and laws alone, in specs/. No code.

@@ -10,9 +10,10 @@ use Rattle.rules.specs.Admission.{admits}
 use Rattle.rules.specs.Retirement.{childIdentity}
 use Rattle.rules.specs.Values.{read, visible, own, missing, matching, declares}
 use Rattle.rules.specs.Lists.{listing, list}
+use Rattle.rules.specs.Text.{writeText}
 use Rattle.rules.specs.Queries.{askPlugin, idFrom}
 use Rattle.rules.specs.Questions.{Question, reply, ResolveKey, DependencyPort, Fits, Admits, ChildIdentity, Read, Visible, Own}
-use Rattle.rules.specs.Questions.{FirstMissing, Matching, Declares, AskPlugin, AskRegistry, IdFrom, Writing, writing, Listed}
+use Rattle.rules.specs.Questions.{FirstMissing, Matching, Declares, AskPlugin, AskRegistry, IdFrom, Writing, writing, Listed, Text}
 use Rattle.rules.specs.Laws.Tests.{checked-elim, found-elim}
 
 abbrev pub Quiet : Outcome → Type 0
@@ -47,5 +48,6 @@ reply-quiet r (AskRegistry t) = tt
 reply-quiet r (IdFrom n) = tt
 
 pub writing-quiet : (r : Registry) (w : Writing) (buffer : List ℕ) → Quiet (writing r w buffer)
-unfolding list listing
+unfolding list listing writeText
 writing-quiet r (Listed w id place) buffer = quiet-known r id _ λ p. quiet-checked _ _ tt
+writing-quiet r Text buffer = quiet-checked _ _ tt

@@ -1,27 +1,15 @@
--- Tests and checks: by cases on a test, and what passed checks say.
+-- Checks: what passed ones say, and what comes of a list of them.
 use mathlib.Core.Path.{_≡_, refl}
-use mathlib.Core.Bool.{Bool, true, false, _&&_, _||_}
+use mathlib.Core.Bool.{Bool, true, false}
 use mathlib.Core.List.{List, [], _∷_}
 use mathlib.Core.Option.{Option, none, some}
+pub use Rattle.rules_basics.specs.Tests.{by-test, both, neither}
 use Rattle.rules.specs.Basics.{pick}
 use Rattle.rules.specs.Holds.{Plugin}
 use Rattle.rules.specs.Refusals.{Refusal, Unknown}
 use Rattle.rules.specs.Outcomes.{Outcome, refuses, Check, checked, found}
 -- No proof before the transcripts: an edit of a rule falls to a computed line first.
 use Rattle.rules.specs.Reached as reached
-
--- by cases on a test, with its equation
-pub by-test : {A : Type 0} (b : Bool) → (b ≡ true → A) → (b ≡ false → A) → A
-by-test true f g = f refl
-by-test false f g = g refl
-
-pub both : (a b : Bool) → (a && b) ≡ true → (a ≡ true) × (b ≡ true)
-both true b e = (refl, e)
-both false b e = (e, cc)
-
-pub neither : (a b : Bool) → (a || b) ≡ false → (a ≡ false) × (b ≡ false)
-neither true b e = (e, cc)
-neither false b e = (refl, e)
 
 -- all tests of a list of checks fail
 abbrev pub Passed : List Check → Type 0

@@ -11,9 +11,9 @@ use Rattle.rules.specs.Lists.{Dependencies, Provisions, RealmRows}
 use Rattle.rules.specs.Queries.{Parent, Anchor, PhaseOf, RetiredMark, Generation, Revision, Payload, RootOf}
 use Rattle.rules.specs.Queries.{Domain, FirstId}
 use Rattle.rules.specs.Steps.{Begin, Ready, Fail, Unload, Finish, Replace, Admit, Call, Ask, Retire, RetireChild, Remove, Offer, Write}
-use Rattle.rules.specs.Questions.{ResolveKey, DependencyPort, Fits, Admits, ChildIdentity, Read, Visible, Own, FirstMissing, Matching, Declares, Listed, AskPlugin, AskRegistry, IdFrom}
+use Rattle.rules.specs.Questions.{ResolveKey, DependencyPort, Fits, Admits, ChildIdentity, Read, Visible, Own, FirstMissing, Matching, Declares, Listed, AskPlugin, AskRegistry, IdFrom, Text}
 use Rattle.rules.specs.Examples.{registers, plain, ticket, invocation}
-use Rattle.rules.specs.Reached.Transcripts.{Line, _↝_, ok, refused, child}
+use Rattle.rules.specs.Reached.Transcripts.{Line, _↝_, ok, refused, child, keys}
 
 -- A life: a provider (1) of (5,0) and (6,0), and a reader (2) that depends on (5,0) and on its anchor (100,0).
 abbrev pub life : List Line
@@ -152,10 +152,12 @@ family =
     ∷ Ask (IdFrom 4) ↝ ok []
     ∷ []
 
--- Queries and lists of one plugin.
+-- The text of an empty registry has 34 bytes; then queries and lists of one plugin.
 abbrev pub questions : List Line
 questions =
-    registers none (port 100 4) (2 ∷ 5 ∷ []) (9 ∷ []) (2 ∷ []) ↝ ok (1 ∷ [])
+    Write Text (keys 33 0) ↝ refused ShortBuffer
+    ∷ Write Text (keys 34 0) ↝ ok (34 ∷ [])
+    ∷ registers none (port 100 4) (2 ∷ 5 ∷ []) (9 ∷ []) (2 ∷ []) ↝ ok (1 ∷ [])
     ∷ registers (some 1) (port 101 0) [] [] [] ↝ ok (2 ∷ [])
     ∷ Ask (AskPlugin Parent 1) ↝ ok []
     ∷ Ask (AskPlugin Parent 2) ↝ ok (1 ∷ [])

@@ -5,8 +5,8 @@ use native.Mathlib.Nat.{pow-suc, pow-le-pow-right}
 use native.Mathlib.Numerals.{add-one}
 use native.Mathlib.Omega.{arith}
 use lib.ListN.{length}
-use Rattle.text_decimal.specs.Digits.{decimalOf}
-use Rattle.text_decimal.specs.Writing.{digits-some, digits-least, digits-exactly, digits-room}
+use Rattle.text_form.specs.Digits.{decimalOf}
+use Rattle.text_form.specs.Writing.{digits-some, digits-least, digits-exactly, digits-room}
 use borrow.Author.Needs.{needs}
 use Rattle.text_decimal.proofs.digit_count.Statement.{statement}
 use Rattle.text_decimal.proofs.digit_count.Tie as tie

@@ -3,8 +3,8 @@ use Prim.Native.Nat.{_+_, _/_, _≤_, _<_}
 use mathlib.Core.Path.{_≡_, refl, sym, _∙_}
 use native.Mathlib.Omega.{arith}
 use lib.ListN.{length, length-set}
-use Rattle.text_decimal.specs.Digits.{decimalOf, over}
-use Rattle.text_decimal.specs.Writing.{digits-some, digits-length, digit-stored, first-stored}
+use Rattle.text_form.specs.Digits.{decimalOf, over}
+use Rattle.text_form.specs.Writing.{digits-some, digits-length, digit-stored, first-stored}
 use borrow.Author.Needs.{needs}
 use Rattle.text_decimal.proofs.fill.Statement.{statement}
 use Rattle.text_decimal.proofs.fill.Tie as tie

@@ -1,7 +1,7 @@
 -- `read_decimal` meets its contract: no byte, one byte, a leading zero and any other word are the definition's cases.
 use native.Mathlib.Omega.{arith}
 use mathlib.Core.Path.{sym, _∙_}
-use Rattle.text_decimal.specs.Reading.{number-empty, number-one, number-zero, number-more}
+use Rattle.text_form.specs.Reading.{number-empty, number-one, number-zero, number-more}
 use borrow.Author.Needs.{needs}
 use Rattle.text_decimal.proofs.read_decimal.Statement.{statement}
 use Rattle.text_decimal.proofs.read_decimal.Tie as tie

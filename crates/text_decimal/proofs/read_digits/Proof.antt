@@ -3,8 +3,8 @@ use mathlib.Core.Path.{_≡_, refl, sym, _∙_}
 use Prim.Native.Nat.{_-_}
 use native.Mathlib.Omega.{arith}
 use lib.ListN.{length, drop}
-use Rattle.text_decimal.specs.Numbers.{valueFrom}
-use Rattle.text_decimal.specs.Reading.{value-end, value-low, value-high, value-over, value-next}
+use Rattle.text_form.specs.Words.{valueFrom}
+use Rattle.text_form.specs.Reading.{value-end, value-low, value-high, value-over, value-next}
 use borrow.Author.Needs.{needs}
 use Rattle.text_decimal.proofs.read_digits.Statement.{statement}
 use Rattle.text_decimal.proofs.read_digits.Tie as tie

@@ -1,5 +1,5 @@
 -- The part is as long as the count says, and what `write_digits` wrote stands there.
-use Rattle.text_decimal.specs.Writing.{written-part}
+use Rattle.text_form.specs.Writing.{written-part}
 use borrow.Author.Needs.{needs}
 use Rattle.text_decimal.proofs.write_decimal.Statement.{statement}
 use Rattle.text_decimal.proofs.write_decimal.Tie as tie

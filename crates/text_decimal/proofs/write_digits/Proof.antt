@@ -1,6 +1,6 @@
 -- A short scratch stays; in another the counted digits are filled in, and a number has at most 20.
 use native.Mathlib.Omega.{arith}
-use Rattle.text_decimal.specs.Writing.{digits-room, too-short, long-enough}
+use Rattle.text_form.specs.Writing.{digits-room, too-short, long-enough}
 use borrow.Author.Needs.{needs}
 use Rattle.text_decimal.proofs.write_digits.Statement.{statement}
 use Rattle.text_decimal.proofs.write_digits.Tie as tie

@@ -9,7 +9,7 @@ use native.Mathlib.Omega.{arith}
 use lib.ListN.{length, take, drop, set, length-append}
 use lib.Seq.{set-split, drop-at, take-at, length-take-le}
 use borrow.Author.Tests.{lt-ltb, le-ltb}
-use Rattle.text_decimal.specs.Digits.{digitsIn, decimalOf, over, shown, Written}
+use Rattle.text_form.specs.Digits.{digitsIn, decimalOf, over, shown, Written}
 
 pub below10 : (n : ℕ) → (10 ≤ n) ⊎ (n < 10)
 below10 n = ⊎-elim (λ (z : 10 - n ≡ 0). inl (omega arith)) (λ (p : 0 < 10 - n). inr (omega arith)) (eq-zero-or-pos (10 - n))

@@ -3,8 +3,8 @@ use Prim.Native.Nat.{ℕ}
 use mathlib.Core.Path.{_≡_, sym, ap, _∙_}
 use mathlib.Core.Option.{some}
 use Rattle.rules.specs.Holds.{Registry, plugins, lookup}
-use Rattle.text_form.specs.Text.{text, Said, byId, said, textOf, readText, read-written}
-use Rattle.text_form.specs.Rising.{by-id-rises, by-id-found, by-id-only}
+use Rattle.rules.specs.Text.{text, Said, byId, said, textOf, readText, read-written}
+use Rattle.text_laws.specs.Rising.{by-id-rises, by-id-found, by-id-only}
 
 -- Equal up to places: the same numbers, and the same plugin for every id.
 pub record Same (r s : Registry) : Type 0 where

@@ -10,8 +10,8 @@ use lib.Dec.{eqb, ltb}
 use lib.ListN.{length, getD, drop, drop-of-length-le}
 use lib.Seq.{drop-cons}
 use borrow.Author.Tests.{lt-ltb, le-ltb, eq-eqb, ne-eqb}
-use Rattle.rules.specs.Basics.{pick, last}
-use Rattle.text_decimal.specs.Numbers.{noDigit, with, valueFrom, numberOf}
+use Rattle.rules_basics.specs.Basics.{pick, last}
+use Rattle.text_form.specs.Words.{noDigit, with, valueFrom, numberOf}
 
 module _ (s : List ℕ) (i n : ℕ) where
   pub value-end : length s ≤ i → valueFrom n (drop i s) ≡ some n

@@ -8,10 +8,10 @@ use lib.ListN.{length}
 use Rattle.rules.specs.Basics.{last}
 use Rattle.rules.specs.Holds.{Plugin, Registry, plugins}
 use Rattle.rules.specs.Laws.Members.{In}
 use Rattle.text_form.specs.Forms.{Form, FitAll}
-use Rattle.text_form.specs.Text.{block, text, byId, said}
-use Rattle.text_form.specs.Rising.{by-id-in, by-id-sum}
-use Rattle.text_form.specs.Sizes.{sum-same, held-most}
+use Rattle.rules.specs.Text.{block, text, byId, said}
+use Rattle.text_laws.specs.Rising.{by-id-in, by-id-sum}
+use Rattle.text_laws.specs.Sizes.{sum-same, held-most}
 
 fit-all : {A : Type 0} (f : Form A) (l : List A) → ((a : A) → In a l → f .Fits a) → FitAll f l
 fit-all f [] h = tt

@@ -7,11 +7,11 @@ use mathlib.Core.Option.{none, some}
 use native.Mathlib.Omega.{arith}
 use lib.Dec.{eqb, ltb}
 use borrow.Author.Tests.{ltb-false, eqb-false, le-ltb, ne-eqb}
-use Rattle.rules.specs.Basics.{pick, last, any}
-use Rattle.rules.specs.Laws.Tests.{by-test, neither}
-use Rattle.text_decimal.specs.Digits.{decimalOf}
-use Rattle.text_decimal.specs.Numbers.{noDigit, with, valueFrom, numberOf}
-use Rattle.text_decimal.specs.Writing.{digits-one, digits-more}
+use Rattle.rules_basics.specs.Basics.{pick, last, any}
+use Rattle.rules_basics.specs.Tests.{by-test, neither}
+use Rattle.text_form.specs.Digits.{decimalOf}
+use Rattle.text_form.specs.Words.{noDigit, with, valueFrom, numberOf}
+use Rattle.text_form.specs.Writing.{digits-one, digits-more}
 
 -- A byte that was read behind a number is a digit, and the whole fits.
 pub record Digit (n b : ℕ) : Type 0 where

@@ -1,62 +1,20 @@
 -- The values that stand behind a key in the registry's text, each with the byte that ends it: 10 ends a line.
 use Prim.Native.Nat.{ℕ, _+_}
-use Prim.Native.String.{String}
 use mathlib.Core.Path.{_≡_, refl}
 use mathlib.Core.Bool.{Bool, true, false}
 use mathlib.Core.List.{List, [], _∷_, _++_}
-use mathlib.Core.Option.{Option, none, some}
 use mathlib.Core.Logic.{_⊎_, inl, inr}
 use Rattle.rules.specs.Basics.{yesNo}
 use Rattle.rules.specs.declared.Port.{Port}
 use Rattle.rules.specs.declared.Phase.{Phase}
 use Rattle.rules.specs.declared.Phase.the-variants.{Idle, Loading, Active, Unloading}
 use Rattle.rules.specs.declared.Root.{Root}
 use Rattle.rules.specs.declared.Root.the-variants.{Unissued, Queued, Spent}
 use Rattle.rules.specs.Holds.{port, Provision}
 use Rattle.rules.specs.Queries.{phaseNumber}
-use Rattle.text_decimal.specs.Text.{bytes}
-use Rattle.text_decimal.specs.Numbers.{numberOf, valueFrom}
-use Rattle.text_form.specs.Forms.{found, torn, expect, Form, readAny, behind, literal, _then_, either, oneOf, like, counted}
-use Rattle.text_form.specs.Numbers.{numberTo, readNumber, upTo}
-
--- `key=value`
-abbrev pub line : {A : Type 0} → String → Form A → Form A
-line key value = behind (bytes key ++ bytes "=") value
-
-abbrev pub number : Form ℕ
-number = numberTo 10 refl
-
--- a count, and a line for each of so many
-abbrev pub list : {A : Type 0} → String → String → Form A → Form (List A)
-list plural key value = counted (line plural number) (line key value)
-
--- a number with a comma behind it
-abbrev pub comma : Form ℕ
-comma = numberTo 44 refl
-
--- number or none
-abbrev pub fromOption : Option ℕ → ℕ ⊎ Unit {0}
-fromOption (some n) = inl n
-fromOption none = inr tt
-
-abbrev pub toOption : ℕ ⊎ Unit {0} → Option ℕ
-toOption (inl n) = some n
-toOption (inr u) = none
-
-pub option-there : (a : ℕ ⊎ Unit {0}) → fromOption (toOption a) ≡ a
-option-there (inl n) = refl
-option-there (inr u) = refl
-
-pub option-again : (b : Option ℕ) → toOption (fromOption b) ≡ b
-option-again (some n) = refl
-option-again none = refl
-
-pub none-apart : (u : Unit {0}) (rest : List ℕ) → number .read (literal (bytes "none\n") .write u ++ rest) ≡ torn
-unfolding readNumber upTo numberOf valueFrom
-none-apart u rest = refl
-
-abbrev pub numberOrNone : Form (Option ℕ)
-numberOrNone = like (either number (literal (bytes "none\n")) none-apart) fromOption toOption option-there option-again
+use Rattle.text_form.specs.Bytes.{bytes}
+use Rattle.text_form.specs.Forms.{found, torn, expect, Form, readAny, behind, literal, _then_, either, oneOf, like}
+use Rattle.text_form.specs.Lines.{number, comma, numberOrNone}
 
 -- key,realm
 abbrev pub keyRealm : Form Port

@@ -4,9 +4,10 @@ use mathlib.Core.Path.{_≡_, refl}
 use mathlib.Core.List.{List, [], _∷_, _++_, append-assoc}
 use lib.ListN.{length}
 use Rattle.rules.specs.Holds.{Plugin, Registry, plugins}
 use Rattle.text_form.specs.Forms.{writeAll}
-use Rattle.text_form.specs.Values.{line, list, number, numberOrNone, keyRealm, keyRealmValue, phase, zeroOrOne, rootAndQueued}
-use Rattle.text_form.specs.Text.{block, byId, textOf}
+use Rattle.text_form.specs.Lines.{line, list, number, numberOrNone}
+use Rattle.rules.specs.Text.Values.{keyRealm, keyRealmValue, phase, zeroOrOne, rootAndQueued}
+use Rattle.rules.specs.Text.{block, byId, textOf}
 
 -- A plugin's lines, and those of plugins one behind the other.
 unfoldable pub blockOf : Plugin → List ℕ

@@ -5,24 +5,24 @@ use mathlib.Core.Path.{_≡_, refl}
 use mathlib.Core.List.{List, [], _∷_}
 use mathlib.Core.Option.{none, some}
 use lib.Dec.{eqb}
 use Rattle.rules.specs.Basics.{pick}
 use Rattle.rules.specs.Holds.{port, Registry, opened, lookup, count, provider, rowsInUse}
 use Rattle.rules.specs.Outcomes.{after, checked, found}
 use Rattle.rules.specs.Ports.{badRealms, resolve}
 use Rattle.rules.specs.Dependencies.{dependencyList}
 use Rattle.rules.specs.Registration.{dependenciesOf, newPlugin, register}
 use Rattle.rules.specs.Phases.{begin, ready}
 use Rattle.rules.specs.Admission.{admit, isLive, call}
 use Rattle.rules.specs.Retirement.{retire, remove}
 use Rattle.rules.specs.Values.{offer}
 use Rattle.rules.specs.Steps.{Op, Begin, Ready, Admit, Call, Retire, Remove, Offer, run}
 use Rattle.rules.specs.Examples.{registers, ticket, invocation}
-use Rattle.text_decimal.specs.Text.{bytes}
-use Rattle.text_decimal.specs.Digits.{decimalOf, digitsIn}
-use Rattle.text_decimal.specs.Numbers.{numberOf, valueFrom}
+use Rattle.text_form.specs.Bytes.{bytes}
+use Rattle.text_form.specs.Digits.{decimalOf, digitsIn}
+use Rattle.text_form.specs.Words.{numberOf, valueFrom}
 use Rattle.text_form.specs.Forms.{expect}
 use Rattle.text_form.specs.Numbers.{readNumber, upTo}
-use Rattle.text_form.specs.Text.{insert, byId, said, textOf, readText, written-read}
+use Rattle.rules.specs.Text.{insert, byId, said, textOf, readText, written-read}
 
 -- The document shows a text's lines parted by spaces.
 abbrev pub ended : List ℕ → List ℕ

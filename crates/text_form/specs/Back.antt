@@ -10,11 +10,11 @@ use native.Mathlib.Omega.{arith}
 use lib.Dec.{ltb}
 use lib.ListN.{length, getD, List·getD-append}
 use borrow.Author.Tests.{le-ltb}
-use Rattle.rules.specs.Basics.{pick, last}
-use Rattle.text_decimal.specs.Digits.{decimalOf}
-use Rattle.text_decimal.specs.Numbers.{noDigit, with, valueFrom, numberOf}
-use Rattle.text_decimal.specs.Reading.{number-one, number-more}
-use Rattle.text_decimal.specs.Writing.{below10, digits-one, digits-more, digits-length}
+use Rattle.rules_basics.specs.Basics.{pick, last}
+use Rattle.text_form.specs.Digits.{decimalOf}
+use Rattle.text_form.specs.Words.{noDigit, with, valueFrom, numberOf}
+use Rattle.text_form.specs.Reading.{number-one, number-more}
+use Rattle.text_form.specs.Writing.{below10, digits-one, digits-more, digits-length}
 
 -- One more digit behind a number that was read.
 abbrev onward : Option ℕ → ℕ → Option ℕ

@@ -15,15 +15,17 @@ use Rattle.rules.specs.declared.Phase.the-variants.{Idle, Loading, Active, Unlo
 use Rattle.rules.specs.Holds.{Plugin, Places, Registry, held, plugins, count, rowsOf, sumRows, rowsInUse}
 use Rattle.rules.specs.Built.{Built}
 use Rattle.rules.specs.Laws.Members.{In}
-use Rattle.text_decimal.specs.Digits.{decimalOf}
-use Rattle.text_decimal.specs.Text.{bytes}
-use Rattle.text_decimal.specs.Numbers.{noDigit}
+use Rattle.text_form.specs.Digits.{decimalOf}
+use Rattle.text_form.specs.Bytes.{bytes}
+use Rattle.text_form.specs.Words.{noDigit}
 use Rattle.text_form.specs.Forms.{torn, Form, behind, literal, _then_, either, FitAll, writeAll, counted}
 use Rattle.text_form.specs.Numbers.{numberTo, digits-most-20}
-use Rattle.text_form.specs.Values.{line, list, number, comma, numberOrNone, keyRealm, keyRealmValue, phase, zeroOrOne, rootAndQueued}
-use Rattle.text_form.specs.Values.{none-apart, fromOption, spent-apart, issued-apart, fromRoot}
-use Rattle.text_form.specs.Text.{header, realms, linesOf, block, text, byId, said, textOf}
-use Rattle.text_form.specs.Rising.{by-id-in, by-id-sum}
+use Rattle.text_form.specs.Lines.{line, list, number, comma, numberOrNone}
+use Rattle.rules.specs.Text.Values.{keyRealm, keyRealmValue, phase, zeroOrOne, rootAndQueued}
+use Rattle.text_form.specs.Lines.{none-apart, fromOption}
+use Rattle.rules.specs.Text.Values.{spent-apart, issued-apart, fromRoot}
+use Rattle.rules.specs.Text.{header, realms, linesOf, block, text, byId, said, textOf}
+use Rattle.text_laws.specs.Rising.{by-id-in, by-id-sum}
 
 -- What fits takes at most so many bytes, by its value.
 pub record Most {A : Type 0} (f : Form A) (m : A → ℕ) : Type 0 where
