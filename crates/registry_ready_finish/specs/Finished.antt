@@ -12,6 +12,7 @@ use Rattle.memory.specs.Known.{lifeOf}
 use Rattle.memory.specs.declared.Life.{Life}
 use Rattle.memory.specs.declared.Place.{Place}
 use Rattle.memory.specs.declared.Place.the-variants.{At, Nowhere}
+use Rattle.memory.specs.Layout.{placeWords, maskWord}
 
 -- root Unissued
 abbrev pub restedLife : Life → Phase → Life
@@ -26,7 +27,7 @@ restedLife l p = record {
 
 -- a life stored and no value left
 abbrev pub emptied : List ℕ → Place → Life → List ℕ
-emptied m (At i) l = set (putLife m i l) (i * 72 + 23) 0
+emptied m (At i) l = set (putLife m i l) (i * placeWords + maskWord) 0
 emptied m Nowhere l = m
 
 -- The words after a finish; any other outcome leaves them.
@@ -48,6 +49,6 @@ finished-size m (stores q vs) = at (findAt m (q .id))
   where
     at : (p : Place) → length (emptied m p (lifeOf q)) ≡ length m
     at Nowhere = refl
-    at (At i) = length-set (putLife m i (lifeOf q)) (i * 72 + 23) 0 ∙ life-length m i (lifeOf q)
+    at (At i) = length-set (putLife m i (lifeOf q)) (i * placeWords + maskWord) 0 ∙ life-length m i (lifeOf q)
 finished-size m (adds q vs) = refl
 finished-size m (removes id vs) = refl
