@@ -11,6 +11,7 @@ use Rattle.rules.specs.Steps.{Op, Event, event, answerTo, Run, goOnWith, run, C
 use Rattle.rules.specs.History.{story, Demand3}
 use Rattle.rules.specs.Demand3 as rules
 use Rattle.memory.specs.View.{view}
+use Rattle.memory.specs.Layout.{memoryWords}
 use Rattle.registry_remove.specs.Refines.{open-refines}
 use Rattle.demands.specs.Leaves.{leaves}
 use Rattle.demands.specs.Starts as starts
@@ -53,7 +54,7 @@ demand-3 m w ops t =
     (sym (same-run m (w .sound) ops)) (rules.demand-3 (view m) (start-view m w) ops t)
 
 -- From an opening, whose registry is fresh.
-module _ (m : List ℕ) (size : length m ≡ 4488) (domain first : ℕ) (h : first ≤ last) (ops : List Op) where
+module _ (m : List ℕ) (size : length m ≡ memoryWords) (domain first : ℕ) (h : first ≤ last) (ops : List Op) where
   abbrev n : Night
   n = night (blank m domain first) ops
 

@@ -14,6 +14,7 @@ use Rattle.rules.specs.Built.{Built}
 use Rattle.rules.specs.Kept.{opened-built, built-start}
 use Rattle.memory.specs.View.{view}
 use Rattle.memory.specs.Writes.{puts}
+use Rattle.memory.specs.Layout.{memoryWords}
 use Rattle.memory_rows.specs.Dense.{Dense}
 use Rattle.registry_remove.specs.Refines.{open-refines, open-dense}
 
@@ -37,7 +38,7 @@ blank m domain first = puts m 0 0 (domain ∷ first ∷ first ∷ 0 ∷ [])
 
 -- What a memory does begin with: an opening of any words.
 pub data Begun : List ℕ → Type 0 where
-  opened : (m : List ℕ) → length m ≡ 4488 → (domain first : ℕ) → first ≤ last → Begun (blank m domain first)
+  opened : (m : List ℕ) → length m ≡ memoryWords → (domain first : ℕ) → first ≤ last → Begun (blank m domain first)
 
 pub begun-start : (m : List ℕ) → Begun m → Start m
 begun-start _ (opened m size domain first h) =

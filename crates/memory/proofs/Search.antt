@@ -5,7 +5,7 @@ use mathlib.Core.Bool.{Bool, true, false, _&&_}
 use mathlib.Core.List.{List}
 use native.Mathlib.Omega.{arith}
 use borrow.Author.Tests.{eq-eqb, ne-eqb}
-use Rattle.memory.specs.Layout.{taken, idAt}
+use Rattle.memory.specs.Layout.{taken, idAt, places}
 use Rattle.memory.specs.Writes.{namesAt, findFrom}
 use Rattle.memory.specs.declared.Place.the-variants.{At, Nowhere}
 
@@ -26,21 +26,21 @@ pub names-other : (m : List ℕ) (id i : ℕ) → (idAt m i ≡ id → ⊥) → 
 unfolding namesAt
 names-other m id i n = rw (ne-eqb _ _ n) (sym (and-false (taken m i)))
 
-one-less : (i : ℕ) → i < 32 → 32 - i ≡ suc (32 - (i + 1))
+one-less : (i : ℕ) → i < places → places - i ≡ suc (places - (i + 1))
 one-less i h = omega arith
 
-none-left : (i : ℕ) → 32 ≤ i → 32 - i ≡ 0
+none-left : (i : ℕ) → places ≤ i → places - i ≡ 0
 none-left i h = omega arith
 
 module _ (m : List ℕ) (id i : ℕ) where
-  pub find-here : i < 32 → namesAt m id i ≡ true → findFrom (32 - i) m id i ≡ At i
+  pub find-here : i < places → namesAt m id i ≡ true → findFrom (places - i) m id i ≡ At i
   unfolding findFrom
   find-here h e = rw (one-less i h) (rw e)
 
-  pub find-next : i < 32 → namesAt m id i ≡ false → findFrom (32 - i) m id i ≡ findFrom (32 - (i + 1)) m id (i + 1)
+  pub find-next : i < places → namesAt m id i ≡ false → findFrom (places - i) m id i ≡ findFrom (places - (i + 1)) m id (i + 1)
   unfolding findFrom
   find-next h e = rw (one-less i h) (rw e)
 
-  pub find-end : 32 ≤ i → findFrom (32 - i) m id i ≡ Nowhere
+  pub find-end : places ≤ i → findFrom (places - i) m id i ≡ Nowhere
   unfolding findFrom
   find-end h = rw (none-left i h)

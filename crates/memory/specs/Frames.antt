@@ -17,9 +17,11 @@ use Rattle.rules.specs.declared.Phase.the-variants.{Idle, Loading, Active, Unlo
 use Rattle.rules.specs.declared.Root.{Root}
 use Rattle.rules.specs.declared.Root.the-variants.{Unissued, Queued, Spent}
 use Rattle.rules.specs.Ports.{pairs}
-use Rattle.memory.specs.Layout.{word, part, anchorWord, depPart, provPart, realmPart}
+use Rattle.rules.specs.Queries.{phaseNumber}
+use Rattle.rules.specs.Limits.{maxProvisionKeys}
+use Rattle.memory.specs.Layout.{word, part, anchorWord, depPart, provPart, realmPart, memoryWords, placeWords, places, idWord, tagWord, parentWord, revisionWord, payloadWord, phaseWord, retiredWord, generationWord, rootWord, rootRevisionWord, rootArgumentWord, firstRowWord, maskWord, valuesWord}
 use Rattle.memory.specs.View.{phaseOf, rootOf, wordsAt, decoded, lifeAt, valueAt, valued, pluginAt}
-use Rattle.memory.specs.Writes.{puts, phaseWord, rootTag, rootRevision, rootArgument, lifeWords, encoded, putLife, renewedAt, renewedLife}
+use Rattle.memory.specs.Writes.{puts, rootTag, rootRevision, rootArgument, lifeWords, encoded, putLife, renewedAt, renewedLife}
 use Rattle.memory.specs.declared.Life.{Life}
 
 -- A part is read word by word.
@@ -62,16 +64,16 @@ puts-same (v ∷ vs) m b k (suc n) h f =
 
 -- What is read at a place, but for its life.
 pub record Kept (m m′ : List ℕ) (i : ℕ) : Type 0 where
-  pub id : word m′ (i * 72 + 8) ≡ word m (i * 72 + 8)
-  pub tag : word m′ (i * 72 + 9) ≡ word m (i * 72 + 9)
-  pub parent : word m′ (i * 72 + 10) ≡ word m (i * 72 + 10)
+  pub id : word m′ (i * placeWords + idWord) ≡ word m (i * placeWords + idWord)
+  pub tag : word m′ (i * placeWords + tagWord) ≡ word m (i * placeWords + tagWord)
+  pub parent : word m′ (i * placeWords + parentWord) ≡ word m (i * placeWords + parentWord)
   pub anchor-key : word m′ (anchorWord m′ i) ≡ word m (anchorWord m i)
   pub anchor-realm : word m′ (anchorWord m′ i + 1) ≡ word m (anchorWord m i + 1)
   pub realms : realmPart m′ i ≡ realmPart m i
   pub dependencies : depPart m′ i ≡ depPart m i
   pub provisions : provPart m′ i ≡ provPart m i
-  pub mask : word m′ (i * 72 + 23) ≡ word m (i * 72 + 23)
-  pub values : (j : ℕ) → j < 15 → word m′ (i * 72 + 24 + j) ≡ word m (i * 72 + 24 + j)
+  pub mask : word m′ (i * placeWords + maskWord) ≡ word m (i * placeWords + maskWord)
+  pub values : (j : ℕ) → j < maxProvisionKeys → word m′ (i * placeWords + valuesWord + j) ≡ word m (i * placeWords + valuesWord + j)
 
 abbrev pub withLife : Plugin → Life → Plugin
 withLife p l = changed p (p .provisions) (l .revision) (l .payload) (l .phase) (l .retired) (l .generation .0) (l .root)
@@ -82,19 +84,19 @@ pairs-half (a ∷ []) n h = omega arith
 pairs-half (a ∷ b ∷ l) zero h = absurd (omega arith)
 pairs-half (a ∷ b ∷ l) (suc n) h = let r = pairs-half l n (omega arith) in omega arith
 
-value-same : (m m′ : List ℕ) (i : ℕ) → Kept m m′ i → (j : ℕ) → j < 15 → valueAt m′ i j ≡ valueAt m i j
+value-same : (m m′ : List ℕ) (i : ℕ) → Kept m m′ i → (j : ℕ) → j < maxProvisionKeys → valueAt m′ i j ≡ valueAt m i j
 unfolding valueAt
 value-same m m′ i w j h = rw (w .mask, w .values j h)
 
-valued-same : (m m′ : List ℕ) (i : ℕ) → Kept m m′ i → (qs : List Port) (j : ℕ) → j + length qs ≤ 15 → valued m′ i j qs ≡ valued m i j qs
+valued-same : (m m′ : List ℕ) (i : ℕ) → Kept m m′ i → (qs : List Port) (j : ℕ) → j + length qs ≤ maxProvisionKeys → valued m′ i j qs ≡ valued m i j qs
 valued-same m m′ i w [] j h = refl
 valued-same m m′ i w (q ∷ qs) j h =
     let e = value-same m m′ i w j (omega arith) in
     let r = valued-same m m′ i w qs (j + 1) (omega arith) in
     rw (e, r)
 
-few : (m : List ℕ) (i : ℕ) → length (pairs (provPart m i)) ≤ 15
-few m i = pairs-half (provPart m i) 15 (simp (length-take, length-drop) (omega arith))
+few : (m : List ℕ) (i : ℕ) → length (pairs (provPart m i)) ≤ maxProvisionKeys
+few m i = pairs-half (provPart m i) maxProvisionKeys (simp (length-take, length-drop) (omega arith))
 
 -- A place that is kept reads as before, but for its life.
 pub plugin-kept : (m m′ : List ℕ) (i : ℕ) → Kept m m′ i → pluginAt m′ i ≡ withLife (pluginAt m i) (lifeAt m′ i)
@@ -103,7 +105,7 @@ plugin-kept m m′ i w =
     rw (w .id, w .tag, w .parent, w .anchor-key, w .anchor-realm, w .realms, w .dependencies, w .provisions, valued-same m m′ i w (pairs (provPart m i)) 0 (omega (arith, few m i)))
 
 -- The codes.
-phase-code : (p : Phase) → phaseOf (phaseWord p) ≡ p
+phase-code : (p : Phase) → phaseOf (phaseNumber p) ≡ p
 phase-code Idle = refl
 phase-code Loading = refl
 phase-code Active = refl
@@ -132,19 +134,19 @@ decoded-encoded l = λ x. record {
 -- No word changes but those of place i's life.
 pub record OnlyLife (m m′ : List ℕ) (i : ℕ) : Type 0 where
   pub size : length m′ ≡ length m
-  pub apart : (k : ℕ) → (i * 72 + 11 ≤ k → k < i * 72 + 19 → ⊥) → word m′ k ≡ word m k
+  pub apart : (k : ℕ) → (i * placeWords + revisionWord ≤ k → k < i * placeWords + firstRowWord → ⊥) → word m′ k ≡ word m k
 
 module _ (m m′ : List ℕ) (i : ℕ) (o : OnlyLife m m′ i) where
   words-other : (j : ℕ) → i ≢ j → wordsAt m′ j ≡ wordsAt m j
   words-other j d = λ x. record {
-    revision = o .apart (j * 72 + 11) (λ a b. d (omega arith)) x;
-    payload = o .apart (j * 72 + 12) (λ a b. d (omega arith)) x;
-    phase = o .apart (j * 72 + 13) (λ a b. d (omega arith)) x;
-    retired = o .apart (j * 72 + 14) (λ a b. d (omega arith)) x;
-    generation = o .apart (j * 72 + 15) (λ a b. d (omega arith)) x;
-    root = o .apart (j * 72 + 16) (λ a b. d (omega arith)) x;
-    «root_revision» = o .apart (j * 72 + 17) (λ a b. d (omega arith)) x;
-    «root_argument» = o .apart (j * 72 + 18) (λ a b. d (omega arith)) x;
+    revision = o .apart (j * placeWords + revisionWord) (λ a b. d (omega arith)) x;
+    payload = o .apart (j * placeWords + payloadWord) (λ a b. d (omega arith)) x;
+    phase = o .apart (j * placeWords + phaseWord) (λ a b. d (omega arith)) x;
+    retired = o .apart (j * placeWords + retiredWord) (λ a b. d (omega arith)) x;
+    generation = o .apart (j * placeWords + generationWord) (λ a b. d (omega arith)) x;
+    root = o .apart (j * placeWords + rootWord) (λ a b. d (omega arith)) x;
+    «root_revision» = o .apart (j * placeWords + rootRevisionWord) (λ a b. d (omega arith)) x;
+    «root_argument» = o .apart (j * placeWords + rootArgumentWord) (λ a b. d (omega arith)) x;
   }
 
   pub life-other : (j : ℕ) → i ≢ j → lifeAt m′ j ≡ lifeAt m j
@@ -155,23 +157,23 @@ module _ (m m′ : List ℕ) (i : ℕ) (o : OnlyLife m m′ i) where
 module _ (m : List ℕ) (i : ℕ) (l : Life) where
   pub life-length : length (putLife m i l) ≡ length m
   unfolding putLife
-  life-length = puts-length (lifeWords (encoded l)) m (i * 72) 11
+  life-length = puts-length (lifeWords (encoded l)) m (i * placeWords) revisionWord
 
-  pub life-before : (k : ℕ) → k < i * 72 + 11 → word (putLife m i l) k ≡ word m k
+  pub life-before : (k : ℕ) → k < i * placeWords + revisionWord → word (putLife m i l) k ≡ word m k
   unfolding putLife
-  life-before k h = puts-before (lifeWords (encoded l)) m (i * 72) 11 k h
+  life-before k h = puts-before (lifeWords (encoded l)) m (i * placeWords) revisionWord k h
 
   pub life-only : OnlyLife m (putLife m i l) i
   unfolding putLife
   life-only = record {
     size = life-length;
-    apart = λ k n. puts-apart (lifeWords (encoded l)) m (i * 72) 11 k (λ x y. n x (omega arith));
+    apart = λ k n. puts-apart (lifeWords (encoded l)) m (i * placeWords) revisionWord k (λ x y. n x (omega arith));
   }
 
-  module _ (h : i < 32) (s : length m ≡ 4488) where
-    one-same : (n : ℕ) → n < 8 → word (putLife m i l) (i * 72 + (11 + n)) ≡ getD (lifeWords (encoded l)) n 0
+  module _ (h : i < places) (s : length m ≡ memoryWords) where
+    one-same : (n : ℕ) → n < 8 → word (putLife m i l) (i * placeWords + (revisionWord + n)) ≡ getD (lifeWords (encoded l)) n 0
     unfolding putLife
-    one-same n k = puts-same (lifeWords (encoded l)) m (i * 72) 11 n k (omega arith)
+    one-same n k = puts-same (lifeWords (encoded l)) m (i * placeWords) revisionWord n k (omega arith)
 
     words-put : wordsAt (putLife m i l) i ≡ encoded l
     words-put = λ x. record {
@@ -194,28 +196,28 @@ module _ (m : List ℕ) (i revision payload : ℕ) where
   pub renewed-only : OnlyLife m (renewedAt m i revision payload) i
   unfolding renewedAt
   renewed-only = record {
-    size = puts-length (revision ∷ payload ∷ []) m (i * 72) 11;
-    apart = λ k n. puts-apart (revision ∷ payload ∷ []) m (i * 72) 11 k (λ x y. n x (omega arith));
+    size = puts-length (revision ∷ payload ∷ []) m (i * placeWords) revisionWord;
+    apart = λ k n. puts-apart (revision ∷ payload ∷ []) m (i * placeWords) revisionWord k (λ x y. n x (omega arith));
   }
 
-  module _ (h : i < 32) (s : length m ≡ 4488) where
-    stored : (n : ℕ) → n < 2 → word (renewedAt m i revision payload) (i * 72 + (11 + n)) ≡ getD (revision ∷ payload ∷ []) n 0
+  module _ (h : i < places) (s : length m ≡ memoryWords) where
+    stored : (n : ℕ) → n < 2 → word (renewedAt m i revision payload) (i * placeWords + (revisionWord + n)) ≡ getD (revision ∷ payload ∷ []) n 0
     unfolding renewedAt
-    stored n k = puts-same (revision ∷ payload ∷ []) m (i * 72) 11 n k (omega arith)
+    stored n k = puts-same (revision ∷ payload ∷ []) m (i * placeWords) revisionWord n k (omega arith)
 
-    behind : (n : ℕ) → i * 72 + 13 ≤ n → word (renewedAt m i revision payload) n ≡ word m n
+    behind : (n : ℕ) → i * placeWords + phaseWord ≤ n → word (renewedAt m i revision payload) n ≡ word m n
     unfolding renewedAt
-    behind n k = puts-after (revision ∷ payload ∷ []) m (i * 72) 11 n (omega arith)
+    behind n k = puts-after (revision ∷ payload ∷ []) m (i * placeWords) revisionWord n (omega arith)
 
     pub life-renewed : lifeAt (renewedAt m i revision payload) i ≡ renewedLife (lifeAt m i) revision payload
     unfolding lifeAt decoded
     life-renewed = λ x. decoded (record {
       revision = stored 0 (lit< tt) x;
       payload = stored 1 (lit< tt) x;
-      phase = behind (i * 72 + 13) (omega arith) x;
-      retired = behind (i * 72 + 14) (omega arith) x;
-      generation = behind (i * 72 + 15) (omega arith) x;
-      root = behind (i * 72 + 16) (omega arith) x;
-      «root_revision» = behind (i * 72 + 17) (omega arith) x;
-      «root_argument» = behind (i * 72 + 18) (omega arith) x;
+      phase = behind (i * placeWords + phaseWord) (omega arith) x;
+      retired = behind (i * placeWords + retiredWord) (omega arith) x;
+      generation = behind (i * placeWords + generationWord) (omega arith) x;
+      root = behind (i * placeWords + rootWord) (omega arith) x;
+      «root_revision» = behind (i * placeWords + rootRevisionWord) (omega arith) x;
+      «root_argument» = behind (i * placeWords + rootArgumentWord) (omega arith) x;
     })

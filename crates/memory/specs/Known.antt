@@ -10,8 +10,8 @@ use borrow.Author.Tests.{eqb-true}
 use Rattle.rules.specs.Holds.{Plugin, lookup}
 use Rattle.rules.specs.Generations.{generationOf}
 use Rattle.rules.specs.Refusals.{Unknown}
-use Rattle.rules.specs.Outcomes.{Outcome, refuses, stores, found, known, after}
-use Rattle.memory.specs.Layout.{taken}
+use Rattle.rules.specs.Outcomes.{Outcome, refuses, stores, found, known, after, answers, writes, adds, removes}
+use Rattle.memory.specs.Layout.{taken, memoryWords, places}
 use Rattle.memory.specs.View.{lifeAt, pluginAt, view}
 use Rattle.memory.specs.Writes.{findAt, putLife}
 use Rattle.memory.specs.Ways.{Way, leftBy, byStoring, Sized, storing-sized}
@@ -24,10 +24,10 @@ use Rattle.memory.specs.declared.Place.the-variants.{At, Nowhere}
 
 -- Where the id is found.
 module _ (m : List ℕ) (id i : ℕ) (e : findAt m id ≡ At i) where
-  pub at-below : i < 32
+  pub at-below : i < places
   at-below = find-found m id i e .below
 
-  pub at-place : i % 32 ≡ i
+  pub at-place : i % places ≡ i
   at-place = mod-eq-of-lt at-below
 
   pub at-taken : taken m i ≡ true
@@ -83,7 +83,7 @@ unfolding leftBy
 stored-at m id i e l vs = rw (at-id m id i e, e)
 
 -- Of a memory in which ids stand once, the registry afterwards is the rule's.
-pub stored-view : (m : List ℕ) → length m ≡ 4488 → Alone m → (id i : ℕ) → findAt m id ≡ At i → (l : Life) (vs : List ℕ)
+pub stored-view : (m : List ℕ) → length m ≡ memoryWords → Alone m → (id i : ℕ) → findAt m id ≡ At i → (l : Life) (vs : List ℕ)
     → view (storedLife m (stores (withLife (pluginAt m i) l) vs)) ≡ after (view m) (stores (withLife (pluginAt m i) l) vs)
 stored-view m size alone id i e l vs =
     ap view (stored-at m id i e l vs) ∙ store-view m i l (at-below m id i e) size alone (at-taken m id i e) vs

@@ -5,50 +5,137 @@ use mathlib.Core.Bool.{Bool, _&&_}
 use mathlib.Core.List.{List}
 use lib.Dec.{eqb, ltb}
 use lib.ListN.{getD, take, drop}
+use Rattle.rules.specs.Limits.{maxPlugins, maxRows, maxDependencies, maxProvisionKeys, maxRealmRows, maxPluginRows}
 
 abbrev pub word : List ℕ → ℕ → ℕ
 word m i = getD m i 0
 
--- words 0 to 3: domain, first id, next id, and the occupancy word, whose 32 bits are the places
+-- The words of the header.
+abbrev pub domainWord : ℕ
+domainWord = 0
+
+abbrev pub firstWord : ℕ
+firstWord = 1
+
+abbrev pub nextWord : ℕ
+nextWord = 2
+
+-- a bit for each place
+abbrev pub occupancyWord : ℕ
+occupancyWord = 3
+
+-- The words of a place, counted from its number times `placeWords`; there is room for more.
+abbrev pub idWord : ℕ
+idWord = 8
+
+-- whether there is a parent
+abbrev pub tagWord : ℕ
+tagWord = 9
+
+abbrev pub parentWord : ℕ
+parentWord = 10
+
+abbrev pub revisionWord : ℕ
+revisionWord = 11
+
+abbrev pub payloadWord : ℕ
+payloadWord = 12
+
+abbrev pub phaseWord : ℕ
+phaseWord = 13
+
+abbrev pub retiredWord : ℕ
+retiredWord = 14
+
+abbrev pub generationWord : ℕ
+generationWord = 15
+
+abbrev pub rootWord : ℕ
+rootWord = 16
+
+abbrev pub rootRevisionWord : ℕ
+rootRevisionWord = 17
+
+abbrev pub rootArgumentWord : ℕ
+rootArgumentWord = 18
+
+abbrev pub firstRowWord : ℕ
+firstRowWord = 19
+
+abbrev pub dependenciesWord : ℕ
+dependenciesWord = 20
+
+abbrev pub provisionsWord : ℕ
+provisionsWord = 21
+
+abbrev pub realmsWord : ℕ
+realmsWord = 22
+
+-- which provisions have a value
+abbrev pub maskWord : ℕ
+maskWord = 23
+
+abbrev pub valuesWord : ℕ
+valuesWord = 24
+
+abbrev pub realmRowsWord : ℕ
+realmRowsWord = 39
+
+abbrev pub placeWords : ℕ
+placeWords = 72
+
+abbrev pub placeEnd : ℕ
+placeEnd = idWord + placeWords
+
+abbrev pub places : ℕ
+places = maxPlugins
+
+-- A row is a port, and the rows follow the places. A plugin's stand together: dependencies, anchor, provisions.
+abbrev pub rowWords : ℕ
+rowWords = 2
+
+abbrev pub rowsStart : ℕ
+rowsStart = places * placeWords + idWord
+
+-- The last start that is read, and the most rows from it on, are inside.
+abbrev pub memoryWords : ℕ
+memoryWords = (maxRows + maxPluginRows) * rowWords + rowsStart
+
 abbrev pub occupancy : List ℕ → ℕ
-occupancy m = word m 3 % 4294967296
+occupancy m = word m occupancyWord % 2 ^ places
 
 unfoldable pub taken : List ℕ → ℕ → Bool
-taken m i = ltb i 32 && eqb (occupancy m / 2 ^ i % 2) 1
+taken m i = ltb i places && eqb (occupancy m / 2 ^ i % 2) 1
 
--- 72 words for each place, from word 8 on: id, parent (tag and id), revision, payload, phase, retired mark, generation,
--- root (tag, revision, argument), first row, dependencies, provisions, realm rows, a mask of the values there are,
--- 15 values, 16 realm rows, and room for more
 abbrev pub idAt : List ℕ → ℕ → ℕ
-idAt m i = word m (i * 72 + 8)
+idAt m i = word m (i * placeWords + idWord)
 
 abbrev pub startAt : List ℕ → ℕ → ℕ
-startAt m i = min (word m (i * 72 + 19)) 1024
+startAt m i = min (word m (i * placeWords + firstRowWord)) maxRows
 
 abbrev pub depsAt : List ℕ → ℕ → ℕ
-depsAt m i = min (word m (i * 72 + 20)) 48
+depsAt m i = min (word m (i * placeWords + dependenciesWord)) maxDependencies
 
 abbrev pub provsAt : List ℕ → ℕ → ℕ
-provsAt m i = min (word m (i * 72 + 21)) 15
+provsAt m i = min (word m (i * placeWords + provisionsWord)) maxProvisionKeys
 
 abbrev pub realmsAt : List ℕ → ℕ → ℕ
-realmsAt m i = min (word m (i * 72 + 22)) 16
+realmsAt m i = min (word m (i * placeWords + realmsWord)) maxRealmRows
 
--- 2 words for each row, from word 2312 on: a port. A plugin's rows stand together: dependencies, anchor, provisions.
 abbrev pub rowWord : ℕ → ℕ
-rowWord r = r * 2 + 2312
+rowWord r = r * rowWords + rowsStart
 
 abbrev pub part : List ℕ → ℕ → ℕ → List ℕ
 part m from n = take n (drop from m)
 
 abbrev pub depPart : List ℕ → ℕ → List ℕ
-depPart m i = part m (rowWord (startAt m i)) (depsAt m i * 2)
+depPart m i = part m (rowWord (startAt m i)) (depsAt m i * rowWords)
 
 abbrev pub anchorWord : List ℕ → ℕ → ℕ
 anchorWord m i = rowWord (startAt m i + depsAt m i)
 
 abbrev pub provPart : List ℕ → ℕ → List ℕ
-provPart m i = part m (anchorWord m i + 2) (provsAt m i * 2)
+provPart m i = part m (anchorWord m i + rowWords) (provsAt m i * rowWords)
 
 abbrev pub realmPart : List ℕ → ℕ → List ℕ
-realmPart m i = part m (i * 72 + 39) (realmsAt m i * 2)
+realmPart m i = part m (i * placeWords + realmRowsWord) (realmsAt m i * rowWords)

@@ -9,7 +9,7 @@ use lib.Dec.{eqb}
 use Rattle.rules.specs.Basics.{pick, first}
 use Rattle.rules.specs.Holds.{Plugin, held, lookup}
 use Rattle.rules.specs.Laws.Tests.{by-test, both}
-use Rattle.memory.specs.Layout.{taken}
+use Rattle.memory.specs.Layout.{taken, places}
 use Rattle.memory.specs.View.{pluginAt, placeAt, placesFrom, view}
 use Rattle.memory.specs.Writes.{namesAt, findFrom, findAt}
 use Rattle.memory.specs.declared.Place.{Place}
@@ -65,8 +65,8 @@ find-search (suc n) m id i = rw (find-search n m id (i + 1))
 
 pub lookup-view : (m : List ℕ) (id : ℕ) → lookup (view m) id ≡ placed m (findAt m id)
 unfolding lookup view findAt
-lookup-view m id = search-first (hasId id) 32 m 0 ∙ ap (placed m) (sym (find-search 32 m id 0))
+lookup-view m id = search-first (hasId id) places m 0 ∙ ap (placed m) (sym (find-search places m id 0))
 
-pub find-found : (m : List ℕ) (id k : ℕ) → findAt m id ≡ At k → Found (hasId id) m 32 k
+pub find-found : (m : List ℕ) (id k : ℕ) → findAt m id ≡ At k → Found (hasId id) m places k
 unfolding findAt
-find-found m id k e = search-found (hasId id) 32 m 0 k (sym (find-search 32 m id 0) ∙ e)
+find-found m id k e = search-found (hasId id) places m 0 k (sym (find-search places m id 0) ∙ e)

@@ -13,7 +13,7 @@ use Rattle.rules.specs.declared.Phase.the-variants.{Idle, Loading, Active, Unlo
 use Rattle.rules.specs.declared.Root.{Root}
 use Rattle.rules.specs.declared.Root.the-variants.{Unissued, Queued, Spent}
 use Rattle.rules.specs.Ports.{pairs}
-use Rattle.memory.specs.Layout.{word, taken, idAt, anchorWord, depPart, provPart, realmPart}
+use Rattle.memory.specs.Layout.{word, taken, idAt, anchorWord, depPart, provPart, realmPart, placeWords, places, domainWord, firstWord, nextWord, tagWord, parentWord, revisionWord, payloadWord, phaseWord, retiredWord, generationWord, rootWord, rootRevisionWord, rootArgumentWord, maskWord, valuesWord}
 use Rattle.memory.specs.declared.Life.{Life}
 use Rattle.memory.specs.declared.Words.{Words}
 
@@ -22,7 +22,7 @@ parentOf zero id = none
 parentOf (suc n) id = some id
 
 abbrev pub parentAt : List ℕ → ℕ → Option ℕ
-parentAt m i = parentOf (word m (i * 72 + 9)) (word m (i * 72 + 10))
+parentAt m i = parentOf (word m (i * placeWords + tagWord)) (word m (i * placeWords + parentWord))
 
 abbrev pub phaseOf : ℕ → Phase
 phaseOf zero = Idle
@@ -38,14 +38,14 @@ rootOf (suc (suc n)) v a = Spent
 -- what operations on one plugin change, but for its values: its words, and what they say
 abbrev pub wordsAt : List ℕ → ℕ → Words
 wordsAt m i = record {
-  revision = word m (i * 72 + 11);
-  payload = word m (i * 72 + 12);
-  phase = word m (i * 72 + 13);
-  retired = word m (i * 72 + 14);
-  generation = word m (i * 72 + 15);
-  root = word m (i * 72 + 16);
-  «root_revision» = word m (i * 72 + 17);
-  «root_argument» = word m (i * 72 + 18);
+  revision = word m (i * placeWords + revisionWord);
+  payload = word m (i * placeWords + payloadWord);
+  phase = word m (i * placeWords + phaseWord);
+  retired = word m (i * placeWords + retiredWord);
+  generation = word m (i * placeWords + generationWord);
+  root = word m (i * placeWords + rootWord);
+  «root_revision» = word m (i * placeWords + rootRevisionWord);
+  «root_argument» = word m (i * placeWords + rootArgumentWord);
 }
 
 unfoldable pub decoded : Words → Life
@@ -63,7 +63,7 @@ lifeAt m i = decoded (wordsAt m i)
 
 -- the value of provision j, or none
 unfoldable pub valueAt : List ℕ → ℕ → ℕ → Option ℕ
-valueAt m i j = pick (eqb (word m (i * 72 + 23) / 2 ^ j % 2) 1) (some (word m (i * 72 + 24 + j))) none
+valueAt m i j = pick (eqb (word m (i * placeWords + maskWord) / 2 ^ j % 2) 1) (some (word m (i * placeWords + valuesWord + j))) none
 
 abbrev pub valued : List ℕ → ℕ → ℕ → List Port → List Provision
 valued m i j [] = []
@@ -98,4 +98,4 @@ placesFrom zero m i = []
 placesFrom (suc n) m i = placeAt m i ∷ placesFrom n m (i + 1)
 
 unfoldable pub view : List ℕ → Registry
-view m = record { domain = word m 0; first = word m 1; next = word m 2; places = placesFrom 32 m 0 }
+view m = record { domain = word m domainWord; first = word m firstWord; next = word m nextWord; places = placesFrom places m 0 }

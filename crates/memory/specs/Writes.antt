@@ -7,15 +7,14 @@ use lib.Dec.{eqb}
 use lib.ListN.{set}
 use mir.Val.{boolByte}
 use Rattle.rules.specs.Basics.{pick}
-use Rattle.rules.specs.declared.Phase.{Phase}
-use Rattle.rules.specs.declared.Phase.the-variants.{Idle, Loading, Active, Unloading}
+use Rattle.rules.specs.Queries.{phaseNumber}
 use Rattle.rules.specs.declared.Root.{Root}
 use Rattle.rules.specs.declared.Root.the-variants.{Unissued, Queued, Spent}
 use Rattle.memory.specs.declared.Parent.{Parent}
 use Rattle.memory.specs.declared.Parent.the-variants.{Of, Nobody}
 use Rattle.memory.specs.declared.Place.{Place}
 use Rattle.memory.specs.declared.Place.the-variants.{At, Nowhere}
-use Rattle.memory.specs.Layout.{taken, idAt}
+use Rattle.memory.specs.Layout.{taken, idAt, placeWords, places, revisionWord}
 use Rattle.memory.specs.declared.Life.{Life}
 use Rattle.memory.specs.declared.Words.{Words}
 
@@ -33,18 +32,12 @@ findFrom zero m id i = Nowhere
 findFrom (suc n) m id i = pick (namesAt m id i) (At i) (findFrom n m id (i + 1))
 
 unfoldable pub findAt : List ℕ → ℕ → Place
-findAt m id = findFrom 32 m id 0
+findAt m id = findFrom places m id 0
 
 -- numbers stored from word b + k on, one after the other
 abbrev pub puts : List ℕ → ℕ → ℕ → List ℕ → List ℕ
 puts m b k [] = m
 puts m b k (v ∷ vs) = puts (set m (b + k) v) b (k + 1) vs
-
-abbrev pub phaseWord : Phase → ℕ
-phaseWord Idle = 0
-phaseWord Loading = 1
-phaseWord Active = 2
-phaseWord Unloading = 3
 
 abbrev pub rootTag : Root → ℕ
 rootTag Unissued = 0
@@ -66,13 +59,13 @@ lifeWords w =
     w .revision ∷ w .payload ∷ w .phase ∷ w .retired ∷ w .generation ∷ w .root ∷ w .«root_revision» ∷ w .«root_argument» ∷ []
 
 abbrev pub putWords : List ℕ → ℕ → Words → List ℕ
-putWords m i w = puts m (i * 72) 11 (lifeWords w)
+putWords m i w = puts m (i * placeWords) revisionWord (lifeWords w)
 
 unfoldable pub encoded : Life → Words
 encoded l = record {
   revision = l .revision;
   payload = l .payload;
-  phase = phaseWord (l .phase);
+  phase = phaseNumber (l .phase);
   retired = boolByte (l .retired);
   generation = l .generation .0;
   root = rootTag (l .root);
@@ -85,7 +78,7 @@ putLife m i l = putWords m i (encoded l)
 
 -- revision and payload alone, which a replacement changes
 unfoldable pub renewedAt : List ℕ → ℕ → ℕ → ℕ → List ℕ
-renewedAt m i revision payload = puts m (i * 72) 11 (revision ∷ payload ∷ [])
+renewedAt m i revision payload = puts m (i * placeWords) revisionWord (revision ∷ payload ∷ [])
 
 abbrev pub renewedLife : Life → ℕ → ℕ → Life
 renewedLife l revision payload = record {

@@ -3,17 +3,20 @@ ghost use mathlib.Core.Path.{_≡_};
 ghost use Prim.Native.Nat.{_%_, _<_};
 ghost use lib.Dec.{eqb};
 ghost use Rattle.rules.specs.Basics.{holds};
-ghost use Rattle.memory.specs.Layout.{word, occupancy, taken, idAt};
+ghost use Rattle.memory.specs.Layout.{word, occupancy, taken, idAt, places, domainWord, firstWord, nextWord};
 ghost use Rattle.memory.specs.View.{parentAt};
 ghost use Rattle.memory.specs.Writes.{parentId, namesAt, findAt};
+use layout::LOW_HALF;
+use layout::PLACE_WORDS;
+use layout::PLACES;
 use rules::Generation;
 use rules::Phase;
 use rules::Root;
 
-pub const WORDS: usize = 4488;
+pub mod layout;
 
-// The words of a place: 63 in use, and room for what may come.
-pub const PLACE_WORDS: usize = 72;
+// As many as the hosts' declarations say.
+pub const WORDS: usize = 4488;
 
 // A place among the 32.
 pub enum Place {
@@ -50,35 +53,35 @@ pub struct Words {
 }
 
 pub fn domain(m: &[u64; WORDS]) -> u64
-    ensures { λ r. ⌜ r ≡ word (now (m .entry)) 0 ⌝ }
+    ensures { λ r. ⌜ r ≡ word (now (m .entry)) domainWord ⌝ }
 {
-    m[0]
+    m[layout::DOMAIN]
 }
 
 pub fn first_id(m: &[u64; WORDS]) -> u64
-    ensures { λ r. ⌜ r ≡ word (now (m .entry)) 1 ⌝ }
+    ensures { λ r. ⌜ r ≡ word (now (m .entry)) firstWord ⌝ }
 {
-    m[1]
+    m[layout::FIRST]
 }
 
 pub fn next_id(m: &[u64; WORDS]) -> u64
-    ensures { λ r. ⌜ r ≡ word (now (m .entry)) 2 ⌝ }
+    ensures { λ r. ⌜ r ≡ word (now (m .entry)) nextWord ⌝ }
 {
-    m[2]
+    m[layout::NEXT]
 }
 
 // The occupancy word.
 pub fn occupied(m: &[u64; WORDS]) -> u32
     ensures { λ r. ⌜ r ≡ occupancy (now (m .entry)) ⌝ }
 {
-    (m[3] % 4294967296) as u32
+    (m[layout::OCCUPANCY] % LOW_HALF) as u32
 }
 
 // Whether the place is taken.
 pub fn is_taken(m: &[u64; WORDS], place: usize) -> bool
     ensures { λ r. ⌜ r ≡ taken (now (m .entry)) place ⌝ }
 {
-    if place < 32 {
+    if place < PLACES {
         (occupied(m) >> place) % 2 == 1
     } else {
         false
@@ -87,10 +90,10 @@ pub fn is_taken(m: &[u64; WORDS], place: usize) -> bool
 
 // Whether the plugin of this place has the id: that is asked first, as few places have it.
 fn names(m: &[u64; WORDS], id: u64, place: usize) -> bool
-    requires { ⌜ place < 32 ⌝ }
+    requires { ⌜ place < places ⌝ }
     ensures { λ r. ⌜ r ≡ namesAt (now (m .entry)) id place ⌝ }
 {
-    if m[place * PLACE_WORDS + 8] == id {
+    if m[place * PLACE_WORDS + layout::ID] == id {
         is_taken(m, place)
     } else {
         false
@@ -102,7 +105,7 @@ pub fn find(m: &[u64; WORDS], id: u64) -> Place
     ensures { λ r. ⌜ r ≡ findAt (now (m .entry)) id ⌝ }
 {
     let mut i: usize = 0;
-    while i < 32 {
+    while i < PLACES {
         if names(m, id, i) {
             return Place::At(i);
         }
@@ -112,32 +115,32 @@ pub fn find(m: &[u64; WORDS], id: u64) -> Place
 }
 
 pub fn id(m: &[u64; WORDS], place: usize) -> u64
-    ensures { λ r. ⌜ r ≡ idAt (now (m .entry)) (place % 32) ⌝ }
+    ensures { λ r. ⌜ r ≡ idAt (now (m .entry)) (place % places) ⌝ }
 {
-    let b = place % 32 * PLACE_WORDS;
-    m[b + 8]
+    let b = place % PLACES * PLACE_WORDS;
+    m[b + layout::ID]
 }
 
 // The parent's id, or none.
 pub fn parent_of(m: &[u64; WORDS], place: usize) -> Parent
-    ensures { λ r. ⌜ parentId r ≡ parentAt (now (m .entry)) (place % 32) ⌝ }
+    ensures { λ r. ⌜ parentId r ≡ parentAt (now (m .entry)) (place % places) ⌝ }
 {
-    let b = place % 32 * PLACE_WORDS;
-    if m[b + 9] == 0 {
+    let b = place % PLACES * PLACE_WORDS;
+    if m[b + layout::TAG] == 0 {
         Parent::Nobody
     } else {
-        Parent::Of(m[b + 10])
+        Parent::Of(m[b + layout::PARENT])
     }
 }
 
 // Whether the plugin of this place has the id as parent.
 pub fn is_child_of(m: &[u64; WORDS], place: usize, id: u64) -> bool
-    ensures { λ r. ⌜ r ≡ holds (eqb id) (parentAt (now (m .entry)) (place % 32)) ⌝ }
+    ensures { λ r. ⌜ r ≡ holds (eqb id) (parentAt (now (m .entry)) (place % places)) ⌝ }
 {
-    let b = place % 32 * PLACE_WORDS;
-    if m[b + 9] == 0 {
+    let b = place % PLACES * PLACE_WORDS;
+    if m[b + layout::TAG] == 0 {
         false
     } else {
-        id == m[b + 10]
+        id == m[b + layout::PARENT]
     }
 }

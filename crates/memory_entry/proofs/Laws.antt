@@ -7,7 +7,8 @@ use mathlib.Core.List.{List, [], _∷_}
 use lib.ListN.{length, getD, set, drop, drop-of-length-le}
 use lib.Seq.{drop-cons}
 use borrow.Author.Tests.{le-leb, lt-leb}
-use Rattle.memory.specs.Layout.{rowWord}
+use Rattle.rules.specs.Limits.{maxRows, maxDependencies}
+use Rattle.memory.specs.Layout.{rowWord, placeWords, nextWord, idWord, realmRowsWord, rowWords}
 use Rattle.memory.specs.Writes.{puts}
 use Rattle.memory_places.specs.Changes.{occupiedAt}
 use Rattle.memory_entry.specs.Entries.{entryWords, filledPlace}
@@ -35,16 +36,16 @@ pub puts-end : (m ws : List ℕ) (b k : ℕ) → length ws ≤ k → puts m b k 
 puts-end m ws b k h = rw (drop-of-length-le ws h)
 
 -- the writer's steps, one after the other
-pub fill-steps : (m m₁ m₂ m₃ m₄ m₅ : List ℕ) (p : ℕ) (e : Entry) (ds cs zs : List ℕ) → e .start ≤ 1024 → length ds ≤ 96
-    → m₁ ≡ puts m (rowWord (e .start)) 0 ds → m₂ ≡ puts m₁ (rowWord (e .start) + length ds) 0 cs → m₃ ≡ puts m₂ (p * 72 + 39) 0 zs
-    → m₄ ≡ puts m₃ (p * 72) 8 (entryWords e) → m₅ ≡ occupiedAt (set m₄ 2 (e .next)) p → m₅ ≡ filledPlace m p e ds cs zs
+pub fill-steps : (m m₁ m₂ m₃ m₄ m₅ : List ℕ) (p : ℕ) (e : Entry) (ds cs zs : List ℕ) → e .start ≤ maxRows → length ds ≤ maxDependencies * rowWords
+    → m₁ ≡ puts m (rowWord (e .start)) 0 ds → m₂ ≡ puts m₁ (rowWord (e .start) + length ds) 0 cs → m₃ ≡ puts m₂ (p * placeWords + realmRowsWord) 0 zs
+    → m₄ ≡ puts m₃ (p * placeWords) idWord (entryWords e) → m₅ ≡ occupiedAt (set m₄ nextWord (e .next)) p → m₅ ≡ filledPlace m p e ds cs zs
 unfolding filledPlace
 fill-steps m m₁ m₂ m₃ m₄ m₅ p e ds cs zs a b e₁ e₂ e₃ e₄ e₅ = rw (le-leb _ _ a, le-leb _ _ b) (rw (e₅, e₄, e₃, e₂, e₁))
 
-pub fill-not : (m : List ℕ) (p : ℕ) (e : Entry) (ds cs zs : List ℕ) → 1024 < e .start → m ≡ filledPlace m p e ds cs zs
+pub fill-not : (m : List ℕ) (p : ℕ) (e : Entry) (ds cs zs : List ℕ) → maxRows < e .start → m ≡ filledPlace m p e ds cs zs
 unfolding filledPlace
 fill-not m p e ds cs zs a = rw (lt-leb _ _ a)
 
-pub fill-long : (m : List ℕ) (p : ℕ) (e : Entry) (ds cs zs : List ℕ) → e .start ≤ 1024 → 96 < length ds → m ≡ filledPlace m p e ds cs zs
+pub fill-long : (m : List ℕ) (p : ℕ) (e : Entry) (ds cs zs : List ℕ) → e .start ≤ maxRows → maxDependencies * rowWords < length ds → m ≡ filledPlace m p e ds cs zs
 unfolding filledPlace
 fill-long m p e ds cs zs a b = rw (le-leb _ _ a, lt-leb _ _ b)

@@ -20,7 +20,8 @@ use Rattle.rules.specs.declared.Phase.the-variants.{Idle}
 use Rattle.rules.specs.declared.Root.the-variants.{Unissued}
 use Rattle.rules.specs.Ports.{pairs}
 use Rattle.rules.specs.Registration.{unoffered}
-use Rattle.memory.specs.Layout.{word, taken, idAt, startAt, depsAt, provsAt, realmsAt, part, rowWord, depPart, provPart, realmPart}
+use Rattle.rules.specs.Limits.{maxRows, maxProvisionKeys, maxDependencies, maxRealmRows}
+use Rattle.memory.specs.Layout.{word, taken, idAt, startAt, depsAt, provsAt, realmsAt, part, rowWord, depPart, provPart, realmPart, memoryWords, placeWords, places, rowsStart, idWord, tagWord, parentWord, revisionWord, payloadWord, phaseWord, retiredWord, generationWord, rootWord, rootRevisionWord, rootArgumentWord, firstRowWord, dependenciesWord, provisionsWord, realmsWord, maskWord, realmRowsWord, placeEnd, rowWords}
 use Rattle.memory.specs.View.{parentOf, lifeAt, decoded, valueAt, valued, pluginAt}
 use Rattle.memory.specs.Frames.{Kept, withLife, plugin-kept}
 use Rattle.memory.specs.Stores.{kept-frame}
@@ -62,40 +63,40 @@ newPluginOf n = record {
 
 -- it fits its room
 pub record Sized (m : List ℕ) (n : Newcomer) : Type 0 where
-  pub dependencies : length (n .dependencies) ≡ n .d * 2
-  pub provisions : length (n .provisions) ≡ n .c * 2
-  pub realms : length (n .realms) ≡ n .z * 2
-  pub few-dependencies : n .d ≤ 48
-  pub few-provisions : n .c ≤ 15
-  pub few-realms : n .z ≤ 16
-  pub room : used m + (n .d + n .c + 1) ≤ 1024
+  pub dependencies : length (n .dependencies) ≡ n .d * rowWords
+  pub provisions : length (n .provisions) ≡ n .c * rowWords
+  pub realms : length (n .realms) ≡ n .z * rowWords
+  pub few-dependencies : n .d ≤ maxDependencies
+  pub few-provisions : n .c ≤ maxProvisionKeys
+  pub few-realms : n .z ≤ maxRealmRows
+  pub room : used m + (n .d + n .c + 1) ≤ maxRows
 
 -- what an addition at place p does to the words
 pub record Adds (m m′ : List ℕ) (p : ℕ) (n : Newcomer) : Type 0 where
   pub size : length m′ ≡ length m
   pub comes : taken m′ p ≡ true
   pub kept : (j : ℕ) → j ≢ p → taken m′ j ≡ taken m j
-  pub words : (j k : ℕ) → j < 32 → j ≢ p → 8 ≤ k → k < 80 → word m′ (j * 72 + k) ≡ word m (j * 72 + k)
-  pub rows : (k : ℕ) → k < used m * 2 → word m′ (2312 + k) ≡ word m (2312 + k)
-  pub id : word m′ (p * 72 + 8) ≡ n .id
-  pub tag : word m′ (p * 72 + 9) ≡ n .tag
-  pub parent : word m′ (p * 72 + 10) ≡ n .parent
-  pub revision : word m′ (p * 72 + 11) ≡ 0
-  pub payload : word m′ (p * 72 + 12) ≡ n .payload
-  pub phase : word m′ (p * 72 + 13) ≡ 0
-  pub retired : word m′ (p * 72 + 14) ≡ 0
-  pub generation : word m′ (p * 72 + 15) ≡ neverBegun
-  pub root : word m′ (p * 72 + 16) ≡ 0
+  pub words : (j k : ℕ) → j < places → j ≢ p → idWord ≤ k → k < placeEnd → word m′ (j * placeWords + k) ≡ word m (j * placeWords + k)
+  pub rows : (k : ℕ) → k < used m * rowWords → word m′ (rowsStart + k) ≡ word m (rowsStart + k)
+  pub id : word m′ (p * placeWords + idWord) ≡ n .id
+  pub tag : word m′ (p * placeWords + tagWord) ≡ n .tag
+  pub parent : word m′ (p * placeWords + parentWord) ≡ n .parent
+  pub revision : word m′ (p * placeWords + revisionWord) ≡ 0
+  pub payload : word m′ (p * placeWords + payloadWord) ≡ n .payload
+  pub phase : word m′ (p * placeWords + phaseWord) ≡ 0
+  pub retired : word m′ (p * placeWords + retiredWord) ≡ 0
+  pub generation : word m′ (p * placeWords + generationWord) ≡ neverBegun
+  pub root : word m′ (p * placeWords + rootWord) ≡ 0
   pub start : startWord m′ p ≡ used m
-  pub d : word m′ (p * 72 + 20) ≡ n .d
-  pub c : word m′ (p * 72 + 21) ≡ n .c
-  pub z : word m′ (p * 72 + 22) ≡ n .z
-  pub mask : word m′ (p * 72 + 23) ≡ 0
-  pub realms : (k : ℕ) → k < n .z * 2 → word m′ (p * 72 + 39 + k) ≡ getD (n .realms) k 0
-  pub dependencies : (k : ℕ) → k < n .d * 2 → word m′ (rowWord (used m) + k) ≡ getD (n .dependencies) k 0
+  pub d : word m′ (p * placeWords + dependenciesWord) ≡ n .d
+  pub c : word m′ (p * placeWords + provisionsWord) ≡ n .c
+  pub z : word m′ (p * placeWords + realmsWord) ≡ n .z
+  pub mask : word m′ (p * placeWords + maskWord) ≡ 0
+  pub realms : (k : ℕ) → k < n .z * rowWords → word m′ (p * placeWords + realmRowsWord + k) ≡ getD (n .realms) k 0
+  pub dependencies : (k : ℕ) → k < n .d * rowWords → word m′ (rowWord (used m) + k) ≡ getD (n .dependencies) k 0
   pub anchor-key : word m′ (rowWord (used m + n .d)) ≡ n .anchor .key
   pub anchor-realm : word m′ (rowWord (used m + n .d) + 1) ≡ n .anchor .realm
-  pub provisions : (k : ℕ) → k < n .c * 2 → word m′ (rowWord (used m + n .d) + 2 + k) ≡ getD (n .provisions) k 0
+  pub provisions : (k : ℕ) → k < n .c * rowWords → word m′ (rowWord (used m + n .d) + rowWords + k) ≡ getD (n .provisions) k 0
 
 -- a part that holds a list
 part-list : (m ws : List ℕ) (a n : ℕ) → length ws ≡ n → a + n ≤ length m → ((k : ℕ) → k < n → word m (a + k) ≡ getD ws k 0) → part m a n ≡ ws
@@ -105,17 +106,17 @@ part-list m ws a n e h f =
     let k : i < n = omega (arith, whole) in
     (getD-take n (drop a m) i 0 k ∙ getD-drop a m i 0) ∙ f i k
 
-value-none : (m : List ℕ) (i j : ℕ) → word m (i * 72 + 23) ≡ 0 → valueAt m i j ≡ none
+value-none : (m : List ℕ) (i j : ℕ) → word m (i * placeWords + maskWord) ≡ 0 → valueAt m i j ≡ none
 unfolding valueAt
 value-none m i j e = rw (e, zero-div)
 
-valued-none : (m : List ℕ) (i : ℕ) → word m (i * 72 + 23) ≡ 0 → (qs : List Port) (j : ℕ) → valued m i j qs ≡ map unoffered qs
+valued-none : (m : List ℕ) (i : ℕ) → word m (i * placeWords + maskWord) ≡ 0 → (qs : List Port) (j : ℕ) → valued m i j qs ≡ map unoffered qs
 valued-none m i e [] j = refl
 valued-none m i e (q ∷ qs) j = rw (value-none m i j e, valued-none m i e qs (j + 1))
 
-module _ (m m′ : List ℕ) (p : ℕ) (n : Newcomer) (h : p < 32) (free : taken m p ≡ false) (new : (j : ℕ) → taken m j ≡ true → idAt m j ≢ n .id)
+module _ (m m′ : List ℕ) (p : ℕ) (n : Newcomer) (h : p < places) (free : taken m p ≡ false) (new : (j : ℕ) → taken m j ≡ true → idAt m j ≢ n .id)
     (dense : Dense m) (sized : Sized m n) (r : Adds m m′ p n) where
-  size′ : length m′ ≡ 4488
+  size′ : length m′ ≡ memoryWords
   size′ = r .size ∙ dense .size
 
   some-rows : (i : ℕ) → 1 ≤ rowsAt m i
@@ -133,8 +134,8 @@ module _ (m m′ : List ℕ) (p : ℕ) (n : Newcomer) (h : p < 32) (free : taken
   start-new : startAt m′ p ≡ used m
   start-new = rw (r .start) (omega (arith, dense .room))
 
-  counts : (j : ℕ) → j < 32 → j ≢ p → rowsAt m′ j ≡ rowsAt m j
-  counts j k d = rw (r .words j 20 k d (omega arith) (omega arith), r .words j 21 k d (omega arith) (omega arith))
+  counts : (j : ℕ) → j < places → j ≢ p → rowsAt m′ j ≡ rowsAt m j
+  counts j k d = rw (r .words j dependenciesWord k d (omega arith) (omega arith), r .words j provisionsWord k d (omega arith) (omega arith))
 
   end : used m′ ≡ used m + rowsAt m′ p
   end =
@@ -142,7 +143,7 @@ module _ (m m′ : List ℕ) (p : ℕ) (n : Newcomer) (h : p < 32) (free : taken
       let b : share (taken m) (rowsAt m) p ≡ 0 = rw free in
       omega (
         arith,
-        sum-but 32 (share (taken m′) (rowsAt m′)) (share (taken m) (rowsAt m)) p 0
+        sum-but places (share (taken m′) (rowsAt m′)) (share (taken m) (rowsAt m)) p 0
             (λ j k d. rw (r .kept j d) (ap (λ (x : ℕ). pick (taken m j) x 0) (counts j (omega arith) d))) (omega arith) (omega arith),
       )
 
@@ -159,7 +160,7 @@ module _ (m m′ : List ℕ) (p : ℕ) (n : Newcomer) (h : p < 32) (free : taken
       cases false e = settled (eqb-false j p e) (sym (r .kept j (eqb-false j p e)) ∙ t)
 
   old-id : (j : ℕ) → j ≢ p → taken m j ≡ true → idAt m′ j ≡ idAt m j
-  old-id j d t = r .words j 8 (taken-below m j t) d (omega arith) (omega arith)
+  old-id j d t = r .words j idWord (taken-below m j t) d (omega arith) (omega arith)
 
   alone : (i j : ℕ) → Origin i → Origin j → idAt m′ i ≡ idAt m′ j → i ≡ j
   alone i j (newcomer s) (newcomer t) e = s ∙ sym t
@@ -167,8 +168,8 @@ module _ (m m′ : List ℕ) (p : ℕ) (n : Newcomer) (h : p < 32) (free : taken
   alone i j (settled d t) (newcomer s) e = absurd (new i t (sym (old-id i d t) ∙ e ∙ ap (idAt m′) s ∙ r .id))
   alone i j (settled d s) (settled f t) e = dense .alone i j s t (sym (old-id i d s) ∙ e ∙ old-id j f t)
 
-  limit : (k x : ℕ) → 8 ≤ k → k < 80 → word m′ (p * 72 + k) ≤ x → ((j : ℕ) → taken m j ≡ true → word m (j * 72 + k) ≤ x)
-      → (j : ℕ) → Origin j → word m′ (j * 72 + k) ≤ x
+  limit : (k x : ℕ) → idWord ≤ k → k < placeEnd → word m′ (p * placeWords + k) ≤ x → ((j : ℕ) → taken m j ≡ true → word m (j * placeWords + k) ≤ x)
+      → (j : ℕ) → Origin j → word m′ (j * placeWords + k) ≤ x
   limit k x a b here there j (newcomer s) = rw s here
   limit k x a b here there j (settled d t) = rw (r .words j k (taken-below m j t) d a b) (there j t)
 
@@ -176,25 +177,25 @@ module _ (m m′ : List ℕ) (p : ℕ) (n : Newcomer) (h : p < 32) (free : taken
   added-dense = record {
     size = size′;
     alone = λ i j s t e. alone i j (origin i s) (origin j t) e;
-    few-dependencies = λ j t. limit 20 48 (omega arith) (omega arith) (omega (arith, r .d, sized .few-dependencies)) (dense .few-dependencies) j (origin j t);
-    few-provisions = λ j t. limit 21 15 (omega arith) (omega arith) (omega (arith, r .c, sized .few-provisions)) (dense .few-provisions) j (origin j t);
-    few-realms = λ j t. limit 22 16 (omega arith) (omega arith) (omega (arith, r .z, sized .few-realms)) (dense .few-realms) j (origin j t);
+    few-dependencies = λ j t. limit dependenciesWord maxDependencies (omega arith) (omega arith) (omega (arith, r .d, sized .few-dependencies)) (dense .few-dependencies) j (origin j t);
+    few-provisions = λ j t. limit provisionsWord maxProvisionKeys (omega arith) (omega arith) (omega (arith, r .c, sized .few-provisions)) (dense .few-provisions) j (origin j t);
+    few-realms = λ j t. limit realmsWord maxRealmRows (omega arith) (omega arith) (omega (arith, r .z, sized .few-realms)) (dense .few-realms) j (origin j t);
     tiled = tiled-added (taken m) (taken m′) (startWord m) (startWord m′) (rowsAt m) (rowsAt m′) (used m) (used m′) p (dense .tiled) h some-rows
-        free (r .comes) (r .kept) counts (λ j k d. r .words j 19 k d (omega arith) (omega arith)) (r .start) end;
+        free (r .comes) (r .kept) counts (λ j k d. r .words j firstRowWord k d (omega arith) (omega arith)) (r .start) end;
     room = omega (arith, end, deps-new, provs-new, sized .room);
   }
 
-  life-kept : (j : ℕ) → j < 32 → j ≢ p → lifeAt m′ j ≡ lifeAt m j
+  life-kept : (j : ℕ) → j < places → j ≢ p → lifeAt m′ j ≡ lifeAt m j
   unfolding lifeAt
   life-kept j k d = ap decoded (λ x. record {
-    revision = r .words j 11 k d (omega arith) (omega arith) x;
-    payload = r .words j 12 k d (omega arith) (omega arith) x;
-    phase = r .words j 13 k d (omega arith) (omega arith) x;
-    retired = r .words j 14 k d (omega arith) (omega arith) x;
-    generation = r .words j 15 k d (omega arith) (omega arith) x;
-    root = r .words j 16 k d (omega arith) (omega arith) x;
-    «root_revision» = r .words j 17 k d (omega arith) (omega arith) x;
-    «root_argument» = r .words j 18 k d (omega arith) (omega arith) x;
+    revision = r .words j revisionWord k d (omega arith) (omega arith) x;
+    payload = r .words j payloadWord k d (omega arith) (omega arith) x;
+    phase = r .words j phaseWord k d (omega arith) (omega arith) x;
+    retired = r .words j retiredWord k d (omega arith) (omega arith) x;
+    generation = r .words j generationWord k d (omega arith) (omega arith) x;
+    root = r .words j rootWord k d (omega arith) (omega arith) x;
+    «root_revision» = r .words j rootRevisionWord k d (omega arith) (omega arith) x;
+    «root_argument» = r .words j rootArgumentWord k d (omega arith) (omega arith) x;
   })
 
   -- every other place reads as before
@@ -207,25 +208,25 @@ module _ (m m′ : List ℕ) (p : ℕ) (n : Newcomer) (h : p < 32) (free : taken
       let w : Kept m m′ j = kept-frame m m′ j k (dense .size) size′
       (λ i a c. r .words j i k d a (omega arith))
       (λ i a c. r .words j i k d (omega arith) c)
-      (λ i u. ap (λ x. word m′ (rowWord (min x 1024) + i)) (r .words j 19 k d (omega arith) (omega arith))
-      ∙ (let e : rowWord (startAt m j) + i ≡ 2312 + (startAt m j * 2 + i) = omega arith in
-      ap (word m′) e ∙ r .rows (startAt m j * 2 + i) (omega arith) ∙ sym (ap (word m) e))) in
+      (λ i u. ap (λ x. word m′ (rowWord (min x maxRows) + i)) (r .words j firstRowWord k d (omega arith) (omega arith))
+      ∙ (let e : rowWord (startAt m j) + i ≡ rowsStart + (startAt m j * rowWords + i) = omega arith in
+      ap (word m′) e ∙ r .rows (startAt m j * rowWords + i) (omega arith) ∙ sym (ap (word m) e))) in
       plugin-kept m m′ j w ∙ ap (withLife (pluginAt m j)) (life-kept j k d)
 
   deps-part : depPart m′ p ≡ n .dependencies
   deps-part =
       rw (start-new, deps-new)
-      (part-list m′ (n .dependencies) (rowWord (used m)) (n .d * 2) (sized .dependencies) (omega (arith, size′, dense .room, sized .few-dependencies)) (r .dependencies))
+      (part-list m′ (n .dependencies) (rowWord (used m)) (n .d * rowWords) (sized .dependencies) (omega (arith, size′, dense .room, sized .few-dependencies)) (r .dependencies))
 
   provs-part : provPart m′ p ≡ n .provisions
   provs-part =
       rw (start-new, deps-new, provs-new)
-      (part-list m′ (n .provisions) (rowWord (used m + n .d) + 2) (n .c * 2) (sized .provisions) (omega (arith, size′, sized .room)) (r .provisions))
+      (part-list m′ (n .provisions) (rowWord (used m + n .d) + rowWords) (n .c * rowWords) (sized .provisions) (omega (arith, size′, sized .room)) (r .provisions))
 
   realms-part : realmPart m′ p ≡ n .realms
   realms-part =
       rw realms-new
-      (part-list m′ (n .realms) (p * 72 + 39) (n .z * 2) (sized .realms) (omega (arith, size′, sized .few-realms)) (r .realms))
+      (part-list m′ (n .realms) (p * placeWords + realmRowsWord) (n .z * rowWords) (sized .realms) (omega (arith, size′, sized .few-realms)) (r .realms))
 
   life-new : lifeAt m′ p ≡ record { revision = 0; payload = n .payload; phase = Idle; retired = false; generation = generationOf neverBegun; root = Unissued }
   unfolding lifeAt decoded

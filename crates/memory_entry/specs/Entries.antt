@@ -5,7 +5,8 @@ use lib.Dec.{leb}
 use lib.ListN.{length, set}
 use Rattle.rules.specs.Basics.{pick}
 use Rattle.rules.specs.Holds.{neverBegun}
-use Rattle.memory.specs.Layout.{rowWord}
+use Rattle.rules.specs.Limits.{maxRows, maxDependencies}
+use Rattle.memory.specs.Layout.{rowWord, placeWords, idWord, realmRowsWord, rowWords}
 use Rattle.memory.specs.Writes.{puts}
 use Rattle.memory_places.specs.Changes.{occupiedAt}
 use Rattle.memory_entry.specs.declared.Entry.{Entry}
@@ -20,7 +21,7 @@ entryWords e =
 unfoldable pub filledPlace : List ℕ → ℕ → Entry → List ℕ → List ℕ → List ℕ → List ℕ
 filledPlace m p e dependencies claims realms =
     let r = rowWord (e .start) in
-    pick (leb (e .start) 1024)
-    (pick (leb (length dependencies) 96)
-    (occupiedAt (set (puts (puts (puts (puts m r 0 dependencies) (r + length dependencies) 0 claims) (p * 72 + 39) 0 realms) (p * 72) 8 (entryWords e)) 2 (e .next)) p)
+    pick (leb (e .start) maxRows)
+    (pick (leb (length dependencies) (maxDependencies * rowWords))
+    (occupiedAt (set (puts (puts (puts (puts m r 0 dependencies) (r + length dependencies) 0 claims) (p * placeWords + realmRowsWord) 0 realms) (p * placeWords) idWord (entryWords e)) 2 (e .next)) p)
     m) m

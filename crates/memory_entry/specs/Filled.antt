@@ -12,7 +12,8 @@ use lib.Seq.{getD-set-same, getD-set-other}
 use borrow.Author.Tests.{ltb-true, ltb-false, le-leb}
 use Rattle.rules.specs.Outcomes.{adds, after}
 use Rattle.rules.specs.Laws.Tests.{by-test}
-use Rattle.memory.specs.Layout.{word, taken, idAt, rowWord}
+use Rattle.rules.specs.Limits.{maxRows, maxDependencies}
+use Rattle.memory.specs.Layout.{word, taken, idAt, rowWord, memoryWords, placeWords, places, nextWord, rowsStart, idWord, realmRowsWord, placeEnd, rowWords, domainWord, firstWord, occupancyWord}
 use Rattle.memory.specs.View.{placeAt, view}
 use Rattle.memory.specs.Writes.{puts}
 use Rattle.memory.specs.Frames.{puts-length, puts-before, puts-after, puts-same}
@@ -41,13 +42,13 @@ filled-size m p e ds cs zs =
     let r = rowWord (e .start) in
     let m₁ = puts m r 0 ds in
     let m₂ = puts m₁ (r + length ds) 0 cs in
-    let m₃ = puts m₂ (p * 72 + 39) 0 zs in
-    let m₄ = puts m₃ (p * 72) 8 (entryWords e) in
-    by-test (leb (e .start) 1024)
-    (λ t. by-test (leb (length ds) 96)
+    let m₃ = puts m₂ (p * placeWords + realmRowsWord) 0 zs in
+    let m₄ = puts m₃ (p * placeWords) idWord (entryWords e) in
+    by-test (leb (e .start) maxRows)
+    (λ t. by-test (leb (length ds) (maxDependencies * rowWords))
     (λ u. rw (t, u) (
-    occupied-length (set m₄ 2 (e .next)) p ∙ length-set m₄ 2 (e .next) ∙ puts-length (entryWords e) m₃ (p * 72) 8
-    ∙ puts-length zs m₂ (p * 72 + 39) 0 ∙ puts-length cs m₁ (r + length ds) 0 ∙ puts-length ds m r 0))
+    occupied-length (set m₄ nextWord (e .next)) p ∙ length-set m₄ nextWord (e .next) ∙ puts-length (entryWords e) m₃ (p * placeWords) idWord
+    ∙ puts-length zs m₂ (p * placeWords + realmRowsWord) 0 ∙ puts-length cs m₁ (r + length ds) 0 ∙ puts-length ds m r 0))
     (λ f. rw (t, f)))
     (λ f. rw f)
 
@@ -82,18 +83,18 @@ module _ (m : List ℕ) (p : ℕ) (n : Newcomer) (next : ℕ) (lowest : freeAt m
   m₂ = puts m₁ (R + length (n .dependencies)) 0 (claimWords n)
 
   abbrev m₃ : List ℕ
-  m₃ = puts m₂ (p * 72 + 39) 0 (n .realms)
+  m₃ = puts m₂ (p * placeWords + realmRowsWord) 0 (n .realms)
 
   abbrev m₄ : List ℕ
-  m₄ = puts m₃ (p * 72) 8 (entryWords E)
+  m₄ = puts m₃ (p * placeWords) idWord (entryWords E)
 
   abbrev m₅ : List ℕ
-  m₅ = set m₄ 2 next
+  m₅ = set m₄ nextWord next
 
   abbrev filled : List ℕ
   filled = occupiedAt m₅ p
 
-  h : p < 32
+  h : p < places
   h = free-at m p lowest .below
 
   free : taken m p ≡ false
@@ -101,46 +102,46 @@ module _ (m : List ℕ) (p : ℕ) (n : Newcomer) (next : ℕ) (lowest : freeAt m
 
   filled-is : filledPlace m p E (n .dependencies) (claimWords n) (n .realms) ≡ filled
   unfolding filledPlace
-  filled-is = rw (le-leb _ _ (d .room), le-leb (length (n .dependencies)) 96 (omega (arith, z .dependencies, z .few-dependencies)))
+  filled-is = rw (le-leb _ _ (d .room), le-leb (length (n .dependencies)) (maxDependencies * rowWords) (omega (arith, z .dependencies, z .few-dependencies)))
 
-  size₁ : length m₁ ≡ 4488
+  size₁ : length m₁ ≡ memoryWords
   size₁ = puts-length (n .dependencies) m R 0 ∙ d .size
 
-  size₂ : length m₂ ≡ 4488
+  size₂ : length m₂ ≡ memoryWords
   size₂ = puts-length (claimWords n) m₁ (R + length (n .dependencies)) 0 ∙ size₁
 
-  size₃ : length m₃ ≡ 4488
-  size₃ = puts-length (n .realms) m₂ (p * 72 + 39) 0 ∙ size₂
+  size₃ : length m₃ ≡ memoryWords
+  size₃ = puts-length (n .realms) m₂ (p * placeWords + realmRowsWord) 0 ∙ size₂
 
-  size₄ : length m₄ ≡ 4488
-  size₄ = puts-length (entryWords E) m₃ (p * 72) 8 ∙ size₃
+  size₄ : length m₄ ≡ memoryWords
+  size₄ = puts-length (entryWords E) m₃ (p * placeWords) idWord ∙ size₃
 
-  size₅ : length m₅ ≡ 4488
-  size₅ = length-set m₄ 2 next ∙ size₄
+  size₅ : length m₅ ≡ memoryWords
+  size₅ = length-set m₄ nextWord next ∙ size₄
 
   -- past the header nothing changes any more once the place's own words stand
   late : (k : ℕ) → 3 < k → word filled k ≡ word m₄ k
-  late k a = occupied-word m₅ p k (omega arith) ∙ getD-set-other m₄ 2 k next 0 (omega arith)
+  late k a = occupied-word m₅ p k (omega arith) ∙ getD-set-other m₄ nextWord k next 0 (omega arith)
 
   -- a word outside the place's own
-  outside : (k : ℕ) → (p * 72 + 8 ≤ k → k < p * 72 + 80 → ⊥) → word m₄ k ≡ word m₂ k
+  outside : (k : ℕ) → (p * placeWords + idWord ≤ k → k < p * placeWords + placeEnd → ⊥) → word m₄ k ≡ word m₂ k
   outside k f =
-      puts-apart (entryWords E) m₃ (p * 72) 8 k (λ a b. f (omega arith) (omega arith))
-      ∙ puts-apart (n .realms) m₂ (p * 72 + 39) 0 k (λ a b. f (omega arith) (omega (arith, z .realms, z .few-realms)))
+      puts-apart (entryWords E) m₃ (p * placeWords) idWord k (λ a b. f (omega arith) (omega arith))
+      ∙ puts-apart (n .realms) m₂ (p * placeWords + realmRowsWord) 0 k (λ a b. f (omega arith) (omega (arith, z .realms, z .few-realms)))
 
   -- a word in front of the new rows
   front : (k : ℕ) → k < R → word m₂ k ≡ word m k
   front k a = puts-before (claimWords n) m₁ (R + length (n .dependencies)) 0 k (omega arith) ∙ puts-before (n .dependencies) m R 0 k (omega arith)
 
-  still : (k : ℕ) → k ≢ 2 → k < R → (p * 72 + 8 ≤ k → k < p * 72 + 80 → ⊥) → word m₅ k ≡ word m k
-  still k a b f = getD-set-other m₄ 2 k next 0 a ∙ outside k f ∙ front k b
+  still : (k : ℕ) → k ≢ nextWord → k < R → (p * placeWords + idWord ≤ k → k < p * placeWords + placeEnd → ⊥) → word m₅ k ≡ word m k
+  still k a b f = getD-set-other m₄ nextWord k next 0 a ∙ outside k f ∙ front k b
 
   taken-still : (j : ℕ) → taken m₅ j ≡ taken m j
   unfolding taken
-  taken-still j = rw (still 3 (omega arith) (omega arith) (λ a b. omega arith))
+  taken-still j = rw (still occupancyWord (omega arith) (omega arith) (λ a b. omega arith))
 
-  own : (k : ℕ) → k < 16 → word filled (p * 72 + (8 + k)) ≡ getD (entryWords E) k 0
-  own k a = late (p * 72 + (8 + k)) (omega arith) ∙ puts-same (entryWords E) m₃ (p * 72) 8 k a (omega (arith, size₃, h))
+  own : (k : ℕ) → k < 16 → word filled (p * placeWords + (idWord + k)) ≡ getD (entryWords E) k 0
+  own k a = late (p * placeWords + (idWord + k)) (omega arith) ∙ puts-same (entryWords E) m₃ (p * placeWords) idWord k a (omega (arith, size₃, h))
 
   -- a word of the new rows
   row : (k : ℕ) → R ≤ k → word filled k ≡ word m₂ k
@@ -156,8 +157,8 @@ module _ (m : List ℕ) (p : ℕ) (n : Newcomer) (next : ℕ) (lowest : freeAt m
     size = occupied-length m₅ p ∙ size₅ ∙ sym (d .size);
     comes = occupied-here m₅ p size₅ h (taken-still p ∙ free);
     kept = λ j a. occupied-others m₅ p size₅ h (taken-still p ∙ free) j a ∙ taken-still j;
-    words = λ j k a b c f. occupied-word m₅ p (j * 72 + k) (omega arith) ∙ still (j * 72 + k) (omega arith) (omega arith) (λ u v. b (omega arith));
-    rows = λ k a. late (2312 + k) (omega arith) ∙ outside (2312 + k) (λ b c. omega (arith, h)) ∙ front (2312 + k) (omega arith);
+    words = λ j k a b c f. occupied-word m₅ p (j * placeWords + k) (omega arith) ∙ still (j * placeWords + k) (omega arith) (omega arith) (λ u v. b (omega arith));
+    rows = λ k a. late (rowsStart + k) (omega arith) ∙ outside (rowsStart + k) (λ b c. omega (arith, h)) ∙ front (rowsStart + k) (omega arith);
     id = own 0 (lit< tt);
     tag = own 1 (lit< tt);
     parent = own 2 (lit< tt);
@@ -173,11 +174,11 @@ module _ (m : List ℕ) (p : ℕ) (n : Newcomer) (next : ℕ) (lowest : freeAt m
     z = own 14 (lit< tt);
     mask = own 15 (lit< tt);
     realms = λ k a.
-        let e : p * 72 + 39 + k ≡ p * 72 + 39 + (0 + k) = omega arith in
-        late (p * 72 + 39 + k) (omega arith)
-        ∙ puts-after (entryWords E) m₃ (p * 72) 8 (p * 72 + 39 + k) (omega arith)
+        let e : p * placeWords + realmRowsWord + k ≡ p * placeWords + realmRowsWord + (0 + k) = omega arith in
+        late (p * placeWords + realmRowsWord + k) (omega arith)
+        ∙ puts-after (entryWords E) m₃ (p * placeWords) idWord (p * placeWords + realmRowsWord + k) (omega arith)
         ∙ ap (word m₃) e
-        ∙ puts-same (n .realms) m₂ (p * 72 + 39) 0 k (omega (arith, z .realms)) (omega (arith, size₂, z .realms, z .few-realms, h));
+        ∙ puts-same (n .realms) m₂ (p * placeWords + realmRowsWord) 0 k (omega (arith, z .realms)) (omega (arith, size₂, z .realms, z .few-realms, h));
     dependencies = λ k a.
         let e : R + k ≡ R + (0 + k) = omega arith in
         row (R + k) (omega arith)
@@ -209,12 +210,12 @@ module _ (m : List ℕ) (p : ℕ) (n : Newcomer) (next : ℕ) (lowest : freeAt m
     pub filled-dense : Dense (filledPlace m p E (n .dependencies) (claimWords n) (n .realms))
     filled-dense = rw filled-is (added-dense m filled p n h free new d z filled-adds)
 
-    pub filled-view : next ≡ word m 2 + 1 → (vs : List ℕ)
+    pub filled-view : next ≡ word m nextWord + 1 → (vs : List ℕ)
         → view (filledPlace m p E (n .dependencies) (claimWords n) (n .realms)) ≡ after (view m) (adds (newPluginOf n) vs)
     unfolding view after
     filled-view e vs = rw filled-is (λ x. record {
-      domain = (occupied-word m₅ p 0 (omega arith) ∙ still 0 (omega arith) (omega arith) (λ a b. omega arith)) x;
-      first = (occupied-word m₅ p 1 (omega arith) ∙ still 1 (omega arith) (omega arith) (λ a b. omega arith)) x;
-      next = (occupied-word m₅ p 2 (omega arith) ∙ getD-set-same m₄ 2 next 0 (omega (arith, size₄)) ∙ e) x;
+      domain = (occupied-word m₅ p domainWord (omega arith) ∙ still domainWord (omega arith) (omega arith) (λ a b. omega arith)) x;
+      first = (occupied-word m₅ p firstWord (omega arith) ∙ still firstWord (omega arith) (omega arith) (λ a b. omega arith)) x;
+      next = (occupied-word m₅ p nextWord (omega arith) ∙ getD-set-same m₄ nextWord next 0 (omega (arith, size₄)) ∙ e) x;
       places = places-added m filled p (newPluginOf n) filled-place lowest (λ j a b. other-place j b) x;
     })

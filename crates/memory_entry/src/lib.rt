@@ -3,10 +3,19 @@ ghost use mathlib.Core.Path.{_≡_};
 ghost use Prim.Native.Nat.{_*_, _%_, _<_};
 ghost use lib.ListN.{length};
 ghost use Rattle.memory.specs.Writes.{puts};
+ghost use Rattle.memory.specs.Layout.{memoryWords, placeWords, places, idWord};
 ghost use Rattle.memory_entry.specs.Entries.{entryWords, filledPlace};
-use memory::PLACE_WORDS;
 use memory::WORDS;
+use memory::layout;
+use memory::layout::PLACE_WORDS;
+use memory::layout::PLACES;
+use memory::layout::ROW_WORDS;
+use memory::layout::ROWS_START;
 use rules::Generation;
+use rules::limits;
+
+// The most words of a dependency list.
+const LIST_WORDS: usize = limits::DEPENDENCIES * ROW_WORDS;
 
 // What is written of a new plugin beside its lists. A tag of 0 says that it has no parent.
 pub struct Entry {
@@ -29,7 +38,7 @@ fn count(s: &[u64]) -> usize
 }
 
 fn known(m: &[u64; WORDS])
-    ensures { λ _. ⌜ length (now (m .entry)) ≡ 4488 ⌝ }
+    ensures { λ _. ⌜ length (now (m .entry)) ≡ memoryWords ⌝ }
 {
     let n = count(m);
 }
@@ -41,10 +50,10 @@ fn put_words(m: &mut [u64; WORDS], from: usize, words: &[u64])
     known(m);
     let mut k: usize = 0;
     while k < words.len() {
-        if from >= 4488 {
+        if from >= WORDS {
             return;
         }
-        if k >= 4488 - from {
+        if k >= WORDS - from {
             return;
         }
         m[from + k] = words[k];
@@ -53,26 +62,26 @@ fn put_words(m: &mut [u64; WORDS], from: usize, words: &[u64])
 }
 
 fn store_entry(m: &mut [u64; WORDS], place: usize, e: Entry)
-    requires { ⌜ place < 32 ⌝ }
-    ensures { λ _. ⌜ now (m .exit) ≡ puts (now (m .entry)) (place * 72) 8 (entryWords e) ⌝ }
+    requires { ⌜ place < places ⌝ }
+    ensures { λ _. ⌜ now (m .exit) ≡ puts (now (m .entry)) (place * placeWords) idWord (entryWords e) ⌝ }
 {
     let b = place * PLACE_WORDS;
-    m[b + 8] = e.id;
-    m[b + 9] = e.tag;
-    m[b + 10] = e.parent;
-    m[b + 11] = 0;
-    m[b + 12] = e.payload;
-    m[b + 13] = 0;
-    m[b + 14] = 0;
-    m[b + 15] = Generation::NEVER_BEGUN.0;
-    m[b + 16] = 0;
-    m[b + 17] = 0;
-    m[b + 18] = 0;
-    m[b + 19] = e.start;
-    m[b + 20] = e.dependencies;
-    m[b + 21] = e.provisions;
-    m[b + 22] = e.realms;
-    m[b + 23] = 0;
+    m[b + layout::ID] = e.id;
+    m[b + layout::TAG] = e.tag;
+    m[b + layout::PARENT] = e.parent;
+    m[b + layout::REVISION] = 0;
+    m[b + layout::PAYLOAD] = e.payload;
+    m[b + layout::PHASE] = 0;
+    m[b + layout::RETIRED] = 0;
+    m[b + layout::GENERATION] = Generation::NEVER_BEGUN.0;
+    m[b + layout::ROOT] = 0;
+    m[b + layout::ROOT_REVISION] = 0;
+    m[b + layout::ROOT_ARGUMENT] = 0;
+    m[b + layout::FIRST_ROW] = e.start;
+    m[b + layout::DEPENDENCIES] = e.dependencies;
+    m[b + layout::PROVISIONS] = e.provisions;
+    m[b + layout::REALMS] = e.realms;
+    m[b + layout::MASK] = 0;
 }
 
 // A plugin is written to a place, which is taken then.
@@ -84,22 +93,22 @@ pub fn fill_place(
     claims: &[u64],
     realms: &[u64],
 )
-    ensures { λ _. ⌜ now (m .exit) ≡ filledPlace (now (m .entry)) (place % 32) e
+    ensures { λ _. ⌜ now (m .exit) ≡ filledPlace (now (m .entry)) (place % places) e
         (now (dependencies .entry)) (now (claims .entry)) (now (realms .entry)) ⌝ }
 {
     let start = e.start;
-    if 1024 < start {
+    if limits::ROWS < start as usize {
         return;
     }
-    if 96 < dependencies.len() {
+    if LIST_WORDS < dependencies.len() {
         return;
     }
-    let p = place % 32;
-    let row = (start as usize) * 2 + 2312;
+    let p = place % PLACES;
+    let row = (start as usize) * ROW_WORDS + ROWS_START;
     put_words(m, row, dependencies);
     put_words(m, row + dependencies.len(), claims);
-    put_words(m, p * PLACE_WORDS + 39, realms);
+    put_words(m, p * PLACE_WORDS + layout::REALM_ROWS, realms);
     store_entry(m, p, e);
-    m[2] = e.next;
+    m[layout::NEXT] = e.next;
     memory_places::occupy(m, p);
 }

@@ -11,6 +11,7 @@ use Rattle.memory.specs.Frames.{withLife}
 use Rattle.memory.specs.Known.{at-place, storing, storedLife, stored-at}
 use Rattle.memory.specs.declared.Life.{Life}
 use Rattle.memory.specs.declared.Place.the-variants.{At}
+use Rattle.memory.specs.Layout.{places}
 use Rattle.memory_life.specs.declared.Done.{Done}
 use Rattle.memory_life.specs.declared.Done.the-variants as done
 use Rattle.memory_life.specs.declared.Whether.{Whether}
@@ -34,16 +35,16 @@ unfolding leftBy
 told-same o m vs e = (rw e, rw e)
 
 -- the life of a found plugin, as it was loaded
-pub life-found : (m : List ℕ) (id i : ℕ) → findAt m id ≡ At i → (l : Life) → l ≡ lifeAt m (i % 32) → l ≡ lifeAt m i
+pub life-found : (m : List ℕ) (id i : ℕ) → findAt m id ≡ At i → (l : Life) → l ≡ lifeAt m (i % places) → l ≡ lifeAt m i
 life-found m id i e l h = h ∙ ap (lifeAt m) (at-place m id i e)
 
-pub generation-found : (m : List ℕ) (id i : ℕ) → findAt m id ≡ At i → (l : Life) → l ≡ lifeAt m (i % 32) → pluginAt m i .generation ≡ l .generation .0
+pub generation-found : (m : List ℕ) (id i : ℕ) → findAt m id ≡ At i → (l : Life) → l ≡ lifeAt m (i % places) → pluginAt m i .generation ≡ l .generation .0
 unfolding pluginAt
 generation-found m id i e l h = sym (ap (λ (x : Life). x .generation .0) (life-found m id i e l h))
 
 -- a found plugin's life was stored
 pub told-stored : (o : Outcome) (m : List ℕ) (id i : ℕ) (vs : List ℕ) (l : Life) (m′ : List ℕ) → findAt m id ≡ At i
-    → o ≡ stores (withLife (pluginAt m i) l) vs → m′ ≡ putLife m (i % 32) l → Meets storedLife o m (Accepted vs) m′
+    → o ≡ stores (withLife (pluginAt m i) l) vs → m′ ≡ putLife m (i % places) l → Meets storedLife o m (Accepted vs) m′
 told-stored o m id i vs l m′ e k p =
     (rw k, rw k (p ∙ ap (λ j. putLife m j l) (at-place m id i e) ∙ sym (stored-at m id i e l vs)))
 

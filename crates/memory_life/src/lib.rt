@@ -1,12 +1,16 @@
 // A plugin's life, loaded from its words and stored to them. A place is read modulo 32.
 ghost use mathlib.Core.Path.{_≡_};
 ghost use Prim.Native.Nat.{_%_, _<_};
+ghost use Rattle.rules.specs.Queries.{phaseNumber};
 ghost use Rattle.memory.specs.View.{phaseOf, rootOf, wordsAt, decoded, lifeAt};
-ghost use Rattle.memory.specs.Writes.{phaseWord, rootTag, rootRevision, rootArgument, putWords, encoded, putLife, renewedAt};
+ghost use Rattle.memory.specs.Writes.{rootTag, rootRevision, rootArgument, putWords, encoded, putLife, renewedAt};
+ghost use Rattle.memory.specs.Layout.{places};
 use memory::Life;
-use memory::PLACE_WORDS;
 use memory::WORDS;
 use memory::Words;
+use memory::layout;
+use memory::layout::PLACE_WORDS;
+use memory::layout::PLACES;
 use rules::Generation;
 use rules::Phase;
 use rules::Root;
@@ -37,7 +41,7 @@ pub fn phase_of(w: u64) -> Phase
 }
 
 fn phase_word(p: Phase) -> u64
-    ensures { λ r. ⌜ r ≡ phaseWord p ⌝ }
+    ensures { λ r. ⌜ r ≡ phaseNumber p ⌝ }
 {
     match p {
         Phase::Idle => 0,
@@ -88,35 +92,35 @@ fn root_argument(root: Root) -> u64
 }
 
 fn load_words(m: &[u64; WORDS], place: usize) -> Words
-    requires { ⌜ place < 32 ⌝ }
+    requires { ⌜ place < places ⌝ }
     ensures { λ r. ⌜ r ≡ wordsAt (now (m .entry)) place ⌝ }
 {
     let b = place * PLACE_WORDS;
     Words {
-        revision: m[b + 11],
-        payload: m[b + 12],
-        phase: m[b + 13],
-        retired: m[b + 14],
-        generation: m[b + 15],
-        root: m[b + 16],
-        root_revision: m[b + 17],
-        root_argument: m[b + 18],
+        revision: m[b + layout::REVISION],
+        payload: m[b + layout::PAYLOAD],
+        phase: m[b + layout::PHASE],
+        retired: m[b + layout::RETIRED],
+        generation: m[b + layout::GENERATION],
+        root: m[b + layout::ROOT],
+        root_revision: m[b + layout::ROOT_REVISION],
+        root_argument: m[b + layout::ROOT_ARGUMENT],
     }
 }
 
 fn store_words(m: &mut [u64; WORDS], place: usize, w: Words)
-    requires { ⌜ place < 32 ⌝ }
+    requires { ⌜ place < places ⌝ }
     ensures { λ _. ⌜ now (m .exit) ≡ putWords (now (m .entry)) place w ⌝ }
 {
     let b = place * PLACE_WORDS;
-    m[b + 11] = w.revision;
-    m[b + 12] = w.payload;
-    m[b + 13] = w.phase;
-    m[b + 14] = w.retired;
-    m[b + 15] = w.generation;
-    m[b + 16] = w.root;
-    m[b + 17] = w.root_revision;
-    m[b + 18] = w.root_argument;
+    m[b + layout::REVISION] = w.revision;
+    m[b + layout::PAYLOAD] = w.payload;
+    m[b + layout::PHASE] = w.phase;
+    m[b + layout::RETIRED] = w.retired;
+    m[b + layout::GENERATION] = w.generation;
+    m[b + layout::ROOT] = w.root;
+    m[b + layout::ROOT_REVISION] = w.root_revision;
+    m[b + layout::ROOT_ARGUMENT] = w.root_argument;
 }
 
 fn decode(w: Words) -> Life
@@ -152,22 +156,22 @@ fn encode(life: Life) -> Words
 }
 
 pub fn load(m: &[u64; WORDS], place: usize) -> Life
-    ensures { λ r. ⌜ r ≡ lifeAt (now (m .entry)) (place % 32) ⌝ }
+    ensures { λ r. ⌜ r ≡ lifeAt (now (m .entry)) (place % places) ⌝ }
 {
-    decode(load_words(m, place % 32))
+    decode(load_words(m, place % PLACES))
 }
 
 pub fn store(m: &mut [u64; WORDS], place: usize, life: Life)
-    ensures { λ _. ⌜ now (m .exit) ≡ putLife (now (m .entry)) (place % 32) life ⌝ }
+    ensures { λ _. ⌜ now (m .exit) ≡ putLife (now (m .entry)) (place % places) life ⌝ }
 {
-    store_words(m, place % 32, encode(life))
+    store_words(m, place % PLACES, encode(life))
 }
 
 // Revision and payload alone, where they lie.
 pub fn renew(m: &mut [u64; WORDS], place: usize, revision: u64, payload: u64)
-    ensures { λ _. ⌜ now (m .exit) ≡ renewedAt (now (m .entry)) (place % 32) revision payload ⌝ }
+    ensures { λ _. ⌜ now (m .exit) ≡ renewedAt (now (m .entry)) (place % places) revision payload ⌝ }
 {
-    let b = place % 32 * PLACE_WORDS;
-    m[b + 11] = revision;
-    m[b + 12] = payload;
+    let b = place % PLACES * PLACE_WORDS;
+    m[b + layout::REVISION] = revision;
+    m[b + layout::PAYLOAD] = payload;
 }

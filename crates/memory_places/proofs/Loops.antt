@@ -11,7 +11,8 @@ use lib.Pow.{shr-shr}
 use borrow.Author.Tests.{lt-ltb, le-ltb, eq-eqb, ne-eqb}
 use Rattle.rules.specs.Basics.{pick}
 use Rattle.rules.specs.Queries.{lower as lowerId}
-use Rattle.memory.specs.Layout.{occupancy, taken, idAt, depsAt, provsAt}
+use Rattle.rules.specs.Limits.{maxPluginRows}
+use Rattle.memory.specs.Layout.{occupancy, taken, idAt, depsAt, provsAt, places}
 use Rattle.memory_places.specs.Rows.{rowsAt, rowsBy, rowsFrom}
 use Rattle.memory_places.specs.Lowest.{idOf, lowestOf, lowest-here, lowest-not, lowest-free}
 use Rattle.memory_places.specs.declared.Above.{Above}
@@ -20,15 +21,15 @@ use Rattle.memory_places.specs.declared.Above.the-variants.{Id, Nothing}
 -- Rows, four places at a time: what is counted, and what is left.
 abbrev pub Counted : List ℕ → ℕ → ℕ → ℕ → Type 0
 Counted m k w total =
-    (k ≤ 8) × (total ≤ k * 256) × (w ≡ occupancy m / 2 ^ (k * 4)) × (total + rowsFrom (32 - k * 4) m (k * 4) ≡ rowsFrom 32 m 0)
+    (k ≤ 8) × (total ≤ k * 256) × (w ≡ occupancy m / 2 ^ (k * 4)) × (total + rowsFrom (places - k * 4) m (k * 4) ≡ rowsFrom places m 0)
 
 pub rows-begin : (m : List ℕ) (w : ℕ) → w ≡ occupancy m → Counted m 0 w 0
 rows-begin m w e = (omega arith, omega arith, e ∙ omega arith, omega arith)
 
-pub rows-yes : (w : ℕ) (m : List ℕ) (i d p : ℕ) → w % 2 ≡ 1 → d ≡ depsAt m i → p ≡ provsAt m i → (d + p + 1 ≤ 64) × (d + p + 1 ≡ rowsBy w m i)
+pub rows-yes : (w : ℕ) (m : List ℕ) (i d p : ℕ) → w % 2 ≡ 1 → d ≡ depsAt m i → p ≡ provsAt m i → (d + p + 1 ≤ maxPluginRows) × (d + p + 1 ≡ rowsBy w m i)
 rows-yes w m i d p h e f = (omega arith, rw (eq-eqb _ _ h, e, f))
 
-pub rows-no : (w : ℕ) (m : List ℕ) (i : ℕ) → (w % 2 ≡ 1 → ⊥) → (0 ≤ 64) × (0 ≡ rowsBy w m i)
+pub rows-no : (w : ℕ) (m : List ℕ) (i : ℕ) → (w % 2 ≡ 1 → ⊥) → (0 ≤ maxPluginRows) × (0 ≡ rowsBy w m i)
 rows-no w m i h = (omega arith, rw (ne-eqb _ _ h))
 
 rows-split : (n : ℕ) (m : List ℕ) (i : ℕ) → rowsFrom (suc (suc (suc (suc n)))) m i ≡ rowsFrom 4 m i + rowsFrom n m (i + 1 + 1 + 1 + 1)
@@ -37,15 +38,15 @@ rows-split n m i = omega arith
 
 module _ (m : List ℕ) (i w : ℕ) (h : i < 29) (e : w ≡ occupancy m / 2 ^ i) where
   -- the rows of the place whose bit is the k-th of the word
-  one-of : (k j r : ℕ) → k < 4 → j ≡ i + k → r ≡ rowsBy (w / 2 ^ k) m (j % 32) → r ≡ pick (taken m j) (rowsAt m j) 0
+  one-of : (k j r : ℕ) → k < 4 → j ≡ i + k → r ≡ rowsBy (w / 2 ^ k) m (j % places) → r ≡ pick (taken m j) (rowsAt m j) 0
   unfolding taken
   one-of k j r l p f =
-      let g : j % 32 ≡ j = mod-eq-of-lt (omega arith) in
-      let t : ltb j 32 ≡ true = lt-ltb j 32 (omega arith) in
+      let g : j % places ≡ j = mod-eq-of-lt (omega arith) in
+      let t : ltb j places ≡ true = lt-ltb j places (omega arith) in
       let s : w / 2 ^ k ≡ occupancy m / 2 ^ j = ap (λ x. x / 2 ^ k) e ∙ shr-shr (occupancy m) i k ∙ ap (λ x. occupancy m / 2 ^ x) (sym p) in
       f ∙ rw (g, t, s)
 
-  pub rows-four : (a b c d : ℕ) → a ≡ rowsBy w m (i % 32) → b ≡ rowsBy (w / 2) m ((i + 1) % 32) → c ≡ rowsBy (w / 4) m ((i + 2) % 32) → d ≡ rowsBy (w / 8) m ((i + 3) % 32)
+  pub rows-four : (a b c d : ℕ) → a ≡ rowsBy w m (i % places) → b ≡ rowsBy (w / 2) m ((i + 1) % places) → c ≡ rowsBy (w / 4) m ((i + 2) % places) → d ≡ rowsBy (w / 8) m ((i + 3) % places)
       → a + b + c + d ≡ rowsFrom 4 m i
   unfolding rowsFrom
   rows-four a b c d p q r s =
@@ -61,49 +62,49 @@ module _ (m : List ℕ) (i w : ℕ) (h : i < 29) (e : w ≡ occupancy m / 2 ^ i)
 module _ (m : List ℕ) (k w total : ℕ) (h : k < 8) (t : Counted m k w total) where
   pub rows-next : (r : ℕ) → r ≤ 256 → r ≡ rowsFrom 4 m (k * 4) → Counted m (k + 1) (w / 16) (total + r)
   rows-next r b f =
-      let n : 32 - k * 4 ≡ suc (suc (suc (suc (32 - (k + 1) * 4)))) = omega arith in
+      let n : places - k * 4 ≡ suc (suc (suc (suc (places - (k + 1) * 4)))) = omega arith in
       let j : k * 4 + 1 + 1 + 1 + 1 ≡ (k + 1) * 4 = omega arith in
       let q : k * 4 + 4 ≡ (k + 1) * 4 = omega arith in
-      let s : rowsFrom (32 - k * 4) m (k * 4) ≡ rowsFrom 4 m (k * 4) + rowsFrom (32 - (k + 1) * 4) m ((k + 1) * 4) = rw n (rows-split _ m (k * 4) ∙ rw j) in (
+      let s : rowsFrom (places - k * 4) m (k * 4) ≡ rowsFrom 4 m (k * 4) + rowsFrom (places - (k + 1) * 4) m ((k + 1) * 4) = rw n (rows-split _ m (k * 4) ∙ rw j) in (
         omega arith,
         omega arith,
         ap (λ x. x / 16) (t .2) ∙ shr-shr (occupancy m) (k * 4) 4 ∙ ap (λ x. occupancy m / 2 ^ x) q,
         omega arith,
       )
 
-pub rows-end : (m : List ℕ) (k w total : ℕ) → 8 ≤ k → Counted m k w total → total ≡ rowsFrom 32 m 0
+pub rows-end : (m : List ℕ) (k w total : ℕ) → 8 ≤ k → Counted m k w total → total ≡ rowsFrom places m 0
 unfolding rowsFrom
-rows-end m k w total h t = let s : 32 - k * 4 ≡ 0 = omega arith in let r : rowsFrom (32 - k * 4) m (k * 4) ≡ 0 = rw s in omega arith
+rows-end m k w total h t = let s : places - k * 4 ≡ 0 = omega arith in let r : rowsFrom (places - k * 4) m (k * 4) ≡ 0 = rw s in omega arith
 
 -- Ids, from the last place down: the lowest of those passed.
 abbrev pub Passed : ℕ → List ℕ → ℕ → Option ℕ → Type 0
-Passed number m i o = (i ≤ 32) × (o ≡ lowestOf number (32 - i) m i)
+Passed number m i o = (i ≤ places) × (o ≡ lowestOf number (places - i) m i)
 
 module _ (number : ℕ) (m : List ℕ) (i : ℕ) (o : Option ℕ) (h : 0 < i) (t : Passed number m i o) where
   -- one place down
-  down : (q : Option ℕ) → q ≡ lowestOf number (suc (32 - i)) m (i - 1) → Passed number m (i - 1) q
-  down q e = let s : 32 - (i - 1) ≡ suc (32 - i) = omega arith in (omega arith, rw s e)
+  down : (q : Option ℕ) → q ≡ lowestOf number (suc (places - i)) m (i - 1) → Passed number m (i - 1) q
+  down q e = let s : places - (i - 1) ≡ suc (places - i) = omega arith in (omega arith, rw s e)
 
-  same-place : (i - 1) % 32 ≡ i - 1
+  same-place : (i - 1) % places ≡ i - 1
   same-place = mod-eq-of-lt (omega arith)
 
-  up : lowestOf number (32 - i) m (i - 1 + 1) ≡ o
+  up : lowestOf number (places - i) m (i - 1 + 1) ≡ o
   up = let s : i - 1 + 1 ≡ i = omega arith in rw (s, t .1)
 
-  pub id-lower : (id : ℕ) (q : Option ℕ) → taken m (i - 1) ≡ true → id ≡ idAt m ((i - 1) % 32) → number ≤ id → q ≡ lowerId id o → Passed number m (i - 1) q
+  pub id-lower : (id : ℕ) (q : Option ℕ) → taken m (i - 1) ≡ true → id ≡ idAt m ((i - 1) % places) → number ≤ id → q ≡ lowerId id o → Passed number m (i - 1) q
   id-lower id q y d u s =
       let f : id ≡ idAt m (i - 1) = rw same-place at d in
-      down q (s ∙ rw (f, lowest-here number (32 - i) m (i - 1) y (rw f at u), up))
+      down q (s ∙ rw (f, lowest-here number (places - i) m (i - 1) y (rw f at u), up))
 
-  pub id-not : (id : ℕ) → taken m (i - 1) ≡ true → id ≡ idAt m ((i - 1) % 32) → id < number → Passed number m (i - 1) o
+  pub id-not : (id : ℕ) → taken m (i - 1) ≡ true → id ≡ idAt m ((i - 1) % places) → id < number → Passed number m (i - 1) o
   id-not id y d u =
       let f : id ≡ idAt m (i - 1) = rw same-place at d in
-      down o (rw (lowest-not number (32 - i) m (i - 1) y (rw f at u), up))
+      down o (rw (lowest-not number (places - i) m (i - 1) y (rw f at u), up))
 
   pub id-free : taken m (i - 1) ≡ false → Passed number m (i - 1) o
-  id-free f = down o (rw (lowest-free number (32 - i) m (i - 1) f, up))
+  id-free f = down o (rw (lowest-free number (places - i) m (i - 1) f, up))
 
-pub id-end : (number : ℕ) (m : List ℕ) (i : ℕ) (o : Option ℕ) → i ≤ 0 → Passed number m i o → o ≡ lowestOf number 32 m 0
+pub id-end : (number : ℕ) (m : List ℕ) (i : ℕ) (o : Option ℕ) → i ≤ 0 → Passed number m i o → o ≡ lowestOf number places m 0
 id-end number m i o h t = let s : i ≡ 0 = omega arith in rw s at (t .1)
 
 -- The lower of two ids, of which the second may be missing.

@@ -6,6 +6,7 @@ use native.Mathlib.Omega.{arith}
 use mathlib.Core.Path.{_≡_, refl, sym, ap, ap₂, _∙_}
 use mathlib.Core.Logic.{_≢_}
 use lib.Pow.{pow-lt, shr-shr}
+use lib.Count.{trailingZeros, trailing-le}
 use lib.Bits.{bitAnd, bitOr, and-step, and-zero-r, or-disjoint}
 
 abbrev pub bit : ℕ → ℕ → ℕ
@@ -16,6 +17,9 @@ bit-zero w = omega arith
 
 bit-suc : (w i : ℕ) → bit w (suc i) ≡ bit (w / 2) i
 bit-suc w i = rw (← one-add i, ← shr-shr w 1 i)
+
+pub zeros-fit : (n : ℕ) → trailingZeros 32 n < 2 ^ 64
+zeros-fit n = omega (arith, trailing-le 32 n)
 
 -- A bit that is 0 is set by a sum.
 half-more : (w p : ℕ) → (w + 2 ^ suc p) / 2 ≡ w / 2 + 2 ^ p

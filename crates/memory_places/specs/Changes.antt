@@ -6,7 +6,7 @@ use lib.Dec.{leb}
 use lib.ListN.{set}
 use Rattle.rules.specs.Basics.{pick}
 use Rattle.rules.specs.Outcomes.{Answer, Accepted}
-use Rattle.memory.specs.Layout.{occupancy, taken}
+use Rattle.memory.specs.Layout.{occupancy, taken, places, occupancyWord}
 use Rattle.memory.specs.declared.Place.{Place}
 use Rattle.memory.specs.declared.Place.the-variants.{At, Nowhere}
 use Rattle.memory_places.specs.declared.Above.{Above}
@@ -18,15 +18,15 @@ freeFrom zero m i = Nowhere
 freeFrom (suc n) m i = pick (taken m i) (freeFrom n m (i + 1)) (At i)
 
 unfoldable pub freeAt : List ℕ → Place
-freeAt m = freeFrom 32 m 0
+freeAt m = freeFrom places m 0
 
 -- a place that is taken already, or past the 32, changes nothing
 unfoldable pub occupiedAt : List ℕ → ℕ → List ℕ
-occupiedAt m p = pick (taken m p || leb 32 p) m (set m 3 (occupancy m + 2 ^ p))
+occupiedAt m p = pick (taken m p || leb places p) m (set m occupancyWord (occupancy m + 2 ^ p))
 
 -- a place that is free changes nothing
 unfoldable pub vacatedAt : List ℕ → ℕ → List ℕ
-vacatedAt m p = pick (taken m p) (set m 3 (occupancy m - 2 ^ p)) m
+vacatedAt m p = pick (taken m p) (set m occupancyWord (occupancy m - 2 ^ p)) m
 
 abbrev pub aboveAnswer : Above → Answer
 aboveAnswer (Id n) = Accepted (n ∷ [])

@@ -9,7 +9,7 @@ use lib.ListN.{length}
 use borrow.Author.Tests.{le-leb, lt-leb, eqb-true, eqb-false}
 use Rattle.rules.specs.Holds.{held, count}
 use Rattle.rules.specs.Laws.Tests.{by-test}
-use Rattle.memory.specs.Layout.{taken}
+use Rattle.memory.specs.Layout.{taken, places}
 use Rattle.memory.specs.View.{placeAt, placesFrom, view}
 use Rattle.memory.specs.declared.Place.the-variants.{At, Nowhere}
 use Rattle.memory_places.specs.Changes.{freeFrom, freeAt}
@@ -50,7 +50,7 @@ none-free (suc n) m i e j a b = go (taken m i) refl (none-free n m (i + 1))
 
 -- of all 32
 pub record LowestFree (m : List ℕ) (p : ℕ) : Type 0 where
-  pub below : p < 32
+  pub below : p < places
   pub free : taken m p ≡ false
   pub others : (i : ℕ) → i < p → taken m i ≡ true
 
@@ -58,12 +58,12 @@ module _ (m : List ℕ) where
   pub free-at : (p : ℕ) → freeAt m ≡ At p → LowestFree m p
   unfolding freeAt
   free-at p e =
-      let l = free-lowest 32 m 0 p e in
+      let l = free-lowest places m 0 p e in
       record { below = l .below; free = l .free; others = λ i h. l .others i (omega arith) h }
 
-  pub free-nowhere : freeAt m ≡ Nowhere → (i : ℕ) → i < 32 → taken m i ≡ true
+  pub free-nowhere : freeAt m ≡ Nowhere → (i : ℕ) → i < places → taken m i ≡ true
   unfolding freeAt
-  free-nowhere e i h = none-free 32 m 0 e i (omega arith) h
+  free-nowhere e i h = none-free places m 0 e i (omega arith) h
 
 -- Some place is free exactly where fewer are held than there are.
 held-le : (n : ℕ) (m : List ℕ) (i : ℕ) → length (held (placesFrom n m i)) ≤ n
@@ -92,14 +92,14 @@ held-room (suc n) m i p e =
     (λ f. rw f (omega (arith, held-le n m (i + 1))))
 
 module _ (m : List ℕ) where
-  pub count-most : count (view m) ≤ 32
+  pub count-most : count (view m) ≤ places
   unfolding count view
-  count-most = held-le 32 m 0
+  count-most = held-le places m 0
 
-  pub count-full : freeAt m ≡ Nowhere → leb 32 (count (view m)) ≡ true
+  pub count-full : freeAt m ≡ Nowhere → leb places (count (view m)) ≡ true
   unfolding count view freeAt
-  count-full e = le-leb 32 (count (view m)) (omega (arith, held-full 32 m 0 e))
+  count-full e = le-leb places (count (view m)) (omega (arith, held-full places m 0 e))
 
-  pub count-room : (p : ℕ) → freeAt m ≡ At p → leb 32 (count (view m)) ≡ false
+  pub count-room : (p : ℕ) → freeAt m ≡ At p → leb places (count (view m)) ≡ false
   unfolding count view freeAt
-  count-room p e = lt-leb _ _ (held-room 32 m 0 p e)
+  count-room p e = lt-leb _ _ (held-room places m 0 p e)

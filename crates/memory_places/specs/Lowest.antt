@@ -9,7 +9,7 @@ use Rattle.rules.specs.Basics.{one}
 use Rattle.rules.specs.Holds.{held}
 use Rattle.rules.specs.Outcomes.{Accepted, answerOf}
 use Rattle.rules.specs.Queries.{lower, lowestFrom, idFrom}
-use Rattle.memory.specs.Layout.{taken, idAt}
+use Rattle.memory.specs.Layout.{taken, idAt, places}
 use Rattle.memory.specs.View.{pluginAt, placeAt, placesFrom, view}
 use Rattle.memory_places.specs.Changes.{aboveAnswer}
 use Rattle.memory_places.specs.declared.Above.{Above}
@@ -44,6 +44,6 @@ answer-one : (r : Above) → aboveAnswer r ≡ Accepted (one (idOf r))
 answer-one (Id n) = refl
 answer-one Nothing = refl
 
-pub lowest-view : (number : ℕ) (m : List ℕ) (r : Above) → idOf r ≡ lowestOf number 32 m 0 → aboveAnswer r ≡ answerOf (idFrom (view m) number)
+pub lowest-view : (number : ℕ) (m : List ℕ) (r : Above) → idOf r ≡ lowestOf number places m 0 → aboveAnswer r ≡ answerOf (idFrom (view m) number)
 unfolding lowestOf idFrom view
 lowest-view number m r e = answer-one r ∙ ap (λ o. Accepted (one o)) e

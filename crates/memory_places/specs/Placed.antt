@@ -12,7 +12,7 @@ use Rattle.rules.specs.Holds.{Plugin, held, plugins}
 use Rattle.rules.specs.Outcomes.{atLowestFree, freedAt}
 use Rattle.rules.specs.Laws.Tests.{by-test}
 use Rattle.rules.specs.Laws.Members.{In}
-use Rattle.memory.specs.Layout.{taken, idAt}
+use Rattle.memory.specs.Layout.{taken, idAt, places}
 use Rattle.memory.specs.View.{pluginAt, placeAt, placesFrom, view}
 use Rattle.memory.specs.Stores.{Alone}
 use Rattle.memory.specs.declared.Place.the-variants.{At}
@@ -44,7 +44,7 @@ taken-from (suc n) m i j a b t =
 
 pub taken-in : (m : List ℕ) (j : ℕ) → taken m j ≡ true → In (pluginAt m j) (plugins (view m))
 unfolding view
-taken-in m j t = taken-from 32 m 0 j (omega arith) (taken-below m j t) t
+taken-in m j t = taken-from places m 0 j (omega arith) (taken-below m j t) t
 
 -- A plugin goes to the lowest free place.
 pub taken-place : (m : List ℕ) (i : ℕ) → taken m i ≡ true → placeAt m i ≡ some (pluginAt m i)
@@ -72,14 +72,14 @@ module _ (m m′ : List ℕ) (p : ℕ) (q : Plugin) (here : placeAt m′ p ≡ s
       let s : placeAt m′ i ≡ some q = rw x here in
       rw (s, free-place m i f, r))
 
-  pub places-added : freeAt m ≡ At p → ((j : ℕ) → j < 32 → j ≢ p → placeAt m′ j ≡ placeAt m j) → placesFrom 32 m′ 0 ≡ atLowestFree q (placesFrom 32 m 0)
+  pub places-added : freeAt m ≡ At p → ((j : ℕ) → j < places → j ≢ p → placeAt m′ j ≡ placeAt m j) → placesFrom places m′ 0 ≡ atLowestFree q (placesFrom places m 0)
   unfolding freeAt
-  places-added e same = add-from 32 0 e (λ j a b n. same j b n)
+  places-added e same = add-from places 0 e (λ j a b n. same j b n)
 
 -- A plugin's place is freed.
 module _ (m m′ : List ℕ) (p : ℕ) (alone : Alone m) (there : taken m p ≡ true) (gone : placeAt m′ p ≡ none)
-    (same : (j : ℕ) → j < 32 → j ≢ p → placeAt m′ j ≡ placeAt m j) where
-  freed-one : (j : ℕ) → j < 32 → placeAt m′ j ≡ freedAt (idAt m p) (placeAt m j)
+    (same : (j : ℕ) → j < places → j ≢ p → placeAt m′ j ≡ placeAt m j) where
+  freed-one : (j : ℕ) → j < places → placeAt m′ j ≡ freedAt (idAt m p) (placeAt m j)
   unfolding placeAt pluginAt
   freed-one j h = by-test (eqb j p)
       (λ y. let e = eqb-true j p y in rw (e, there, eq-eqb (idAt m p) (idAt m p) refl) gone)
@@ -88,5 +88,5 @@ module _ (m m′ : List ℕ) (p : ℕ) (alone : Alone m) (there : taken m p ≡ 
       (λ t. rw t (rw (ne-eqb (idAt m j) (idAt m p) (λ e. n (alone j p t there e)))))
       (λ f. rw f))
 
-  pub places-freed : placesFrom 32 m′ 0 ≡ map (freedAt (idAt m p)) (placesFrom 32 m 0)
-  places-freed = places-map (freedAt (idAt m p)) m m′ 32 0 (λ j a b. freed-one j b)
+  pub places-freed : placesFrom places m′ 0 ≡ map (freedAt (idAt m p)) (placesFrom places m 0)
+  places-freed = places-map (freedAt (idAt m p)) m m′ places 0 (λ j a b. freed-one j b)

@@ -12,7 +12,7 @@ use Rattle.rules.specs.Holds.{held, rowsOf, sumRows, rowsInUse}
 use Rattle.rules.specs.Ports.{pairs}
 use Rattle.rules.specs.declared.Port.{Port}
 use Rattle.rules.specs.Laws.Tests.{by-test}
-use Rattle.memory.specs.Layout.{taken, depsAt, provsAt, depPart, provPart}
+use Rattle.memory.specs.Layout.{taken, depsAt, provsAt, depPart, provPart, memoryWords, places}
 use Rattle.memory.specs.View.{valued, pluginAt, placeAt, placesFrom, view}
 use Rattle.memory_places.specs.Taken.{taken-below}
 
@@ -40,7 +40,7 @@ valued-length : (m : List ℕ) (i j : ℕ) (qs : List Port) → length (valued m
 valued-length m i j [] = refl
 valued-length m i j (q ∷ qs) = ap suc (valued-length m i (j + 1) qs)
 
-module _ (m : List ℕ) (size : length m ≡ 4488) where
+module _ (m : List ℕ) (size : length m ≡ memoryWords) where
   pub rows-of : (i : ℕ) → rowsOf (pluginAt m i) ≡ rowsAt m i
   unfolding pluginAt
   rows-of i =
@@ -55,9 +55,9 @@ module _ (m : List ℕ) (size : length m ≡ 4488) where
       let r = sum-from n (i + 1) in
       by-test (taken m i) (λ t. rw t (rw (rows-of i, r))) (λ f. rw f (omega arith))
 
-  pub rows-view : rowsInUse (view m) ≡ rowsFrom 32 m 0
+  pub rows-view : rowsInUse (view m) ≡ rowsFrom places m 0
   unfolding rowsInUse view
-  rows-view = sum-from 32 0
+  rows-view = sum-from places 0
 
 -- a taken place's rows are among them
 one-from : (m : List ℕ) (n i j : ℕ) → i ≤ j → j < i + n → taken m j ≡ true → rowsAt m j ≤ rowsFrom n m i
@@ -69,5 +69,5 @@ one-from m (suc n) i j a b t =
     (λ y. let e = eqb-true i j y in rw (e, t) (omega arith))
     (λ d. let f = eqb-false i j d in omega (arith, r (omega arith) (omega arith) t))
 
-pub rows-one : (m : List ℕ) (i : ℕ) → taken m i ≡ true → rowsAt m i ≤ rowsFrom 32 m 0
-rows-one m i t = one-from m 32 0 i (omega arith) (taken-below m i t) t
+pub rows-one : (m : List ℕ) (i : ℕ) → taken m i ≡ true → rowsAt m i ≤ rowsFrom places m 0
+rows-one m i t = one-from m places 0 i (omega arith) (taken-below m i t) t

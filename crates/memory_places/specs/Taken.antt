@@ -12,31 +12,31 @@ use lib.Seq.{getD-set-same, getD-set-other}
 use borrow.Author.Tests.{ltb-true, lt-ltb, eqb-true, eqb-false, lt-leb}
 use Rattle.rules.specs.Basics.{pick}
 use Rattle.rules.specs.Laws.Tests.{both}
-use Rattle.memory.specs.Layout.{word, occupancy, taken}
+use Rattle.memory.specs.Layout.{word, occupancy, taken, memoryWords, places, occupancyWord}
 use Rattle.memory_places.specs.Changes.{occupiedAt, vacatedAt}
 use Rattle.memory_places.specs.Bits.{bit, set-there, set-others, set-lt, clear-there, clear-others}
 
 -- A taken place is one of the 32, and its bit is 1.
 module _ (m : List ℕ) (i : ℕ) where
-  pub taken-below : taken m i ≡ true → i < 32
+  pub taken-below : taken m i ≡ true → i < places
   unfolding taken
-  taken-below t = ltb-true _ _ (both (ltb i 32) _ t .0)
+  taken-below t = ltb-true _ _ (both (ltb i places) _ t .0)
 
   pub taken-one : taken m i ≡ true → bit (occupancy m) i ≡ 1
   unfolding taken
-  taken-one t = eqb-true _ _ (both (ltb i 32) _ t .1)
+  taken-one t = eqb-true _ _ (both (ltb i places) _ t .1)
 
-  pub free-zero : i < 32 → taken m i ≡ false → bit (occupancy m) i ≡ 0
+  pub free-zero : i < places → taken m i ≡ false → bit (occupancy m) i ≡ 0
   unfolding taken
-  free-zero h f = let n = eqb-false (bit (occupancy m) i) 1 (rw (lt-ltb i 32 h) at f) in omega arith
+  free-zero h f = let n = eqb-false (bit (occupancy m) i) 1 (rw (lt-ltb i places h) at f) in omega arith
 
-  one-taken : i < 32 → bit (occupancy m) i ≡ 1 → taken m i ≡ true
+  one-taken : i < places → bit (occupancy m) i ≡ 1 → taken m i ≡ true
   unfolding taken
-  one-taken h e = rw (lt-ltb i 32 h, e)
+  one-taken h e = rw (lt-ltb i places h, e)
 
   zero-free : bit (occupancy m) i ≡ 0 → taken m i ≡ false
   unfolding taken
-  zero-free e = rw e (never (ltb i 32))
+  zero-free e = rw e (never (ltb i places))
     where
       never : (b : Bool) → (b && false) ≡ false
       never true = refl
@@ -44,7 +44,7 @@ module _ (m : List ℕ) (i : ℕ) where
 
   same-bit : (m′ : List ℕ) → bit (occupancy m′) i ≡ bit (occupancy m) i → taken m′ i ≡ taken m i
   unfolding taken
-  same-bit m′ e = ap (λ x. ltb i 32 && eqb x 1) e
+  same-bit m′ e = ap (λ x. ltb i places && eqb x 1) e
 
 either : {A : Type 0} (P : A → Type 0) (b : Bool) (x y : A) → P x → P y → P (pick b x y)
 either P true x y p q = p
@@ -54,28 +54,28 @@ either P false x y p q = q
 module _ (m : List ℕ) (p : ℕ) where
   pub occupied-length : length (occupiedAt m p) ≡ length m
   unfolding occupiedAt
-  occupied-length = either (λ l. length l ≡ length m) (taken m p || leb 32 p) m _ refl (length-set m 3 _)
+  occupied-length = either (λ l. length l ≡ length m) (taken m p || leb places p) m _ refl (length-set m occupancyWord _)
 
   pub occupied-word : (k : ℕ) → k ≢ 3 → word (occupiedAt m p) k ≡ word m k
   unfolding occupiedAt
-  occupied-word k n = either (λ l. word l k ≡ word m k) (taken m p || leb 32 p) m _ refl (getD-set-other m 3 k _ 0 n)
+  occupied-word k n = either (λ l. word l k ≡ word m k) (taken m p || leb places p) m _ refl (getD-set-other m occupancyWord k _ 0 n)
 
   pub vacated-length : length (vacatedAt m p) ≡ length m
   unfolding vacatedAt
-  vacated-length = either (λ l. length l ≡ length m) (taken m p) _ m (length-set m 3 _) refl
+  vacated-length = either (λ l. length l ≡ length m) (taken m p) _ m (length-set m occupancyWord _) refl
 
   pub vacated-word : (k : ℕ) → k ≢ 3 → word (vacatedAt m p) k ≡ word m k
   unfolding vacatedAt
-  vacated-word k n = either (λ l. word l k ≡ word m k) (taken m p) _ m (getD-set-other m 3 k _ 0 n) refl
+  vacated-word k n = either (λ l. word l k ≡ word m k) (taken m p) _ m (getD-set-other m occupancyWord k _ 0 n) refl
 
   -- a free place is taken
-  module _ (size : length m ≡ 4488) (h : p < 32) (free : taken m p ≡ false) where
+  module _ (size : length m ≡ memoryWords) (h : p < places) (free : taken m p ≡ false) where
     pub occupied-three : word (occupiedAt m p) 3 ≡ occupancy m + 2 ^ p
     unfolding occupiedAt
-    occupied-three = rw (free, lt-leb 32 p h) (getD-set-same m 3 (occupancy m + 2 ^ p) 0 (omega arith))
+    occupied-three = rw (free, lt-leb places p h) (getD-set-same m occupancyWord (occupancy m + 2 ^ p) 0 (omega arith))
 
-    pub occupied-small : word (occupiedAt m p) 3 < 4294967296
-    occupied-small = rw occupied-three (set-lt 32 p (occupancy m) h (omega arith) (free-zero m p h free))
+    pub occupied-small : word (occupiedAt m p) occupancyWord < 2 ^ places
+    occupied-small = rw occupied-three (set-lt places p (occupancy m) h (omega arith) (free-zero m p h free))
 
     pub occupied-occupancy : occupancy (occupiedAt m p) ≡ occupancy m + 2 ^ p
     occupied-occupancy = mod-eq-of-lt occupied-small ∙ occupied-three
@@ -87,12 +87,12 @@ module _ (m : List ℕ) (p : ℕ) where
     occupied-others j n = same-bit m j (occupiedAt m p) (ap (λ x. bit x j) occupied-occupancy ∙ set-others p j (occupancy m) n (free-zero m p h free))
 
   -- a taken place is freed
-  module _ (size : length m ≡ 4488) (there : taken m p ≡ true) where
+  module _ (size : length m ≡ memoryWords) (there : taken m p ≡ true) where
     pub vacated-three : word (vacatedAt m p) 3 ≡ occupancy m - 2 ^ p
     unfolding vacatedAt
-    vacated-three = rw there (getD-set-same m 3 (occupancy m - 2 ^ p) 0 (omega arith))
+    vacated-three = rw there (getD-set-same m occupancyWord (occupancy m - 2 ^ p) 0 (omega arith))
 
-    pub vacated-small : word (vacatedAt m p) 3 < 4294967296
+    pub vacated-small : word (vacatedAt m p) occupancyWord < 2 ^ places
     vacated-small = omega (arith, vacated-three)
 
     pub vacated-occupancy : occupancy (vacatedAt m p) ≡ occupancy m - 2 ^ p

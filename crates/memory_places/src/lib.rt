@@ -1,17 +1,20 @@
 // The 32 plugin places: one occupancy word. Its ones are the registered count, the trailing zeros of its complement the lowest free place.
 ghost use mathlib.Core.Path.{_≡_};
-ghost use Prim.Native.Nat.{_<_, _≤_, _/_, _%_, _^_};
+ghost use Prim.Native.Nat.{_<_, _≤_, _*_, _/_, _%_, _^_};
 ghost use lib.ListN.{length};
 ghost use Rattle.rules.specs.Holds.{count, rowsInUse};
 ghost use Rattle.rules.specs.Outcomes.{answerOf};
 ghost use Rattle.rules.specs.Queries.{idFrom, lower as lowerId};
-ghost use Rattle.memory.specs.Layout.{occupancy};
+ghost use Rattle.rules.specs.Limits.{maxPluginRows};
+ghost use Rattle.memory.specs.Layout.{occupancy, memoryWords, places};
 ghost use Rattle.memory.specs.View.{view};
 ghost use Rattle.memory_places.specs.Changes.{freeAt, occupiedAt, vacatedAt, aboveAnswer};
 ghost use Rattle.memory_places.specs.Lowest.{idOf};
 ghost use Rattle.memory_places.specs.Rows.{rowsBy, rowsFrom};
 use memory::Place;
 use memory::WORDS;
+use memory::layout;
+use memory::layout::PLACES;
 
 // The lowest registered id at or above a number, or nothing.
 pub enum Above {
@@ -30,9 +33,9 @@ pub fn registered(m: &[u64; WORDS]) -> u64
 pub fn lowest_free(m: &[u64; WORDS]) -> Place
     ensures { λ r. ⌜ r ≡ freeAt (now (m .entry)) ⌝ }
 {
-    let place = u32::trailing_zeros(!memory::occupied(m));
-    if place < 32 {
-        Place::At(place as usize)
+    let place = u32::trailing_zeros(!memory::occupied(m)) as usize;
+    if place < PLACES {
+        Place::At(place)
     } else {
         Place::Nowhere
     }
@@ -42,14 +45,14 @@ pub fn lowest_free(m: &[u64; WORDS]) -> Place
 pub fn occupy(m: &mut [u64; WORDS], place: usize)
     ensures { λ _. ⌜ now (m .exit) ≡ occupiedAt (now (m .entry)) place ⌝ }
 {
-    if 32 <= place {
+    if PLACES <= place {
         return;
     }
     if memory::is_taken(m, place) {
         return;
     }
     let word = memory::occupied(m) | 1 << place;
-    m[3] = word as u64;
+    m[layout::OCCUPANCY] = word as u64;
 }
 
 // The taken place is free again.
@@ -58,13 +61,13 @@ pub fn vacate(m: &mut [u64; WORDS], place: usize)
 {
     if memory::is_taken(m, place) {
         let word = memory::occupied(m) - (1 << place);
-        m[3] = word as u64;
+        m[layout::OCCUPANCY] = word as u64;
     }
 }
 
 // The rows of a place that is taken, by the lowest bit of a word.
 fn rows_at(m: &[u64; WORDS], place: usize, word: u32) -> usize
-    ensures { λ r. ⌜ (r ≤ 64) × (r ≡ rowsBy word (now (m .entry)) (place % 32)) ⌝ }
+    ensures { λ r. ⌜ (r ≤ maxPluginRows) × (r ≡ rowsBy word (now (m .entry)) (place % places)) ⌝ }
 {
     if word % 2 == 1 {
         memory_lists::dependencies(m, place) + memory_lists::provisions(m, place) + 1
@@ -76,7 +79,7 @@ fn rows_at(m: &[u64; WORDS], place: usize, word: u32) -> usize
 // The rows of four places; the word's lowest bits are theirs.
 fn rows_of_four(m: &[u64; WORDS], place: usize, word: u32) -> usize
     requires { ⌜ (place < 29) × (word ≡ occupancy (now m) / 2 ^ place) ⌝ }
-    ensures { λ r. ⌜ (r ≤ 256) × (r ≡ rowsFrom 4 (now (m .entry)) place) ⌝ }
+    ensures { λ r. ⌜ (r ≤ maxPluginRows * 4) × (r ≡ rowsFrom 4 (now (m .entry)) place) ⌝ }
 {
     let first = rows_at(m, place, word);
     let second = rows_at(m, place + 1, word / 2);
@@ -106,7 +109,7 @@ pub fn id_from(m: &[u64; WORDS], number: u64) -> Above
     ensures { λ r. ⌜ aboveAnswer r ≡ answerOf (idFrom (view (now (m .entry))) number) ⌝ }
 {
     let mut found = Above::Nothing;
-    let mut i: usize = 32;
+    let mut i: usize = PLACES;
     while 0 < i {
         i -= 1;
         if memory::is_taken(m, i) {
@@ -131,7 +134,7 @@ fn lower(id: u64, other: Above) -> Above
 
 // Tells the proof how long the memory is; compiles to nothing.
 fn whole(m: &[u64; WORDS])
-    ensures { λ _. ⌜ length (now (m .entry)) ≡ 4488 ⌝ }
+    ensures { λ _. ⌜ length (now (m .entry)) ≡ memoryWords ⌝ }
 {
     let n = size(m);
 }

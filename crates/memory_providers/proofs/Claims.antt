@@ -15,7 +15,7 @@ use Rattle.rules.specs.Holds.{port, Plugin, held, isIn, provides, provider, sam
 use Rattle.rules.specs.declared.Port.{Port}
 use Rattle.rules.specs.Ports.{pairs}
 use Rattle.rules.specs.Laws.Tests.{by-test}
-use Rattle.memory.specs.Layout.{word, taken, part, startAt, depsAt, provsAt, anchorWord, provPart}
+use Rattle.memory.specs.Layout.{word, taken, part, startAt, depsAt, provsAt, anchorWord, provPart, memoryWords, places, rowsStart, rowWords}
 use Rattle.memory.specs.View.{anchorAt, pluginAt, placesFrom, view}
 use Rattle.memory.specs.Lookups.{placed, searchFrom, search-first}
 use Rattle.memory.specs.declared.Place.{Place}
@@ -26,7 +26,7 @@ use Rattle.memory_providers.proofs.Keys.{wanted-is}
 
 -- the words, by what is read of the place
 pub offered-words : (m l : List ℕ) (j s d n : ℕ) → s ≡ startAt m j → d ≡ depsAt m j → n ≡ provsAt m j
-    → l ≡ part m ((s + d) * 2 + 2312) ((n + 1) * 2) → l ≡ offeredPart m j
+    → l ≡ part m ((s + d) * rowWords + rowsStart) ((n + 1) * rowWords) → l ≡ offeredPart m j
 offered-words m l j s d n e f g h = rw (e, f, g) at h
 
 -- what a place offers is what its plugin provides
@@ -51,7 +51,7 @@ eqb-turned a b = by-test (eqb b a)
 same-turned : (p q : Port) → samePort p q ≡ samePort q p
 same-turned p q = rw (eqb-turned (p .key) (q .key), eqb-turned (p .realm) (q .realm))
 
-module _ (m : List ℕ) (i : ℕ) (size : length m ≡ 4488) where
+module _ (m : List ℕ) (i : ℕ) (size : length m ≡ memoryWords) where
   rows-are : pairs (offeredPart m i) ≡ anchorAt m i ∷ pairs (provPart m i)
   rows-are = first-row m (anchorWord m i) (provsAt m i) (omega arith)
 
@@ -75,19 +75,19 @@ module _ (m : List ℕ) (i : ℕ) (size : length m ≡ 4488) where
       f ∙ ap (λ x. taken m i && any (λ q. wanted x qs q) (pairs (offeredPart m i))) e ∙ ap (λ x. taken m i && x) (met qs)
 
 -- a place's own number
-pub offers-one : (m : List ℕ) (i : ℕ) (ws : List ℕ) (f : Port → Bool) (b : Bool) → i < 32 → taken m i ≡ true → ws ≡ offeredPart m (i % 32)
+pub offers-one : (m : List ℕ) (i : ℕ) (ws : List ℕ) (f : Port → Bool) (b : Bool) → i < places → taken m i ≡ true → ws ≡ offeredPart m (i % places)
     → b ≡ any f (pairs ws) → b ≡ (taken m i && any f (pairs (offeredPart m i)))
 offers-one m i ws f b h t e g =
-    let n : i % 32 ≡ i = mod-eq-of-lt h in
+    let n : i % places ≡ i = mod-eq-of-lt h in
     rw t (g ∙ ap (λ l. any f (pairs l)) (e ∙ ap (offeredPart m) n))
 
 -- the first place whose plugin provides one of the ports
 abbrev pub oneFrom : List Port → ℕ → List ℕ → ℕ → Place
 oneFrom qs n m i = searchFrom (λ (p : Plugin). any (λ q. provides p q) qs) n m i
 
-pub provided-one : (m : List ℕ) (qs : List Port) → any (λ q. isSome (provider (view m) q)) qs ≡ isSome (placed m (oneFrom qs 32 m 0))
+pub provided-one : (m : List ℕ) (qs : List Port) → any (λ q. isSome (provider (view m) q)) qs ≡ isSome (placed m (oneFrom qs places m 0))
 unfolding provider view
 provided-one m qs =
-    let ps = held (placesFrom 32 m 0) in
+    let ps = held (placesFrom places m 0) in
     let f : Plugin → Bool = λ p. any (λ q. provides p q) qs in
-    any-same _ _ (λ q. is-first (λ (p : Plugin). provides p q) ps) qs ∙ exchange (λ (p : Plugin) (q : Port). provides p q) ps qs ∙ sym (is-first f ps) ∙ ap isSome (search-first f 32 m 0)
+    any-same _ _ (λ q. is-first (λ (p : Plugin). provides p q) ps) qs ∙ exchange (λ (p : Plugin) (q : Port). provides p q) ps qs ∙ sym (is-first f ps) ∙ ap isSome (search-first f places m 0)

@@ -10,7 +10,7 @@ use borrow.Author.Tests.{eq-eqb, ne-eqb}
 use Rattle.rules.specs.Holds.{Plugin, isIn, provides, provided, samePort}
 use Rattle.rules.specs.declared.Port.{Port}
 use Rattle.rules.specs.Ports.{pairs}
-use Rattle.memory.specs.Layout.{taken, provPart}
+use Rattle.memory.specs.Layout.{taken, provPart, places}
 use Rattle.memory.specs.View.{anchorAt, pluginAt}
 use Rattle.memory.specs.Lookups.{searchFrom}
 use Rattle.memory.specs.declared.Place.the-variants.{At, Nowhere}
@@ -35,22 +35,22 @@ module _ (m : List ℕ) (p : ℕ) (q : Port) (ws : List ℕ) (b : Bool) (e : ws 
     provides-not k = sym (anchor-is ∙ rw (ne-eqb _ _ k))
 
 -- a place's own number
-pub offers-taken : (m : List ℕ) (i : ℕ) (q : Port) (b : Bool) → i < 32 → taken m i ≡ true → b ≡ provides (pluginAt m (i % 32)) q
+pub offers-taken : (m : List ℕ) (i : ℕ) (q : Port) (b : Bool) → i < places → taken m i ≡ true → b ≡ provides (pluginAt m (i % places)) q
     → b ≡ (taken m i && provides (pluginAt m i) q)
-offers-taken m i q b h t e = let n : i % 32 ≡ i = mod-eq-of-lt h in rw t (e ∙ ap (λ j. provides (pluginAt m j) q) n)
+offers-taken m i q b h t e = let n : i % places ≡ i = mod-eq-of-lt h in rw t (e ∙ ap (λ j. provides (pluginAt m j) q) n)
 
-one-less : (i : ℕ) → i < 32 → 32 - i ≡ suc (32 - (i + 1))
+one-less : (i : ℕ) → i < places → places - i ≡ suc (places - (i + 1))
 one-less i h = omega arith
 
 module _ (f : Plugin → Bool) (m : List ℕ) (i : ℕ) where
-  pub search-here : i < 32 → (taken m i && f (pluginAt m i)) ≡ true → searchFrom f (32 - i) m i ≡ At i
+  pub search-here : i < places → (taken m i && f (pluginAt m i)) ≡ true → searchFrom f (places - i) m i ≡ At i
   unfolding searchFrom
   search-here h y = rw (one-less i h) (rw y)
 
-  pub search-next : i < 32 → (taken m i && f (pluginAt m i)) ≡ false → searchFrom f (32 - i) m i ≡ searchFrom f (32 - (i + 1)) m (i + 1)
+  pub search-next : i < places → (taken m i && f (pluginAt m i)) ≡ false → searchFrom f (places - i) m i ≡ searchFrom f (places - (i + 1)) m (i + 1)
   unfolding searchFrom
   search-next h n = rw (one-less i h) (rw n)
 
-  pub search-end : 32 ≤ i → searchFrom f (32 - i) m i ≡ Nowhere
+  pub search-end : places ≤ i → searchFrom f (places - i) m i ≡ Nowhere
   unfolding searchFrom
-  search-end h = let e : 32 - i ≡ 0 = omega arith in rw e
+  search-end h = let e : places - i ≡ 0 = omega arith in rw e

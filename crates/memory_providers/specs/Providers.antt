@@ -7,7 +7,7 @@ use lib.Dec.{eqb}
 use lib.Bits.{bitOr}
 use Rattle.rules.specs.Holds.{Plugin, isIn, provides, provider}
 use Rattle.rules.specs.declared.Port.{Port}
-use Rattle.memory.specs.Layout.{part, anchorWord, provsAt}
+use Rattle.memory.specs.Layout.{part, anchorWord, provsAt, places, rowWords}
 use Rattle.memory.specs.View.{view}
 use Rattle.memory.specs.Lookups.{placed, searchFrom, search-first, search-found}
 use Rattle.memory.specs.declared.Place.{Place}
@@ -15,19 +15,19 @@ use Rattle.memory.specs.declared.Place.the-variants.{At}
 
 -- the first place whose plugin has the port as provision or anchor
 unfoldable pub providerAt : List ℕ → Port → Place
-providerAt m q = searchFrom (λ (p : Plugin). provides p q) 32 m 0
+providerAt m q = searchFrom (λ (p : Plugin). provides p q) places m 0
 
 pub provider-view : (m : List ℕ) (q : Port) → provider (view m) q ≡ placed m (providerAt m q)
 unfolding provider view providerAt
-provider-view m q = search-first (λ (p : Plugin). provides p q) 32 m 0
+provider-view m q = search-first (λ (p : Plugin). provides p q) places m 0
 
-pub provider-below : (m : List ℕ) (q : Port) (i : ℕ) → providerAt m q ≡ At i → i < 32
+pub provider-below : (m : List ℕ) (q : Port) (i : ℕ) → providerAt m q ≡ At i → i < places
 unfolding providerAt
-provider-below m q i e = search-found (λ (p : Plugin). provides p q) 32 m 0 i e .below
+provider-below m q i e = search-found (λ (p : Plugin). provides p q) places m 0 i e .below
 
 -- the words of a place's anchor and, right behind it, of its provisions
 abbrev pub offeredPart : List ℕ → ℕ → List ℕ
-offeredPart m i = part m (anchorWord m i) ((provsAt m i + 1) * 2)
+offeredPart m i = part m (anchorWord m i) ((provsAt m i + 1) * rowWords)
 
 -- a word with a bit for each key, by its remainder; and whether a port's bit is there and the port too
 unfoldable pub keyBits : ℕ → List Port → ℕ

@@ -6,15 +6,18 @@ ghost use lib.ListN.{length};
 ghost use Rattle.rules.specs.Basics.{any, isSome};
 ghost use Rattle.rules.specs.Holds.{port, provides, provider};
 ghost use Rattle.rules.specs.Ports.{pairs};
-ghost use Rattle.memory.specs.Layout.{taken};
+ghost use Rattle.memory.specs.Layout.{taken, memoryWords, places};
 ghost use Rattle.memory.specs.View.{pluginAt, view};
 ghost use Rattle.memory_providers.specs.Providers.{providerAt, offeredPart, keyBits, wanted};
 use memory::Place;
 use memory::WORDS;
+use memory::layout::PLACES;
+use memory::layout::ROW_WORDS;
+use memory::layout::ROWS_START;
 
 // Whether the plugin of a place has the port as provision or anchor.
 pub fn provides(m: &[u64; WORDS], place: usize, key: u64, realm: u64) -> bool
-    ensures { λ r. ⌜ r ≡ provides (pluginAt (now (m .entry)) (place % 32)) (port key realm) ⌝ }
+    ensures { λ r. ⌜ r ≡ provides (pluginAt (now (m .entry)) (place % places)) (port key realm) ⌝ }
 {
     if ports::has_port(memory_lists::provision_words(m, place), key, realm) {
         return true;
@@ -29,7 +32,7 @@ pub fn provides(m: &[u64; WORDS], place: usize, key: u64, realm: u64) -> bool
 
 // Whether this place is taken and its plugin provides the port.
 fn offers(m: &[u64; WORDS], place: usize, key: u64, realm: u64) -> bool
-    requires { ⌜ place < 32 ⌝ }
+    requires { ⌜ place < places ⌝ }
     ensures { λ r. ⌜ r ≡ (taken (now (m .entry)) place && provides (pluginAt (now (m .entry)) place) (port key realm)) ⌝ }
 {
     if memory::is_taken(m, place) {
@@ -44,7 +47,7 @@ pub fn provider(m: &[u64; WORDS], key: u64, realm: u64) -> Place
     ensures { λ r. ⌜ r ≡ providerAt (now (m .entry)) (port key realm) ⌝ }
 {
     let mut i: usize = 0;
-    while i < 32 {
+    while i < PLACES {
         if offers(m, i, key, realm) {
             return Place::At(i);
         }
@@ -61,17 +64,18 @@ fn count(s: &[u64]) -> usize
 }
 
 fn known(m: &[u64; WORDS])
-    ensures { λ _. ⌜ length (now (m .entry)) ≡ 4488 ⌝ }
+    ensures { λ _. ⌜ length (now (m .entry)) ≡ memoryWords ⌝ }
 {
     let n = count(m);
 }
 
 // The anchor's words and, right behind it, those of the provisions.
 fn offered_words(m: &[u64; WORDS], place: usize) -> &[u64]
-    ensures { λ r. ⌜ now r ≡ offeredPart (now (m .entry)) (place % 32) ⌝ }
+    ensures { λ r. ⌜ now r ≡ offeredPart (now (m .entry)) (place % places) ⌝ }
 {
-    let from = (memory_lists::start(m, place) + memory_lists::dependencies(m, place)) * 2 + 2312;
-    let count = (memory_lists::provisions(m, place) + 1) * 2;
+    let from = (memory_lists::start(m, place) + memory_lists::dependencies(m, place)) * ROW_WORDS
+        + ROWS_START;
+    let count = (memory_lists::provisions(m, place) + 1) * ROW_WORDS;
     memory_lists::some_words(m, from, count)
 }
 
@@ -115,7 +119,7 @@ fn meets(claims: &[u64], bits: u64, offered: &[u64]) -> bool
 
 // Whether this place is taken and one of the ports of its plugin is claimed.
 fn offers_one(m: &[u64; WORDS], place: usize, claims: &[u64], bits: u64) -> bool
-    requires { ⌜ place < 32 ⌝ }
+    requires { ⌜ place < places ⌝ }
     ensures { λ r. ⌜ r ≡ (taken (now (m .entry)) place
         && any (λ q. wanted bits (pairs (now (claims .entry))) q) (pairs (offeredPart (now (m .entry)) place))) ⌝ }
 {
@@ -133,7 +137,7 @@ pub fn one_provided(m: &[u64; WORDS], claims: &[u64]) -> bool
     known(m);
     let bits = key_bits(claims);
     let mut i: usize = 0;
-    while i < 32 {
+    while i < PLACES {
         if offers_one(m, i, claims, bits) {
             return true;
         }

@@ -8,7 +8,8 @@ use mathlib.Core.List.{List}
 use lib.ListN.{length}
 use Rattle.rules.specs.Holds.{rowsInUse}
 use Rattle.rules.specs.Outcomes.{Outcome, after}
-use Rattle.memory.specs.Layout.{word, taken, startAt}
+use Rattle.rules.specs.Limits.{maxRows, maxDependencies, maxProvisionKeys, maxRealmRows}
+use Rattle.memory.specs.Layout.{word, taken, startAt, memoryWords, placeWords, places, firstRowWord, dependenciesWord, provisionsWord, realmsWord}
 use Rattle.memory.specs.View.{view}
 use Rattle.memory_places.specs.Rows.{rowsAt, rowsFrom, rows-view}
 use Rattle.memory_places.specs.Taken.{taken-below}
@@ -17,20 +18,20 @@ use Rattle.memory_rows.specs.Tiles.{sum, share, Tiled}
 
 -- the first row of a place, as it is written
 abbrev pub startWord : List ℕ → ℕ → ℕ
-startWord m i = word m (i * 72 + 19)
+startWord m i = word m (i * placeWords + firstRowWord)
 
 -- the rows in use, over the taken places
 abbrev pub used : List ℕ → ℕ
-used m = sum 32 (share (taken m) (rowsAt m)) 0
+used m = sum places (share (taken m) (rowsAt m)) 0
 
 pub record Dense (m : List ℕ) : Type 0 where
-  pub size : length m ≡ 4488
+  pub size : length m ≡ memoryWords
   pub alone : Alone m
-  pub few-dependencies : (i : ℕ) → taken m i ≡ true → word m (i * 72 + 20) ≤ 48
-  pub few-provisions : (i : ℕ) → taken m i ≡ true → word m (i * 72 + 21) ≤ 15
-  pub few-realms : (i : ℕ) → taken m i ≡ true → word m (i * 72 + 22) ≤ 16
+  pub few-dependencies : (i : ℕ) → taken m i ≡ true → word m (i * placeWords + dependenciesWord) ≤ maxDependencies
+  pub few-provisions : (i : ℕ) → taken m i ≡ true → word m (i * placeWords + provisionsWord) ≤ maxProvisionKeys
+  pub few-realms : (i : ℕ) → taken m i ≡ true → word m (i * placeWords + realmsWord) ≤ maxRealmRows
   pub tiled : Tiled (taken m) (startWord m) (rowsAt m) (used m)
-  pub room : used m ≤ 1024
+  pub room : used m ≤ maxRows
 
 -- the rows in use are the rule's
 used-from : (m : List ℕ) (n i : ℕ) → rowsFrom n m i ≡ sum n (share (taken m) (rowsAt m)) i
@@ -38,8 +39,8 @@ unfolding rowsFrom sum
 used-from m zero i = refl
 used-from m (suc n) i = rw (used-from m n (i + 1))
 
-pub used-is : (m : List ℕ) → length m ≡ 4488 → rowsInUse (view m) ≡ used m
-used-is m l = rows-view m l ∙ used-from m 32 0
+pub used-is : (m : List ℕ) → length m ≡ memoryWords → rowsInUse (view m) ≡ used m
+used-is m l = rows-view m l ∙ used-from m places 0
 
 -- a block is where its words say
 pub start-is : (m : List ℕ) → Dense m → (i : ℕ) → taken m i ≡ true → startAt m i ≡ startWord m i

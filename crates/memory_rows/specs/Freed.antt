@@ -10,7 +10,8 @@ use lib.ListN.{length}
 use Rattle.rules.specs.Holds.{rowsInUse}
 use Rattle.rules.specs.Outcomes.{removes, after}
 use Rattle.rules.specs.Laws.Tests.{by-test}
-use Rattle.memory.specs.Layout.{word, taken, idAt, rowWord}
+use Rattle.rules.specs.Limits.{maxRows}
+use Rattle.memory.specs.Layout.{word, taken, idAt, rowWord, memoryWords, placeWords, places, rowsStart, firstRowWord, rowWords, occupancyWord}
 use Rattle.memory.specs.View.{placeAt, view}
 use Rattle.memory_places.specs.Changes.{vacatedAt}
 use Rattle.memory_places.specs.Rows.{rowsAt}
@@ -32,9 +33,9 @@ module _ (m : List ℕ) (p : ℕ) (there : taken m p ≡ true) (d : Dense m) whe
   gap = closedGap m S C (used m)
 
   abbrev low : List ℕ
-  low = lowerFrom 32 gap (S + C) C 0
+  low = lowerFrom places gap (S + C) C 0
 
-  h : p < 32
+  h : p < places
   h = taken-below m p there
 
   fits : S + C ≤ used m
@@ -43,23 +44,23 @@ module _ (m : List ℕ) (p : ℕ) (there : taken m p ≡ true) (d : Dense m) whe
   freed-is : freedPlace m p ≡ vacatedAt low p
   unfolding freedPlace
   freed-is =
-      let e : min (rowsInUse (view m)) 1024 ≡ used m = omega (arith, used-is m (d .size), d .room) in
+      let e : min (rowsInUse (view m)) maxRows ≡ used m = omega (arith, used-is m (d .size), d .room) in
       rw there (rw (e, start-is m d p there))
 
-  gap-size : length gap ≡ 4488
-  gap-size = moved-length ((used m - (S + C)) * 2) m (rowWord S) (C * 2) ∙ d .size
+  gap-size : length gap ≡ memoryWords
+  gap-size = moved-length ((used m - (S + C)) * rowWords) m (rowWord S) (C * rowWords) ∙ d .size
 
-  low-size : length low ≡ 4488
-  low-size = lower-length 32 gap (S + C) C 0 ∙ gap-size
+  low-size : length low ≡ memoryWords
+  low-size = lower-length places gap (S + C) C 0 ∙ gap-size
 
   -- a word that is no start, in front of the gap
-  low-word : (k : ℕ) → k < rowWord S → ((j : ℕ) → j < 32 → k ≢ j * 72 + 19) → word low k ≡ word m k
+  low-word : (k : ℕ) → k < rowWord S → ((j : ℕ) → j < places → k ≢ j * placeWords + firstRowWord) → word low k ≡ word m k
   low-word k a n =
-      lower-other 32 gap (S + C) C 0 k (λ j b c. n j (omega arith)) ∙ moved-below ((used m - (S + C)) * 2) m (rowWord S) (C * 2) k a
+      lower-other places gap (S + C) C 0 k (λ j b c. n j (omega arith)) ∙ moved-below ((used m - (S + C)) * rowWords) m (rowWord S) (C * rowWords) k a
 
   low-taken : (j : ℕ) → taken low j ≡ taken m j
   unfolding taken
-  low-taken j = rw (low-word 3 (omega arith) (λ i b. omega arith))
+  low-taken j = rw (low-word occupancyWord (omega arith) (λ i b. omega arith))
 
   abbrev freed : List ℕ
   freed = vacatedAt low p
@@ -69,18 +70,18 @@ module _ (m : List ℕ) (p : ℕ) (there : taken m p ≡ true) (d : Dense m) whe
     size = vacated-length low p ∙ low-size ∙ sym (d .size);
     gone = vacated-here low p low-size (low-taken p ∙ there);
     kept = λ j n. vacated-others low p low-size (low-taken p ∙ there) j n ∙ low-taken j;
-    words = λ j k a b c n. vacated-word low p (j * 72 + k) (omega arith) ∙ low-word (j * 72 + k) (omega arith) (λ i u e. n (omega arith));
-    starts = λ j a. vacated-word low p (j * 72 + 19) (omega arith)
-        ∙ lower-start 32 gap (S + C) C 0 j (omega arith) (omega arith) (omega (arith, gap-size))
-        ∙ ap (λ x. lowered x (S + C) C) (moved-below ((used m - (S + C)) * 2) m (rowWord S) (C * 2) (j * 72 + 19) (omega arith));
-    above = λ k a. vacated-word low p (2312 + k) (omega arith) ∙ low-word (2312 + k) (omega arith) (λ i u. omega arith);
+    words = λ j k a b c n. vacated-word low p (j * placeWords + k) (omega arith) ∙ low-word (j * placeWords + k) (omega arith) (λ i u e. n (omega arith));
+    starts = λ j a. vacated-word low p (j * placeWords + firstRowWord) (omega arith)
+        ∙ lower-start places gap (S + C) C 0 j (omega arith) (omega arith) (omega (arith, gap-size))
+        ∙ ap (λ x. lowered x (S + C) C) (moved-below ((used m - (S + C)) * rowWords) m (rowWord S) (C * rowWords) (j * placeWords + firstRowWord) (omega arith));
+    above = λ k a. vacated-word low p (rowsStart + k) (omega arith) ∙ low-word (rowsStart + k) (omega arith) (λ i u. omega arith);
     below = λ k a b.
-        let e : 2312 + (k - C * 2) ≡ rowWord S + (k - C * 2 - S * 2) = omega arith in
-        let f : rowWord S + (k - C * 2 - S * 2) + C * 2 ≡ 2312 + k = omega arith in
-        vacated-word low p (2312 + (k - C * 2)) (omega arith)
-        ∙ lower-other 32 gap (S + C) C 0 (2312 + (k - C * 2)) (λ j u v. omega arith)
+        let e : rowsStart + (k - C * rowWords) ≡ rowWord S + (k - C * rowWords - S * rowWords) = omega arith in
+        let f : rowWord S + (k - C * rowWords - S * rowWords) + C * rowWords ≡ rowsStart + k = omega arith in
+        vacated-word low p (rowsStart + (k - C * rowWords)) (omega arith)
+        ∙ lower-other places gap (S + C) C 0 (rowsStart + (k - C * rowWords)) (λ j u v. omega arith)
         ∙ ap (word gap) e
-        ∙ moved-within ((used m - (S + C)) * 2) m (rowWord S) (C * 2) (k - C * 2 - S * 2) (omega arith) (omega (arith, d .size, d .room, fits))
+        ∙ moved-within ((used m - (S + C)) * rowWords) m (rowWord S) (C * rowWords) (k - C * rowWords - S * rowWords) (omega arith) (omega (arith, d .size, d .room, fits))
         ∙ ap (word m) f;
   }
 

@@ -12,7 +12,8 @@ use lib.Seq.{getD-set-same, getD-set-other}
 use borrow.Author.Tests.{eqb-true, eqb-false}
 use Rattle.rules.specs.Holds.{rowsInUse}
 use Rattle.rules.specs.Laws.Tests.{by-test}
-use Rattle.memory.specs.Layout.{word, taken, startAt, depsAt, provsAt, rowWord}
+use Rattle.rules.specs.Limits.{maxRows}
+use Rattle.memory.specs.Layout.{word, taken, startAt, depsAt, provsAt, rowWord, placeWords, places, rowsStart, firstRowWord, rowWords}
 use Rattle.memory.specs.View.{view}
 use Rattle.memory_places.specs.Changes.{vacatedAt}
 use Rattle.memory_places.specs.Taken.{vacated-length}
@@ -53,17 +54,17 @@ moved-end e m j k h = let s : e - j ≡ 0 = omega arith in rw s
 
 pub gap-none : (m : List ℕ) (start count end : ℕ) → end < start + count → closedGap m start count end ≡ m
 unfolding moved
-gap-none m start count end h = let s : (end - (start + count)) * 2 ≡ 0 = omega arith in rw s
+gap-none m start count end h = let s : (end - (start + count)) * rowWords ≡ 0 = omega arith in rw s
 
 pub gap-start : (m : List ℕ) (start count end : ℕ) → start + count ≤ end
-    → closedGap m start count end ≡ moved ((end - count) * 2 + 2312 - (start * 2 + 2312)) m (start * 2 + 2312) (count * 2)
+    → closedGap m start count end ≡ moved ((end - count) * rowWords + rowsStart - (start * rowWords + rowsStart)) m (start * rowWords + rowsStart) (count * rowWords)
 gap-start m start count end h =
-    let e : (end - (start + count)) * 2 ≡ (end - count) * 2 + 2312 - (start * 2 + 2312) = omega arith in
+    let e : (end - (start + count)) * rowWords ≡ (end - count) * rowWords + rowsStart - (start * rowWords + rowsStart) = omega arith in
     rw e
 
 -- starts lowered
 pub lower-next : (e : ℕ) (m : List ℕ) (x k i : ℕ) → i < e
-    → lowerFrom (e - i) m x k i ≡ lowerFrom (e - (i + 1)) (set m (i * 72 + 19) (lowered (word m (i * 72 + 19)) x k)) x k (i + 1)
+    → lowerFrom (e - i) m x k i ≡ lowerFrom (e - (i + 1)) (set m (i * placeWords + firstRowWord) (lowered (word m (i * placeWords + firstRowWord)) x k)) x k (i + 1)
 unfolding lowerFrom
 lower-next e m x k i h = let s : e - i ≡ suc (e - (i + 1)) = omega arith in rw s
 
@@ -75,46 +76,46 @@ pub lower-length : (n : ℕ) (m : List ℕ) (x k i : ℕ) → length (lowerFrom 
 unfolding lowerFrom
 lower-length zero m x k i = refl
 lower-length (suc n) m x k i =
-    lower-length n (set m (i * 72 + 19) (lowered (word m (i * 72 + 19)) x k)) x k (i + 1) ∙ length-set m (i * 72 + 19) (lowered (word m (i * 72 + 19)) x k)
+    lower-length n (set m (i * placeWords + firstRowWord) (lowered (word m (i * placeWords + firstRowWord)) x k)) x k (i + 1) ∙ length-set m (i * placeWords + firstRowWord) (lowered (word m (i * placeWords + firstRowWord)) x k)
 
 -- a word that is no start stays
-pub lower-other : (n : ℕ) (m : List ℕ) (x k i a : ℕ) → ((j : ℕ) → i ≤ j → j < i + n → a ≢ j * 72 + 19) → word (lowerFrom n m x k i) a ≡ word m a
+pub lower-other : (n : ℕ) (m : List ℕ) (x k i a : ℕ) → ((j : ℕ) → i ≤ j → j < i + n → a ≢ j * placeWords + firstRowWord) → word (lowerFrom n m x k i) a ≡ word m a
 unfolding lowerFrom
 lower-other zero m x k i a h = refl
 lower-other (suc n) m x k i a h =
-    lower-other n (set m (i * 72 + 19) (lowered (word m (i * 72 + 19)) x k)) x k (i + 1) a (λ j l t. h j (omega arith) (omega arith))
-    ∙ getD-set-other m (i * 72 + 19) a (lowered (word m (i * 72 + 19)) x k) 0 (h i (omega arith) (omega arith))
+    lower-other n (set m (i * placeWords + firstRowWord) (lowered (word m (i * placeWords + firstRowWord)) x k)) x k (i + 1) a (λ j l t. h j (omega arith) (omega arith))
+    ∙ getD-set-other m (i * placeWords + firstRowWord) a (lowered (word m (i * placeWords + firstRowWord)) x k) 0 (h i (omega arith) (omega arith))
 
-pub lower-start : (n : ℕ) (m : List ℕ) (x k i j : ℕ) → i ≤ j → j < i + n → j * 72 + 19 < length m
-    → word (lowerFrom n m x k i) (j * 72 + 19) ≡ lowered (word m (j * 72 + 19)) x k
+pub lower-start : (n : ℕ) (m : List ℕ) (x k i j : ℕ) → i ≤ j → j < i + n → j * placeWords + firstRowWord < length m
+    → word (lowerFrom n m x k i) (j * placeWords + firstRowWord) ≡ lowered (word m (j * placeWords + firstRowWord)) x k
 unfolding lowerFrom
 lower-start zero m x k i j l t f = absurd (omega arith)
 lower-start (suc n) m x k i j l t f =
-    cases (eqb i j) refl (lower-start n (set m (i * 72 + 19) (lowered (word m (i * 72 + 19)) x k)) x k (i + 1) j)
+    cases (eqb i j) refl (lower-start n (set m (i * placeWords + firstRowWord) (lowered (word m (i * placeWords + firstRowWord)) x k)) x k (i + 1) j)
   where
     one : List ℕ
-    one = set m (i * 72 + 19) (lowered (word m (i * 72 + 19)) x k)
+    one = set m (i * placeWords + firstRowWord) (lowered (word m (i * placeWords + firstRowWord)) x k)
 
     cases : (b : Bool) → eqb i j ≡ b
-        → (i + 1 ≤ j → j < i + 1 + n → j * 72 + 19 < length one → word (lowerFrom n one x k (i + 1)) (j * 72 + 19) ≡ lowered (word one (j * 72 + 19)) x k)
-        → word (lowerFrom n one x k (i + 1)) (j * 72 + 19) ≡ lowered (word m (j * 72 + 19)) x k
+        → (i + 1 ≤ j → j < i + 1 + n → j * placeWords + firstRowWord < length one → word (lowerFrom n one x k (i + 1)) (j * placeWords + firstRowWord) ≡ lowered (word one (j * placeWords + firstRowWord)) x k)
+        → word (lowerFrom n one x k (i + 1)) (j * placeWords + firstRowWord) ≡ lowered (word m (j * placeWords + firstRowWord)) x k
     cases true e ih =
         let s : i ≡ j = eqb-true i j e in
-        lower-other n one x k (i + 1) (j * 72 + 19) (λ q a b. omega arith)
-        ∙ rw (← s) (getD-set-same m (i * 72 + 19) (lowered (word m (i * 72 + 19)) x k) 0 (omega arith))
+        lower-other n one x k (i + 1) (j * placeWords + firstRowWord) (λ q a b. omega arith)
+        ∙ rw (← s) (getD-set-same m (i * placeWords + firstRowWord) (lowered (word m (i * placeWords + firstRowWord)) x k) 0 (omega arith))
     cases false e ih =
         let d : i ≢ j = eqb-false i j e in
-        let g : length one ≡ length m = length-set m (i * 72 + 19) (lowered (word m (i * 72 + 19)) x k) in
+        let g : length one ≡ length m = length-set m (i * placeWords + firstRowWord) (lowered (word m (i * placeWords + firstRowWord)) x k) in
         ih (omega arith) (omega arith) (omega arith)
-        ∙ ap (λ y. lowered y x k) (getD-set-other m (i * 72 + 19) (j * 72 + 19) (lowered (word m (i * 72 + 19)) x k) 0 (omega arith))
+        ∙ ap (λ y. lowered y x k) (getD-set-other m (i * placeWords + firstRowWord) (j * placeWords + firstRowWord) (lowered (word m (i * placeWords + firstRowWord)) x k) 0 (omega arith))
 
 -- the remover's steps
-pub free-steps : (m m₁ m₂ m₃ : List ℕ) (p s d v u end : ℕ) → p < 32 → taken m p ≡ true → s ≡ startAt m (p % 32) → d ≡ depsAt m (p % 32) → v ≡ provsAt m (p % 32)
-    → u ≡ rowsInUse (view m) → end ≡ min u 1024 → m₁ ≡ closedGap m s (d + v + 1) end → m₂ ≡ lowerFrom 32 m₁ (s + (d + v + 1)) (d + v + 1) 0
+pub free-steps : (m m₁ m₂ m₃ : List ℕ) (p s d v u end : ℕ) → p < places → taken m p ≡ true → s ≡ startAt m (p % places) → d ≡ depsAt m (p % places) → v ≡ provsAt m (p % places)
+    → u ≡ rowsInUse (view m) → end ≡ min u maxRows → m₁ ≡ closedGap m s (d + v + 1) end → m₂ ≡ lowerFrom places m₁ (s + (d + v + 1)) (d + v + 1) 0
     → m₃ ≡ vacatedAt m₂ p → m₃ ≡ freedPlace m p
 unfolding freedPlace
 free-steps m m₁ m₂ m₃ p s d v u end h t e₁ e₂ e₃ e₄ e₅ e₆ e₇ e₈ =
-    let q : p % 32 ≡ p = mod-eq-of-lt h in
+    let q : p % places ≡ p = mod-eq-of-lt h in
     rw t (rw (e₈, e₇, e₆, e₅, e₄, e₁, e₂, e₃) (rw q))
 
 pub free-not : (m : List ℕ) (p : ℕ) → taken m p ≡ false → m ≡ freedPlace m p
@@ -127,9 +128,9 @@ unfolding freedPlace
 freed-size m p =
     let s = startAt m p in
     let c = rowsAt m p in
-    let end = min (rowsInUse (view m)) 1024 in
+    let end = min (rowsInUse (view m)) maxRows in
     by-test (taken m p)
     (λ t. rw t (
-    vacated-length (lowerFrom 32 (closedGap m s c end) (s + c) c 0) p ∙ lower-length 32 (closedGap m s c end) (s + c) c 0
-    ∙ moved-length ((end - (s + c)) * 2) m (rowWord s) (c * 2)))
+    vacated-length (lowerFrom places (closedGap m s c end) (s + c) c 0) p ∙ lower-length places (closedGap m s c end) (s + c) c 0
+    ∙ moved-length ((end - (s + c)) * rowWords) m (rowWord s) (c * rowWords)))
     (λ f. rw f)

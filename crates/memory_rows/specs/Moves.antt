@@ -5,7 +5,8 @@ use lib.Dec.{leb}
 use lib.ListN.{set}
 use Rattle.rules.specs.Basics.{pick}
 use Rattle.rules.specs.Holds.{rowsInUse}
-use Rattle.memory.specs.Layout.{word, taken, startAt, rowWord}
+use Rattle.rules.specs.Limits.{maxRows}
+use Rattle.memory.specs.Layout.{word, taken, startAt, rowWord, placeWords, places, firstRowWord, rowWords}
 use Rattle.memory.specs.View.{view}
 use Rattle.memory_places.specs.Changes.{vacatedAt}
 use Rattle.memory_places.specs.Rows.{rowsAt}
@@ -17,7 +18,7 @@ moved (suc n) m j k = moved n (set m j (word m (j + k))) (j + 1) k
 
 -- of the rows below the end, those behind the gap moved down over it
 abbrev pub closedGap : List ℕ → ℕ → ℕ → ℕ → List ℕ
-closedGap m start count end = moved ((end - (start + count)) * 2) m (rowWord start) (count * 2)
+closedGap m start count end = moved ((end - (start + count)) * rowWords) m (rowWord start) (count * rowWords)
 
 -- a start behind the gap comes down
 abbrev pub lowered : ℕ → ℕ → ℕ → ℕ
@@ -25,7 +26,7 @@ lowered s end count = pick (leb end s) (s - count) s
 
 unfoldable pub lowerFrom : ℕ → List ℕ → ℕ → ℕ → ℕ → List ℕ
 lowerFrom zero m end count i = m
-lowerFrom (suc n) m end count i = lowerFrom n (set m (i * 72 + 19) (lowered (word m (i * 72 + 19)) end count)) end count (i + 1)
+lowerFrom (suc n) m end count i = lowerFrom n (set m (i * placeWords + firstRowWord) (lowered (word m (i * placeWords + firstRowWord)) end count)) end count (i + 1)
 
 -- A place and its rows freed: the rows behind them come down. A free place changes nothing.
 unfoldable pub freedPlace : List ℕ → ℕ → List ℕ
@@ -33,5 +34,5 @@ freedPlace m p =
     let s = startAt m p in
     let c = rowsAt m p in
     pick (taken m p)
-    (vacatedAt (lowerFrom 32 (closedGap m s c (min (rowsInUse (view m)) 1024)) (s + c) c 0) p)
+    (vacatedAt (lowerFrom places (closedGap m s c (min (rowsInUse (view m)) maxRows)) (s + c) c 0) p)
     m

@@ -6,7 +6,7 @@ use mathlib.Core.Bool.{true, false}
 use mathlib.Core.Logic.{_≢_}
 use mathlib.Core.List.{List}
 use lib.ListN.{length}
-use Rattle.memory.specs.Layout.{word, taken}
+use Rattle.memory.specs.Layout.{word, taken, placeWords, places, rowsStart, idWord, revisionWord, payloadWord, phaseWord, retiredWord, generationWord, rootWord, rootRevisionWord, rootArgumentWord, firstRowWord, dependenciesWord, provisionsWord, placeEnd, rowWords}
 use Rattle.memory.specs.View.{lifeAt, decoded, pluginAt}
 use Rattle.memory.specs.Frames.{Kept, withLife, plugin-kept}
 use Rattle.memory.specs.Stores.{kept-frame}
@@ -23,17 +23,17 @@ pub record Removes (m m′ : List ℕ) (p : ℕ) : Type 0 where
   pub size : length m′ ≡ length m
   pub gone : taken m′ p ≡ false
   pub kept : (j : ℕ) → j ≢ p → taken m′ j ≡ taken m j
-  pub words : (j k : ℕ) → j < 32 → 8 ≤ k → k < 80 → k ≢ 19 → word m′ (j * 72 + k) ≡ word m (j * 72 + k)
-  pub starts : (j : ℕ) → j < 32 → startWord m′ j ≡ lowered (startWord m j) (startWord m p + rowsAt m p) (rowsAt m p)
-  pub above : (k : ℕ) → k < startWord m p * 2 → word m′ (2312 + k) ≡ word m (2312 + k)
-  pub below : (k : ℕ) → (startWord m p + rowsAt m p) * 2 ≤ k → k < used m * 2 → word m′ (2312 + (k - rowsAt m p * 2)) ≡ word m (2312 + k)
+  pub words : (j k : ℕ) → j < places → idWord ≤ k → k < placeEnd → k ≢ firstRowWord → word m′ (j * placeWords + k) ≡ word m (j * placeWords + k)
+  pub starts : (j : ℕ) → j < places → startWord m′ j ≡ lowered (startWord m j) (startWord m p + rowsAt m p) (rowsAt m p)
+  pub above : (k : ℕ) → k < startWord m p * rowWords → word m′ (rowsStart + k) ≡ word m (rowsStart + k)
+  pub below : (k : ℕ) → (startWord m p + rowsAt m p) * rowWords ≤ k → k < used m * rowWords → word m′ (rowsStart + (k - rowsAt m p * rowWords)) ≡ word m (rowsStart + k)
 
 module _ (m m′ : List ℕ) (p : ℕ) (there : taken m p ≡ true) (d : Dense m) (r : Removes m m′ p) where
-  p-below : p < 32
+  p-below : p < places
   p-below = taken-below m p there
 
-  counts : (j : ℕ) → j < 32 → rowsAt m′ j ≡ rowsAt m j
-  counts j h = rw (r .words j 20 h (omega arith) (omega arith) (omega arith), r .words j 21 h (omega arith) (omega arith) (omega arith))
+  counts : (j : ℕ) → j < places → rowsAt m′ j ≡ rowsAt m j
+  counts j h = rw (r .words j dependenciesWord h (omega arith) (omega arith) (omega arith), r .words j provisionsWord h (omega arith) (omega arith) (omega arith))
 
   some-rows : (i : ℕ) → 1 ≤ rowsAt m i
   some-rows i = omega arith
@@ -51,11 +51,11 @@ module _ (m m′ : List ℕ) (p : ℕ) (there : taken m p ≡ true) (d : Dense m
       let b : share (taken m) (rowsAt m) p ≡ rowsAt m p = rw there in
       omega (
         arith,
-        sum-but 32 (share (taken m′) (rowsAt m′)) (share (taken m) (rowsAt m)) p 0
+        sum-but places (share (taken m′) (rowsAt m′)) (share (taken m) (rowsAt m)) p 0
             (λ j h n. rw (r .kept j n) (ap (λ (x : ℕ). pick (taken m j) x 0) (counts j (omega arith)))) (omega arith) (omega (arith, p-below)),
       )
 
-  sides : (j : ℕ) → j < 32 → j ≢ p → taken m j ≡ true → Side (startWord m j) (rowsAt m j) (startWord m p) (rowsAt m p) (startWord m′ j)
+  sides : (j : ℕ) → j < places → j ≢ p → taken m j ≡ true → Side (startWord m j) (rowsAt m j) (startWord m p) (rowsAt m p) (startWord m′ j)
   sides = side (taken m) (taken m′) (startWord m) (startWord m′) (rowsAt m) (rowsAt m′) (used m) (used m′) p (d .tiled) p-below some-rows
       there (r .gone) (r .kept) counts (r .starts) end
 
@@ -67,7 +67,7 @@ module _ (m m′ : List ℕ) (p : ℕ) (there : taken m p ≡ true) (d : Dense m
   removed-dense = record {
     size = r .size ∙ d .size;
     alone = λ i j s t e. d .alone i j (was i s) (was j t)
-        (sym (r .words i 8 (taken-below m′ i s) (omega arith) (omega arith) (omega arith)) ∙ e ∙ r .words j 8 (taken-below m′ j t) (omega arith) (omega arith) (omega arith));
+        (sym (r .words i idWord (taken-below m′ i s) (omega arith) (omega arith) (omega arith)) ∙ e ∙ r .words j idWord (taken-below m′ j t) (omega arith) (omega arith) (omega arith));
     few-dependencies = λ i t. rw (r .words i 20 (taken-below m′ i t) (omega arith) (omega arith) (omega arith)) (d .few-dependencies i (was i t));
     few-provisions = λ i t. rw (r .words i 21 (taken-below m′ i t) (omega arith) (omega arith) (omega arith)) (d .few-provisions i (was i t));
     few-realms = λ i t. rw (r .words i 22 (taken-below m′ i t) (omega arith) (omega arith) (omega arith)) (d .few-realms i (was i t));
@@ -76,29 +76,29 @@ module _ (m m′ : List ℕ) (p : ℕ) (there : taken m p ≡ true) (d : Dense m
   }
 
   -- the k-th row word of another place
-  row-word : (j : ℕ) → j < 32 → taken m j ≡ true → Side (startWord m j) (rowsAt m j) (startWord m p) (rowsAt m p) (startWord m′ j)
-      → (k : ℕ) → k < rowsAt m j * 2 → word m′ (startWord m′ j * 2 + 2312 + k) ≡ word m (startWord m j * 2 + 2312 + k)
+  row-word : (j : ℕ) → j < places → taken m j ≡ true → Side (startWord m j) (rowsAt m j) (startWord m p) (rowsAt m p) (startWord m′ j)
+      → (k : ℕ) → k < rowsAt m j * rowWords → word m′ (startWord m′ j * rowWords + rowsStart + k) ≡ word m (startWord m j * rowWords + rowsStart + k)
   row-word j h t (before a e) k l =
-      let f : startWord m′ j * 2 + 2312 + k ≡ 2312 + (startWord m j * 2 + k) = omega arith in
-      let g : startWord m j * 2 + 2312 + k ≡ 2312 + (startWord m j * 2 + k) = omega arith in
-      ap (word m′) f ∙ r .above (startWord m j * 2 + k) (omega arith) ∙ sym (ap (word m) g)
+      let f : startWord m′ j * rowWords + rowsStart + k ≡ rowsStart + (startWord m j * rowWords + k) = omega arith in
+      let g : startWord m j * rowWords + rowsStart + k ≡ rowsStart + (startWord m j * rowWords + k) = omega arith in
+      ap (word m′) f ∙ r .above (startWord m j * rowWords + k) (omega arith) ∙ sym (ap (word m) g)
   row-word j h t (behind a e) k l =
       let b = d .tiled .below j h t in
-      let f : startWord m′ j * 2 + 2312 + k ≡ 2312 + (startWord m j * 2 + k - rowsAt m p * 2) = omega arith in
-      let g : startWord m j * 2 + 2312 + k ≡ 2312 + (startWord m j * 2 + k) = omega arith in
-      ap (word m′) f ∙ r .below (startWord m j * 2 + k) (omega arith) (omega arith) ∙ sym (ap (word m) g)
+      let f : startWord m′ j * rowWords + rowsStart + k ≡ rowsStart + (startWord m j * rowWords + k - rowsAt m p * rowWords) = omega arith in
+      let g : startWord m j * rowWords + rowsStart + k ≡ rowsStart + (startWord m j * rowWords + k) = omega arith in
+      ap (word m′) f ∙ r .below (startWord m j * rowWords + k) (omega arith) (omega arith) ∙ sym (ap (word m) g)
 
-  life-same : (j : ℕ) → j < 32 → lifeAt m′ j ≡ lifeAt m j
+  life-same : (j : ℕ) → j < places → lifeAt m′ j ≡ lifeAt m j
   unfolding lifeAt
   life-same j h = ap decoded (λ x. record {
-    revision = r .words j 11 h (omega arith) (omega arith) (omega arith) x;
-    payload = r .words j 12 h (omega arith) (omega arith) (omega arith) x;
-    phase = r .words j 13 h (omega arith) (omega arith) (omega arith) x;
-    retired = r .words j 14 h (omega arith) (omega arith) (omega arith) x;
-    generation = r .words j 15 h (omega arith) (omega arith) (omega arith) x;
-    root = r .words j 16 h (omega arith) (omega arith) (omega arith) x;
-    «root_revision» = r .words j 17 h (omega arith) (omega arith) (omega arith) x;
-    «root_argument» = r .words j 18 h (omega arith) (omega arith) (omega arith) x;
+    revision = r .words j revisionWord h (omega arith) (omega arith) (omega arith) x;
+    payload = r .words j payloadWord h (omega arith) (omega arith) (omega arith) x;
+    phase = r .words j phaseWord h (omega arith) (omega arith) (omega arith) x;
+    retired = r .words j retiredWord h (omega arith) (omega arith) (omega arith) x;
+    generation = r .words j generationWord h (omega arith) (omega arith) (omega arith) x;
+    root = r .words j rootWord h (omega arith) (omega arith) (omega arith) x;
+    «root_revision» = r .words j rootRevisionWord h (omega arith) (omega arith) (omega arith) x;
+    «root_argument» = r .words j rootArgumentWord h (omega arith) (omega arith) (omega arith) x;
   })
 
   pub removed-plugin : (j : ℕ) → j ≢ p → taken m j ≡ true → pluginAt m′ j ≡ pluginAt m j

@@ -19,7 +19,7 @@ use Rattle.rules.specs.Kept.Reach.{life, reach, Within}
 use Rattle.rules.specs.Kept.Operations.{Lawful, lawful}
 use Rattle.rules.specs.Laws.Tests.{by-test}
 use Rattle.memory.specs.Ways.{leftBy}
-use Rattle.memory.specs.Layout.{word, taken, idAt}
+use Rattle.memory.specs.Layout.{word, taken, idAt, placeWords, places, domainWord, firstWord, nextWord, occupancyWord, idWord, firstRowWord, dependenciesWord, provisionsWord, realmsWord}
 use Rattle.memory.specs.View.{pluginAt, placeAt, view}
 use Rattle.memory.specs.Writes.{findAt, putLife}
 use Rattle.memory.specs.Frames.{withLife, OnlyLife, life-only}
@@ -34,11 +34,11 @@ use Rattle.memory_rows.specs.Tiles.{share, sum-same}
 use Rattle.memory_rows.specs.Dense.{startWord, used, Dense, Refines}
 
 -- What dense words say is in the occupancy word and, of each place, in its id, first row and counts.
-module _ (m m′ : List ℕ) (d : Dense m) (size : length m′ ≡ length m) (header : word m′ 3 ≡ word m 3)
+module _ (m m′ : List ℕ) (d : Dense m) (size : length m′ ≡ length m) (header : word m′ occupancyWord ≡ word m occupancyWord)
     (id : (j : ℕ) → idAt m′ j ≡ idAt m j) (start : (j : ℕ) → startWord m′ j ≡ startWord m j)
-    (dependencies : (j : ℕ) → word m′ (j * 72 + 20) ≡ word m (j * 72 + 20))
-    (provisions : (j : ℕ) → word m′ (j * 72 + 21) ≡ word m (j * 72 + 21))
-    (realms : (j : ℕ) → word m′ (j * 72 + 22) ≡ word m (j * 72 + 22)) where
+    (dependencies : (j : ℕ) → word m′ (j * placeWords + dependenciesWord) ≡ word m (j * placeWords + dependenciesWord))
+    (provisions : (j : ℕ) → word m′ (j * placeWords + provisionsWord) ≡ word m (j * placeWords + provisionsWord))
+    (realms : (j : ℕ) → word m′ (j * placeWords + realmsWord) ≡ word m (j * placeWords + realmsWord)) where
   taken-same : (j : ℕ) → taken m′ j ≡ taken m j
   unfolding taken
   taken-same j = rw header
@@ -50,7 +50,7 @@ module _ (m m′ : List ℕ) (d : Dense m) (size : length m′ ≡ length m) (he
   rows-same j = rw (dependencies j, provisions j)
 
   used-same : used m′ ≡ used m
-  used-same = sum-same 32 (share (taken m′) (rowsAt m′)) (share (taken m) (rowsAt m)) 0
+  used-same = sum-same places (share (taken m′) (rowsAt m′)) (share (taken m) (rowsAt m)) 0
       (λ j a b. rw (taken-same j) (ap (λ (x : ℕ). pick (taken m j) x 0) (rows-same j)))
 
   pub same-dense : Dense m′
@@ -69,21 +69,21 @@ module _ (m m′ : List ℕ) (d : Dense m) (size : length m′ ≡ length m) (he
   }
 
 pub only-dense : (m m′ : List ℕ) (i : ℕ) → OnlyLife m m′ i → Dense m → Dense m′
-only-dense m m′ i o d = same-dense m m′ d (o .size) (o .apart 3 (λ a b. omega arith))
-    (λ j. o .apart (j * 72 + 8) (λ a b. omega arith))
-    (λ j. o .apart (j * 72 + 19) (λ a b. omega arith))
-    (λ j. o .apart (j * 72 + 20) (λ a b. omega arith))
-    (λ j. o .apart (j * 72 + 21) (λ a b. omega arith))
-    (λ j. o .apart (j * 72 + 22) (λ a b. omega arith))
+only-dense m m′ i o d = same-dense m m′ d (o .size) (o .apart occupancyWord (λ a b. omega arith))
+    (λ j. o .apart (j * placeWords + idWord) (λ a b. omega arith))
+    (λ j. o .apart (j * placeWords + firstRowWord) (λ a b. omega arith))
+    (λ j. o .apart (j * placeWords + dependenciesWord) (λ a b. omega arith))
+    (λ j. o .apart (j * placeWords + provisionsWord) (λ a b. omega arith))
+    (λ j. o .apart (j * placeWords + realmsWord) (λ a b. omega arith))
 
 pub life-dense : (m : List ℕ) (i : ℕ) (l : Life) → Dense m → Dense (putLife m i l)
 life-dense m i l d = only-dense m (putLife m i l) i (life-only m i l) d
 
 -- One taken place reads as another plugin of the same id, all else as before: that plugin is stored.
 module _ (m m′ : List ℕ) (i : ℕ) (alone : Alone m) (there : taken m i ≡ true)
-    (zero : word m′ 0 ≡ word m 0) (one : word m′ 1 ≡ word m 1) (two : word m′ 2 ≡ word m 2)
+    (zero : word m′ domainWord ≡ word m domainWord) (one : word m′ firstWord ≡ word m firstWord) (two : word m′ nextWord ≡ word m nextWord)
     (kept : (j : ℕ) → taken m′ j ≡ taken m j) (same : pluginAt m′ i .id ≡ pluginAt m i .id)
-    (others : (j : ℕ) → j < 32 → j ≢ i → pluginAt m′ j ≡ pluginAt m j) where
+    (others : (j : ℕ) → j < places → j ≢ i → pluginAt m′ j ≡ pluginAt m j) where
   here : placeAt m′ i ≡ storedAt (pluginAt m′ i) (placeAt m i)
   here = rw (taken-place m′ i (kept i ∙ there), taken-place m i there) (rw (eq-eqb _ _ (sym same)))
 
@@ -91,7 +91,7 @@ module _ (m m′ : List ℕ) (i : ℕ) (alone : Alone m) (there : taken m i ≡ 
   unfolding pluginAt
   apart j t n e = n (alone j i t there (e ∙ same))
 
-  one-place : (j : ℕ) → j < 32 → placeAt m′ j ≡ storedAt (pluginAt m′ i) (placeAt m j)
+  one-place : (j : ℕ) → j < places → placeAt m′ j ≡ storedAt (pluginAt m′ i) (placeAt m j)
   one-place j h = by-test (eqb i j)
       (λ y. subst (λ x. placeAt m′ x ≡ storedAt (pluginAt m′ i) (placeAt m x)) (eqb-true i j y) here)
       (λ d. let n : j ≢ i = λ e. eqb-false i j d (sym e) in
@@ -105,7 +105,7 @@ module _ (m m′ : List ℕ) (i : ℕ) (alone : Alone m) (there : taken m i ≡ 
     domain = zero x;
     first = one x;
     next = two x;
-    places = places-map (storedAt (pluginAt m′ i)) m m′ 32 0 (λ j a b. one-place j b) x;
+    places = places-map (storedAt (pluginAt m′ i)) m m′ places 0 (λ j a b. one-place j b) x;
   }
 
 -- An operation on the plugin of an id: the words have it, or they don't.

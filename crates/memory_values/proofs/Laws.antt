@@ -8,7 +8,7 @@ use mathlib.Core.Bool.{Bool, true, false}
 use mathlib.Core.List.{List, [], _∷_}
 use mathlib.Core.Option.{none, some}
 use lib.Bits.{bitOr}
-use lib.Count.{trailingZeros, under, trailing-le}
+use lib.Count.{trailingZeros, under}
 use lib.Dec.{eqb, ltb}
 use lib.ListN.{length, set}
 use lib.Pow.{pow-lt, pow-pos, shr-shr, field, mod-mod-pow}
@@ -20,7 +20,8 @@ use Rattle.rules.specs.Ports.{pairs}
 use Rattle.rules.specs.Values.{valueIn}
 use Rattle.rules.specs.Laws.Tests.{by-test}
 use Rattle.rules.specs.Laws.Members.{same-port}
-use Rattle.memory.specs.Layout.{word, provPart}
+use Rattle.rules.specs.Limits.{maxProvisionKeys}
+use Rattle.memory.specs.Layout.{word, provPart, placeWords, maskWord, valuesWord}
 use Rattle.memory.specs.View.{valueAt, valued, pluginAt}
 use Rattle.memory_places.specs.Bits.{or-free}
 use Rattle.ports.specs.Places.{length-pairs}
@@ -30,7 +31,7 @@ use Rattle.memory_values.specs.Values.{maskAt, maskBit, portFrom, lackFr
 use Rattle.memory_values.specs.Firsts.{provisions-at, few-words, port-below, value-there, value-nowhere}
 
 module _ (m : List ℕ) (i j : ℕ) (b : Bool) (e : b ≡ eqb (maskBit m i j) 1) where
-  pub value-is : b ≡ true → some (word m (i * 72 + 24 + j)) ≡ valueAt m i j
+  pub value-is : b ≡ true → some (word m (i * placeWords + valuesWord + j)) ≡ valueAt m i j
   unfolding valueAt
   value-is t = rw (sym e ∙ t)
 
@@ -46,7 +47,7 @@ module _ (m : List ℕ) (i j : ℕ) (b : Bool) (e : b ≡ eqb (maskBit m i j) 1)
   bit-zero : b ≡ false → maskBit m i j ≡ 0
   bit-zero f = let n = eqb-false (maskBit m i j) 1 (sym e ∙ f) in omega arith
 
-  pub value-set : b ≡ false → j < 64 → (v : ℕ) → set (set m (i * 72 + 23) (bitOr (maskAt m i) ((1 * 2 ^ j) % 2 ^ 64))) (i * 72 + 24 + j) v ≡ withValue m i j v
+  pub value-set : b ≡ false → j < 64 → (v : ℕ) → set (set m (i * placeWords + maskWord) (bitOr (maskAt m i) ((1 * 2 ^ j) % 2 ^ 64))) (i * placeWords + valuesWord + j) v ≡ withValue m i j v
   unfolding withValue
   value-set f h v =
       let one : (1 * 2 ^ j) % 2 ^ 64 ≡ 2 ^ j = ap (λ x. x % 2 ^ 64) (one-mul (2 ^ j)) ∙ mod-eq-of-lt (pow-lt h) in
@@ -81,9 +82,6 @@ zeros-step n w =
 
     odd : (k s x : ℕ) → s ≡ 2 * k → x < s → ((s - 1) - x) % 2 ≡ 1 - x % 2
     odd k s x e h = omega arith
-
-pub zeros-fit : (n : ℕ) → trailingZeros 32 n < 2 ^ 64
-zeros-fit n = omega (arith, trailing-le 32 n)
 
 -- a place below n, or none
 below : ℕ → ℕ → Found
@@ -142,7 +140,7 @@ module _ (m : List ℕ) (i : ℕ) (q : Port) (ws : List ℕ) (w : ws ≡ provPar
   pub no-value : f ≡ Nothing → none ≡ valueIn q (pluginAt m i .provisions)
   no-value n = sym (ap (valueIn q) (provisions-at m i) ∙ value-nowhere m i q (pairs (provPart m i)) (sym found ∙ n))
 
-  pub its-value : (j : ℕ) → f ≡ At j → valueAt m i (j % 15) ≡ valueIn q (pluginAt m i .provisions)
+  pub its-value : (j : ℕ) → f ≡ At j → valueAt m i (j % maxProvisionKeys) ≡ valueIn q (pluginAt m i .provisions)
   its-value j n =
       let e = sym found ∙ n in
       let h = port-below m i q j e in

@@ -20,7 +20,8 @@ use Rattle.rules.specs.Registration.{repeats}
 use Rattle.rules.specs.Values.{offered}
 use Rattle.rules.specs.Laws.Tests.{by-test, neither}
 use Rattle.rules.specs.Laws.Members.{same-port}
-use Rattle.memory.specs.Layout.{word, taken, startAt, depsAt, provsAt, realmsAt, rowWord, anchorWord, depPart, provPart, realmPart}
+use Rattle.rules.specs.Limits.{maxRows, maxProvisionKeys, maxDependencies, maxRealmRows}
+use Rattle.memory.specs.Layout.{word, taken, startAt, depsAt, provsAt, realmsAt, rowWord, anchorWord, depPart, provPart, realmPart, memoryWords, placeWords, places, rowsStart, idWord, tagWord, parentWord, revisionWord, payloadWord, phaseWord, retiredWord, generationWord, rootWord, rootRevisionWord, rootArgumentWord, firstRowWord, dependenciesWord, provisionsWord, realmsWord, maskWord, valuesWord, realmRowsWord, placeEnd, occupancyWord}
 use Rattle.memory.specs.View.{wordsAt, decoded, lifeAt, valueAt, valued, pluginAt}
 use Rattle.memory.specs.Frames.{part-same, plugin-kept, withLife}
 use Rattle.memory.specs.Stores.{kept-frame}
@@ -32,19 +33,19 @@ use Rattle.memory_values.specs.Firsts.{port-least}
 
 -- Only the mask and the values of place i change.
 abbrev Others : List ℕ → List ℕ → ℕ → Type 0
-Others m m′ i = (n : ℕ) → (i * 72 + 23 ≤ n → n < i * 72 + 39 → ⊥) → word m′ n ≡ word m n
+Others m m′ i = (n : ℕ) → (i * placeWords + maskWord ≤ n → n < i * placeWords + realmRowsWord → ⊥) → word m′ n ≡ word m n
 
-module _ (m m′ : List ℕ) (i : ℕ) (h : i < 32) (l : length m ≡ 4488) (l′ : length m′ ≡ 4488) (same : Others m m′ i) where
+module _ (m m′ : List ℕ) (i : ℕ) (h : i < places) (l : length m ≡ memoryWords) (l′ : length m′ ≡ memoryWords) (same : Others m m′ i) where
   words-stay : (k : ℕ) → wordsAt m′ k ≡ wordsAt m k
   words-stay k = λ x. record {
-    revision = same (k * 72 + 11) (λ a b. omega arith) x;
-    payload = same (k * 72 + 12) (λ a b. omega arith) x;
-    phase = same (k * 72 + 13) (λ a b. omega arith) x;
-    retired = same (k * 72 + 14) (λ a b. omega arith) x;
-    generation = same (k * 72 + 15) (λ a b. omega arith) x;
-    root = same (k * 72 + 16) (λ a b. omega arith) x;
-    «root_revision» = same (k * 72 + 17) (λ a b. omega arith) x;
-    «root_argument» = same (k * 72 + 18) (λ a b. omega arith) x;
+    revision = same (k * placeWords + revisionWord) (λ a b. omega arith) x;
+    payload = same (k * placeWords + payloadWord) (λ a b. omega arith) x;
+    phase = same (k * placeWords + phaseWord) (λ a b. omega arith) x;
+    retired = same (k * placeWords + retiredWord) (λ a b. omega arith) x;
+    generation = same (k * placeWords + generationWord) (λ a b. omega arith) x;
+    root = same (k * placeWords + rootWord) (λ a b. omega arith) x;
+    «root_revision» = same (k * placeWords + rootRevisionWord) (λ a b. omega arith) x;
+    «root_argument» = same (k * placeWords + rootArgumentWord) (λ a b. omega arith) x;
   }
 
   life-stays : (k : ℕ) → lifeAt m′ k ≡ lifeAt m k
@@ -53,20 +54,20 @@ module _ (m m′ : List ℕ) (i : ℕ) (h : i < 32) (l : length m ≡ 4488) (l�
 
   taken-stays : (k : ℕ) → taken m′ k ≡ taken m k
   unfolding taken
-  taken-stays k = rw (same 3 (λ a b. omega arith))
+  taken-stays k = rw (same occupancyWord (λ a b. omega arith))
 
   start-stays : (k : ℕ) → startAt m′ k ≡ startAt m k
-  start-stays k = ap (λ x. min x 1024) (same (k * 72 + 19) (λ a b. omega arith))
+  start-stays k = ap (λ x. min x maxRows) (same (k * placeWords + firstRowWord) (λ a b. omega arith))
 
   -- every row is behind the places
-  row-stays : (n : ℕ) → 2312 ≤ n → word m′ n ≡ word m n
+  row-stays : (n : ℕ) → rowsStart ≤ n → word m′ n ≡ word m n
   row-stays n u = same n (λ a b. omega arith)
 
   -- another place
-  others-stay : (k : ℕ) → k < 32 → k ≢ i → pluginAt m′ k ≡ pluginAt m k
+  others-stay : (k : ℕ) → k < places → k ≢ i → pluginAt m′ k ≡ pluginAt m k
   unfolding pluginAt
   others-stay k u d =
-      let apart : (n : ℕ) → 8 ≤ n → n < 80 → word m′ (k * 72 + n) ≡ word m (k * 72 + n) = λ n a b. same (k * 72 + n) (λ x y. d (omega arith)) in
+      let apart : (n : ℕ) → idWord ≤ n → n < placeEnd → word m′ (k * placeWords + n) ≡ word m (k * placeWords + n) = λ n a b. same (k * placeWords + n) (λ x y. d (omega arith)) in
       plugin-kept m m′ k
       (kept-frame m m′ k u l l′
       (λ n a b. apart n a (omega arith))
@@ -76,13 +77,13 @@ module _ (m m′ : List ℕ) (i : ℕ) (h : i < 32) (l : length m ≡ 4488) (l�
 
   -- the place itself
   deps-stay : depsAt m′ i ≡ depsAt m i
-  deps-stay = ap (λ x. min x 48) (same (i * 72 + 20) (λ a b. omega arith))
+  deps-stay = ap (λ x. min x maxDependencies) (same (i * placeWords + dependenciesWord) (λ a b. omega arith))
 
   provs-stay : provsAt m′ i ≡ provsAt m i
-  provs-stay = ap (λ x. min x 15) (same (i * 72 + 21) (λ a b. omega arith))
+  provs-stay = ap (λ x. min x maxProvisionKeys) (same (i * placeWords + provisionsWord) (λ a b. omega arith))
 
   realms-stay : realmsAt m′ i ≡ realmsAt m i
-  realms-stay = ap (λ x. min x 16) (same (i * 72 + 22) (λ a b. omega arith))
+  realms-stay = ap (λ x. min x maxRealmRows) (same (i * placeWords + realmsWord) (λ a b. omega arith))
 
   dep-part : depPart m′ i ≡ depPart m i
   dep-part =
@@ -97,7 +98,7 @@ module _ (m m′ : List ℕ) (i : ℕ) (h : i < 32) (l : length m ≡ 4488) (l�
   realm-part : realmPart m′ i ≡ realmPart m i
   realm-part =
       rw realms-stay
-      (part-same m m′ (i * 72 + 39) (i * 72 + 39) (realmsAt m i * 2) (omega arith) (omega arith) (λ k u. same (i * 72 + 39 + k) (λ a b. omega arith)))
+      (part-same m m′ (i * placeWords + realmRowsWord) (i * placeWords + realmRowsWord) (realmsAt m i * 2) (omega arith) (omega arith) (λ k u. same (i * placeWords + realmRowsWord + k) (λ a b. omega arith)))
 
   anchor-key : word m′ (anchorWord m′ i) ≡ word m (anchorWord m i)
   anchor-key = rw (start-stays i, deps-stay) (row-stays (anchorWord m i) (omega arith))
@@ -108,7 +109,7 @@ module _ (m m′ : List ℕ) (i : ℕ) (h : i < 32) (l : length m ≡ 4488) (l�
   plugin-stays : pluginAt m′ i ≡ withProvisions (valued m′ i 0 (pairs (provPart m i))) (pluginAt m i)
   unfolding pluginAt
   plugin-stays =
-      rw (same (i * 72 + 8) (λ a b. omega arith), same (i * 72 + 9) (λ a b. omega arith), same (i * 72 + 10) (λ a b. omega arith), anchor-key, anchor-realm, realm-part, dep-part, prov-part, life-stays i)
+      rw (same (i * placeWords + idWord) (λ a b. omega arith), same (i * placeWords + tagWord) (λ a b. omega arith), same (i * placeWords + parentWord) (λ a b. omega arith), anchor-key, anchor-realm, realm-part, dep-part, prov-part, life-stays i)
 
   -- and its provisions, if each value is what a change of the former provisions says
   provisions-stay : (f : List Provision → List Provision) → valued m′ i 0 (pairs (provPart m i)) ≡ f (valued m i 0 (pairs (provPart m i)))
@@ -160,53 +161,53 @@ given-offered q j v k (w ∷ ws) d e =
 pub none-free : (m : List ℕ) (i j : ℕ) → valueAt m i j ≡ none → maskBit m i j ≡ 0
 unfolding valueAt
 none-free m i j e = by-test (eqb (maskBit m i j) 1)
-    (λ t. let z : some (word m (i * 72 + 24 + j)) ≡ none = rw t at e in cc)
+    (λ t. let z : some (word m (i * placeWords + valuesWord + j)) ≡ none = rw t at e in cc)
     (λ f. let n = eqb-false (maskBit m i j) 1 f in omega arith)
 
 -- A value is set. On any words, there are as many afterwards.
 pub set-length : (m : List ℕ) (i j v : ℕ) → length (withValue m i j v) ≡ length m
 unfolding withValue
-set-length m i j v = by-test (eqb (maskBit m i j) 1) (λ t. rw t) (λ f. rw f (length-set (masked m i j) (i * 72 + 24 + j) v ∙ length-set m (i * 72 + 23) (maskAt m i + 2 ^ j)))
+set-length m i j v = by-test (eqb (maskBit m i j) 1) (λ t. rw t) (λ f. rw f (length-set (masked m i j) (i * placeWords + valuesWord + j) v ∙ length-set m (i * placeWords + maskWord) (maskAt m i + 2 ^ j)))
 
-module _ (m : List ℕ) (i j v : ℕ) (h : i < 32) (size : length m ≡ 4488) (below : j < 15) where
-  set-size : length (withValue m i j v) ≡ 4488
+module _ (m : List ℕ) (i j v : ℕ) (h : i < places) (size : length m ≡ memoryWords) (below : j < maxProvisionKeys) where
+  set-size : length (withValue m i j v) ≡ memoryWords
   set-size = set-length m i j v ∙ size
 
   set-words : Others m (withValue m i j v) i
   unfolding withValue
   set-words n a = by-test (eqb (maskBit m i j) 1)
       (λ t. rw t)
-      (λ f. rw f (getD-set-other (masked m i j) (i * 72 + 24 + j) n v 0 (λ e. a (omega arith) (omega arith))
-      ∙ getD-set-other m (i * 72 + 23) n (maskAt m i + 2 ^ j) 0 (λ e. a (omega arith) (omega arith))))
+      (λ f. rw f (getD-set-other (masked m i j) (i * placeWords + valuesWord + j) n v 0 (λ e. a (omega arith) (omega arith))
+      ∙ getD-set-other m (i * placeWords + maskWord) n (maskAt m i + 2 ^ j) 0 (λ e. a (omega arith) (omega arith))))
 
   pub set-taken : (k : ℕ) → taken (withValue m i j v) k ≡ taken m k
   set-taken k = taken-stays m (withValue m i j v) i h size set-size set-words k
 
-  pub set-elsewhere : (k : ℕ) → k < 32 → k ≢ i → pluginAt (withValue m i j v) k ≡ pluginAt m k
+  pub set-elsewhere : (k : ℕ) → k < places → k ≢ i → pluginAt (withValue m i j v) k ≡ pluginAt m k
   set-elsewhere k u d = others-stay m (withValue m i j v) i h size set-size set-words k u d
 
   module _ (free : maskBit m i j ≡ 0) where
-    as-set : withValue m i j v ≡ set (masked m i j) (i * 72 + 24 + j) v
+    as-set : withValue m i j v ≡ set (masked m i j) (i * placeWords + valuesWord + j) v
     unfolding withValue
     as-set = rw (ne-eqb (maskBit m i j) 1 (λ e. omega arith))
 
     pub new-mask : maskAt (withValue m i j v) i ≡ maskAt m i + 2 ^ j
     new-mask =
         rw as-set
-        (getD-set-other (masked m i j) (i * 72 + 24 + j) (i * 72 + 23) v 0 (λ e. omega arith) ∙ getD-set-same m (i * 72 + 23) (maskAt m i + 2 ^ j) 0 (omega arith))
+        (getD-set-other (masked m i j) (i * placeWords + valuesWord + j) (i * placeWords + maskWord) v 0 (λ e. omega arith) ∙ getD-set-same m (i * placeWords + maskWord) (maskAt m i + 2 ^ j) 0 (omega arith))
 
     -- and it is a word
     pub set-fits : maskAt m i < 2 ^ 64 → maskAt (withValue m i j v) i < 2 ^ 64
     set-fits w = rw new-mask (set-lt 64 j (maskAt m i) (omega arith) w free)
 
-    new-value : word (withValue m i j v) (i * 72 + 24 + j) ≡ v
-    new-value = rw as-set (getD-set-same (masked m i j) (i * 72 + 24 + j) v 0 (simp length-set (omega arith)))
+    new-value : word (withValue m i j v) (i * placeWords + valuesWord + j) ≡ v
+    new-value = rw as-set (getD-set-same (masked m i j) (i * placeWords + valuesWord + j) v 0 (simp length-set (omega arith)))
 
-    old-value : (k : ℕ) → k ≢ j → word (withValue m i j v) (i * 72 + 24 + k) ≡ word m (i * 72 + 24 + k)
+    old-value : (k : ℕ) → k ≢ j → word (withValue m i j v) (i * placeWords + valuesWord + k) ≡ word m (i * placeWords + valuesWord + k)
     old-value k n =
         rw as-set
-        (getD-set-other (masked m i j) (i * 72 + 24 + j) (i * 72 + 24 + k) v 0 (λ e. n (omega arith))
-        ∙ getD-set-other m (i * 72 + 23) (i * 72 + 24 + k) (maskAt m i + 2 ^ j) 0 (λ e. omega arith))
+        (getD-set-other (masked m i j) (i * placeWords + valuesWord + j) (i * placeWords + valuesWord + k) v 0 (λ e. n (omega arith))
+        ∙ getD-set-other m (i * placeWords + maskWord) (i * placeWords + valuesWord + k) (maskAt m i + 2 ^ j) 0 (λ e. omega arith))
 
     pub set-here : valueAt (withValue m i j v) i j ≡ some v
     unfolding valueAt
@@ -237,29 +238,29 @@ module _ (m : List ℕ) (i j v : ℕ) (h : i < 32) (size : length m ≡ 4488) (b
         set-plugin ∙ ap (λ (ws : List Provision). withProvisions ws (pluginAt m i)) g
 
 -- All of a place's values are dropped.
-pub drop-length : (m : List ℕ) (i : ℕ) → length (set m (i * 72 + 23) 0) ≡ length m
-drop-length m i = length-set m (i * 72 + 23) 0
+pub drop-length : (m : List ℕ) (i : ℕ) → length (set m (i * placeWords + maskWord) 0) ≡ length m
+drop-length m i = length-set m (i * placeWords + maskWord) 0
 
-module _ (m : List ℕ) (i : ℕ) (h : i < 32) (size : length m ≡ 4488) where
-  drop-size : length (set m (i * 72 + 23) 0) ≡ 4488
+module _ (m : List ℕ) (i : ℕ) (h : i < places) (size : length m ≡ memoryWords) where
+  drop-size : length (set m (i * placeWords + maskWord) 0) ≡ memoryWords
   drop-size = drop-length m i ∙ size
 
-  drop-words : Others m (set m (i * 72 + 23) 0) i
-  drop-words n a = getD-set-other m (i * 72 + 23) n 0 0 (λ e. a (omega arith) (omega arith))
+  drop-words : Others m (set m (i * placeWords + maskWord) 0) i
+  drop-words n a = getD-set-other m (i * placeWords + maskWord) n 0 0 (λ e. a (omega arith) (omega arith))
 
-  pub drop-taken : (k : ℕ) → taken (set m (i * 72 + 23) 0) k ≡ taken m k
-  drop-taken k = taken-stays m (set m (i * 72 + 23) 0) i h size drop-size drop-words k
+  pub drop-taken : (k : ℕ) → taken (set m (i * placeWords + maskWord) 0) k ≡ taken m k
+  drop-taken k = taken-stays m (set m (i * placeWords + maskWord) 0) i h size drop-size drop-words k
 
-  pub drop-elsewhere : (k : ℕ) → k < 32 → k ≢ i → pluginAt (set m (i * 72 + 23) 0) k ≡ pluginAt m k
-  drop-elsewhere k u d = others-stay m (set m (i * 72 + 23) 0) i h size drop-size drop-words k u d
+  pub drop-elsewhere : (k : ℕ) → k < places → k ≢ i → pluginAt (set m (i * placeWords + maskWord) 0) k ≡ pluginAt m k
+  drop-elsewhere k u d = others-stay m (set m (i * placeWords + maskWord) 0) i h size drop-size drop-words k u d
 
-  pub drop-value : (k : ℕ) → valueAt (set m (i * 72 + 23) 0) i k ≡ none
+  pub drop-value : (k : ℕ) → valueAt (set m (i * placeWords + maskWord) 0) i k ≡ none
   unfolding valueAt
-  drop-value k = rw (getD-set-same m (i * 72 + 23) 0 0 (omega arith), zero-div (2 ^ k))
+  drop-value k = rw (getD-set-same m (i * placeWords + maskWord) 0 0 (omega arith), zero-div (2 ^ k))
 
-  drop-valued : (k : ℕ) (ps : List Port) → valued (set m (i * 72 + 23) 0) i k ps ≡ map dropped (valued m i k ps)
+  drop-valued : (k : ℕ) (ps : List Port) → valued (set m (i * placeWords + maskWord) 0) i k ps ≡ map dropped (valued m i k ps)
   drop-valued k [] = refl
   drop-valued k (p ∷ ps) = let r = drop-valued (k + 1) ps in rw (drop-value k, r)
 
-  pub drop-plugin : pluginAt (set m (i * 72 + 23) 0) i ≡ withProvisions (map dropped (pluginAt m i .provisions)) (pluginAt m i)
-  drop-plugin = provisions-stay m (set m (i * 72 + 23) 0) i h size drop-size drop-words (map dropped) (drop-valued 0 (pairs (provPart m i)))
+  pub drop-plugin : pluginAt (set m (i * placeWords + maskWord) 0) i ≡ withProvisions (map dropped (pluginAt m i .provisions)) (pluginAt m i)
+  drop-plugin = provisions-stay m (set m (i * placeWords + maskWord) 0) i h size drop-size drop-words (map dropped) (drop-valued 0 (pairs (provPart m i)))

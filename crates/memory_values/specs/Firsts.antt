@@ -1,5 +1,5 @@
 -- What the first port that is the same, and the first provision without a value, say of a plugin's values.
-use Prim.Native.Nat.{ℕ, suc, _+_, _-_, _≤_, _<_}
+use Prim.Native.Nat.{ℕ, suc, _+_, _-_, _≤_, _<_, _*_}
 use native.Mathlib.Omega.{arith}
 use mathlib.Core.Path.{_≡_, refl, ap, _∙_}
 use mathlib.Core.Bool.{Bool, true, false}
@@ -13,6 +13,7 @@ use Rattle.rules.specs.Ports.{pairs, flat}
 use Rattle.rules.specs.Values.{valueIn, firstMissing}
 use Rattle.rules.specs.Laws.Tests.{by-test}
 use Rattle.rules.specs.Laws.Members.{same-port}
+use Rattle.rules.specs.Limits.{maxProvisionKeys}
 use Rattle.memory.specs.Layout.{provPart}
 use Rattle.memory.specs.View.{valueAt, valued, pluginAt}
 use Rattle.memory_lists.specs.Listed.{valued-ports}
@@ -81,10 +82,10 @@ pub provisions-at : (m : List ℕ) (i : ℕ) → pluginAt m i .provisions ≡ va
 unfolding pluginAt
 provisions-at m i = refl
 
-pub few-words : (m : List ℕ) (i : ℕ) → length (provPart m i) ≤ 30
+pub few-words : (m : List ℕ) (i : ℕ) → length (provPart m i) ≤ maxProvisionKeys * 2
 few-words m i = simp (length-take, length-drop) (omega arith)
 
-pub port-below : (m : List ℕ) (i : ℕ) (q : Port) (j : ℕ) → portFrom 0 q (pairs (provPart m i)) ≡ At j → j < 15
+pub port-below : (m : List ℕ) (i : ℕ) (q : Port) (j : ℕ) → portFrom 0 q (pairs (provPart m i)) ≡ At j → j < maxProvisionKeys
 port-below m i q j e = omega (arith, port-there q (pairs (provPart m i)) j e .within, length-pairs (provPart m i), few-words m i)
 
 -- The value of a port is that of its place.

@@ -7,7 +7,7 @@ use lib.ListN.{set}
 use Rattle.rules.specs.Basics.{pick, isNone}
 use Rattle.rules.specs.Holds.{Provision, samePort}
 use Rattle.rules.specs.declared.Port.{Port}
-use Rattle.memory.specs.Layout.{word}
+use Rattle.memory.specs.Layout.{word, placeWords, maskWord, valuesWord}
 use Rattle.memory_places.specs.Bits.{bit}
 use Rattle.ports.specs.declared.Found.{Found}
 use Rattle.ports.specs.declared.Found.the-variants.{At, Nothing}
@@ -20,7 +20,7 @@ valueOf value.Nothing = none
 
 -- the mask of the values there are, and its bit of provision j
 abbrev pub maskAt : List ℕ → ℕ → ℕ
-maskAt m i = word m (i * 72 + 23)
+maskAt m i = word m (i * placeWords + maskWord)
 
 abbrev pub maskBit : List ℕ → ℕ → ℕ → ℕ
 maskBit m i j = bit (maskAt m i) j
@@ -37,8 +37,8 @@ lackFrom i (v ∷ vs) = pick (isNone (v .value)) (At i) (lackFrom (i + 1) vs)
 
 -- the words with one more value in the mask
 abbrev pub masked : List ℕ → ℕ → ℕ → List ℕ
-masked m i j = set m (i * 72 + 23) (maskAt m i + 2 ^ j)
+masked m i j = set m (i * placeWords + maskWord) (maskAt m i + 2 ^ j)
 
 -- a provision that has a value keeps it
 unfoldable pub withValue : List ℕ → ℕ → ℕ → ℕ → List ℕ
-withValue m i j v = pick (eqb (maskBit m i j) 1) m (set (masked m i j) (i * 72 + 24 + j) v)
+withValue m i j v = pick (eqb (maskBit m i j) 1) m (set (masked m i j) (i * placeWords + valuesWord + j) v)

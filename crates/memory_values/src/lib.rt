@@ -6,11 +6,17 @@ ghost use lib.ListN.{set};
 ghost use Rattle.rules.specs.Holds.{port};
 ghost use Rattle.rules.specs.Ports.{pairs};
 ghost use Rattle.rules.specs.Values.{valueIn};
+ghost use Rattle.rules.specs.Limits.{maxProvisionKeys};
 ghost use Rattle.memory.specs.View.{valueAt, pluginAt};
+ghost use Rattle.memory.specs.Layout.{placeWords, places, maskWord};
 ghost use Rattle.memory_values.specs.Values.{maskBit, valueOf, portFrom, lackFrom, withValue};
-use memory::PLACE_WORDS;
 use memory::WORDS;
+use memory::layout;
+use memory::layout::LOW_HALF;
+use memory::layout::PLACE_WORDS;
+use memory::layout::PLACES;
 use ports::Found;
+use rules::limits;
 
 pub enum Value {
     Is(u64),
@@ -19,20 +25,20 @@ pub enum Value {
 
 // Whether a provision has a value: its bit in the mask.
 fn has_value(m: &[u64; WORDS], place: usize, provision: usize) -> bool
-    ensures { λ r. ⌜ r ≡ eqb (maskBit (now (m .entry)) (place % 32) (provision % 15)) 1 ⌝ }
+    ensures { λ r. ⌜ r ≡ eqb (maskBit (now (m .entry)) (place % places) (provision % maxProvisionKeys)) 1 ⌝ }
 {
-    let b = place % 32 * PLACE_WORDS;
-    (m[b + 23] >> (provision % 15)) % 2 == 1
+    let b = place % PLACES * PLACE_WORDS;
+    (m[b + layout::MASK] >> (provision % limits::PROVISION_KEYS)) % 2 == 1
 }
 
 // The value of a provision, or nothing.
 pub fn value_at(m: &[u64; WORDS], place: usize, provision: usize) -> Value
-    ensures { λ r. ⌜ valueOf r ≡ valueAt (now (m .entry)) (place % 32) (provision % 15) ⌝ }
+    ensures { λ r. ⌜ valueOf r ≡ valueAt (now (m .entry)) (place % places) (provision % maxProvisionKeys) ⌝ }
 {
     if has_value(m, place, provision) {
-        let b = place % 32 * PLACE_WORDS;
-        let j = provision % 15;
-        Value::Is(m[b + 24 + j])
+        let b = place % PLACES * PLACE_WORDS;
+        let j = provision % limits::PROVISION_KEYS;
+        Value::Is(m[b + layout::VALUES + j])
     } else {
         Value::Nothing
     }
@@ -56,7 +62,7 @@ pub fn place_of(ports: &[u64], key: u64, realm: u64) -> Found
 
 // The value of a port among the plugin's provisions, or nothing.
 pub fn value_of(m: &[u64; WORDS], place: usize, key: u64, realm: u64) -> Value
-    ensures { λ r. ⌜ valueOf r ≡ valueIn (port key realm) (pluginAt (now (m .entry)) (place % 32) .provisions) ⌝ }
+    ensures { λ r. ⌜ valueOf r ≡ valueIn (port key realm) (pluginAt (now (m .entry)) (place % places) .provisions) ⌝ }
 {
     let Found::At(j) = place_of(memory_lists::provision_words(m, place), key, realm) else {
         return Value::Nothing;
@@ -66,11 +72,11 @@ pub fn value_of(m: &[u64; WORDS], place: usize, key: u64, realm: u64) -> Value
 
 // The first provision without a value: a plugin has 15 at most, so the low half of the mask tells.
 pub fn first_lacking(m: &[u64; WORDS], place: usize) -> Found
-    ensures { λ r. ⌜ r ≡ lackFrom 0 (pluginAt (now (m .entry)) (place % 32) .provisions) ⌝ }
+    ensures { λ r. ⌜ r ≡ lackFrom 0 (pluginAt (now (m .entry)) (place % places) .provisions) ⌝ }
 {
     let words = memory_lists::provision_words(m, place);
-    let b = place % 32 * PLACE_WORDS;
-    let mask = (m[b + 23] % 4294967296) as u32;
+    let b = place % PLACES * PLACE_WORDS;
+    let mask = (m[b + layout::MASK] % LOW_HALF) as u32;
     let j = u32::trailing_zeros(!mask) as usize;
     if j < words.len() / 2 {
         Found::At(j)
@@ -81,21 +87,21 @@ pub fn first_lacking(m: &[u64; WORDS], place: usize) -> Found
 
 // A provision that has no value gets one.
 pub fn set_value(m: &mut [u64; WORDS], place: usize, provision: usize, value: u64)
-    ensures { λ _. ⌜ now (m .exit) ≡ withValue (now (m .entry)) (place % 32) (provision % 15) value ⌝ }
+    ensures { λ _. ⌜ now (m .exit) ≡ withValue (now (m .entry)) (place % places) (provision % maxProvisionKeys) value ⌝ }
 {
     if has_value(m, place, provision) {
         return;
     }
-    let b = place % 32 * PLACE_WORDS;
-    let j = provision % 15;
-    m[b + 23] = m[b + 23] | 1 << j;
-    m[b + 24 + j] = value;
+    let b = place % PLACES * PLACE_WORDS;
+    let j = provision % limits::PROVISION_KEYS;
+    m[b + layout::MASK] = m[b + layout::MASK] | 1 << j;
+    m[b + layout::VALUES + j] = value;
 }
 
 // No provision of the place has a value any more.
 pub fn drop_values(m: &mut [u64; WORDS], place: usize)
-    ensures { λ _. ⌜ now (m .exit) ≡ set (now (m .entry)) (place % 32 * 72 + 23) 0 ⌝ }
+    ensures { λ _. ⌜ now (m .exit) ≡ set (now (m .entry)) (place % places * placeWords + maskWord) 0 ⌝ }
 {
-    let b = place % 32 * PLACE_WORDS;
-    m[b + 23] = 0;
+    let b = place % PLACES * PLACE_WORDS;
+    m[b + layout::MASK] = 0;
 }

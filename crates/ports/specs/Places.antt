@@ -15,6 +15,7 @@ use Rattle.rules.specs.Ports.{pairs, oddLength, flat, resolveIn, rising, samePo
 use Rattle.rules.specs.Registration.{repeats}
 use Rattle.rules.specs.Laws.Tests.{by-test, both, neither}
 use Rattle.rules.specs.Laws.Members.{same-port}
+use Rattle.rules.specs.Limits.{maxRealmRows}
 use Rattle.ports.specs.declared.Found.the-variants.{At}
 use Rattle.ports.specs.Answers.{firstFrom}
 
@@ -189,21 +190,21 @@ module _ (l : List ℕ) where
   unfolding badRealms
   bad-odd h = rw (length-odd l h)
 
-  pub bad-long : length l % 2 ≡ 0 → 32 < length l → badRealms l ≡ true
+  pub bad-long : length l % 2 ≡ 0 → maxRealmRows * 2 < length l → badRealms l ≡ true
   unfolding badRealms
-  bad-long e h = rw (length-even l e, lt-ltb 16 (length (pairs l)) (omega (arith, length-pairs l)))
+  bad-long e h = rw (length-even l e, lt-ltb maxRealmRows (length (pairs l)) (omega (arith, length-pairs l)))
 
-  pub bad-rising : length l % 2 ≡ 0 → length l ≤ 32 → badRealms l ≡ not (rising (pairs l))
+  pub bad-rising : length l % 2 ≡ 0 → length l ≤ maxRealmRows * 2 → badRealms l ≡ not (rising (pairs l))
   unfolding badRealms
-  bad-rising e h = rw (length-even l e, le-ltb 16 (length (pairs l)) (omega (arith, length-pairs l)))
+  bad-rising e h = rw (length-even l e, le-ltb maxRealmRows (length (pairs l)) (omega (arith, length-pairs l)))
 
-  pub good-realms : badRealms l ≡ false → (length l % 2 ≡ 0) × (length l ≤ 32) × (rising (pairs l) ≡ true)
+  pub good-realms : badRealms l ≡ false → (length l % 2 ≡ 0) × (length l ≤ maxRealmRows * 2) × (rising (pairs l) ≡ true)
   unfolding badRealms
   good-realms h =
-      let a = neither (oddLength l || ltb 16 (length (pairs l))) (not (rising (pairs l))) h in
-      let b = neither (oddLength l) (ltb 16 (length (pairs l))) (a .0) in
+      let a = neither (oddLength l || ltb maxRealmRows (length (pairs l))) (not (rising (pairs l))) h in
+      let b = neither (oddLength l) (ltb maxRealmRows (length (pairs l))) (a .0) in
       let e = even-length l (b .0) in
-      (e, omega (arith, ltb-false 16 (length (pairs l)) (b .1), length-pairs l), not-false (rising (pairs l)) (a .1))
+      (e, omega (arith, ltb-false maxRealmRows (length (pairs l)) (b .1), length-pairs l), not-false (rising (pairs l)) (a .1))
 
 -- the same ports are the same list
 pub same-refl : (ps : List Port) → samePorts ps ps ≡ true

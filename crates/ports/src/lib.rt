@@ -7,7 +7,11 @@ ghost use Rattle.rules.specs.Ports.{badRealms, resolveIn, resolveKey, pairs, od
 ghost use Rattle.rules.specs.Registration.{repeats};
 ghost use Rattle.ports.specs.Answers.{resolvedAnswer, firstFrom};
 use rules::Port;
+use rules::limits;
 use rules::refusal;
+
+// The most numbers of a realm list.
+const REALM_NUMBERS: usize = limits::REALM_ROWS * 2;
 
 pub enum Resolved {
     To(Port),
@@ -26,7 +30,7 @@ pub fn bad_realms(realms: &[u64]) -> bool
     if realms.len() % 2 != 0 {
         return true;
     }
-    if 32 < realms.len() {
+    if REALM_NUMBERS < realms.len() {
         return true;
     }
     let mut i: usize = 2;

@@ -13,9 +13,10 @@ use Rattle.rules.specs.Holds.{Realms, samePort, isIn}
 use Rattle.rules.specs.Ports.{pairs, resolveIn, resolve}
 use Rattle.rules.specs.Registration.{repeats}
 use Rattle.rules.specs.Laws.Tests.{by-test}
+use Rattle.rules.specs.Limits.{maxProvisionKeys}
 use Rattle.ports.specs.Found.{resolve-key-law}
 use Rattle.ports_claimed.specs.declared.Claimed.{Claimed}
-use Rattle.ports_claimed.specs.Blocks.{keysRepeat, claimsOf}
+use Rattle.ports_claimed.specs.Blocks.{keysRepeat, claimsOf, claimRoom}
 use Rattle.ports_claimed.specs.Filled.{Lists, listed, listed-behind}
 
 -- resolved ports are the same exactly if their keys are
@@ -48,12 +49,12 @@ pub keys-repeat-in : (z : Realms) (keys : List ℕ) → repeats (map (resolve z)
 keys-repeat-in z keys = ap repeats (map-resolve z keys) ∙ keys-repeat (z .other) (z .rows) keys
 
 -- at most 15 keys are all claimed, behind the anchor
-module _ (other : ℕ) (rows : List Port) (anchor : Port) (keys : List ℕ) (h : length keys ≤ 15) where
+module _ (other : ℕ) (rows : List Port) (anchor : Port) (keys : List ℕ) (h : length keys ≤ maxProvisionKeys) where
   abbrev c : Claimed
   c = claimsOf other rows anchor keys
 
-  pub claims-law : Lists 32 (c .count) (c .ports) (anchor ∷ map (resolveIn other rows) keys)
-  claims-law = rw (take-all 15 keys h) record { counted = refl; numbers = refl }
+  pub claims-law : Lists claimRoom (c .count) (c .ports) (anchor ∷ map (resolveIn other rows) keys)
+  claims-law = rw (take-all maxProvisionKeys keys h) record { counted = refl; numbers = refl }
 
   pub claims-count : c .count ≡ length keys + 1
   claims-count = omega (arith, claims-law .counted, length-map keys (resolveIn other rows))

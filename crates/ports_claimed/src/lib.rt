@@ -3,11 +3,18 @@ ghost use mathlib.Core.Path.{_≡_};
 ghost use Rattle.rules.specs.Ports.{pairs};
 ghost use Rattle.ports_claimed.specs.Blocks.{keysRepeat, claimsOf};
 use rules::Port;
+use rules::limits;
 
-// The anchor, then the resolved provisions: 16 ports at most.
+// The anchor and the provisions.
+const PORTS: usize = limits::PROVISION_KEYS + 1;
+
+// Room for them, as key and realm.
+pub const ROOM: usize = PORTS * 2;
+
+// The anchor, then the resolved provisions.
 pub struct Claimed {
     pub count: usize,
-    pub ports: [u64; 32],
+    pub ports: [u64; ROOM],
 }
 
 // Whether a key stands twice among declared keys.
@@ -33,13 +40,16 @@ pub fn repeated_key(keys: &[u64]) -> bool
 pub fn claims(realms: &[u64], other: u64, anchor: Port, keys: &[u64]) -> Claimed
     ensures { λ r. ⌜ r ≡ claimsOf other (pairs (now (realms .entry))) anchor (now (keys .entry)) ⌝ }
 {
-    let mut ports = [0u64; 32];
+    let mut ports = [0u64; ROOM];
     ports[0] = anchor.key;
     ports[1] = anchor.realm;
     let mut i: usize = 0;
     while i < keys.len() {
-        if i == 15 {
-            return Claimed { count: 16, ports };
+        if i == limits::PROVISION_KEYS {
+            return Claimed {
+                count: PORTS,
+                ports,
+            };
         }
         let q = ports::resolve(realms, Port::new(keys[i], other));
         ports[i * 2 + 2] = q.key;

@@ -1,16 +1,24 @@
 // Document 01, "Dependency list".
 ghost use mathlib.Core.Path.{_≡_};
 ghost use mathlib.Core.List.{[]};
+ghost use Prim.Native.Nat.{_+_};
 ghost use lib.ListN.{take};
 ghost use Rattle.rules.specs.Ports.{pairs, realmsWith};
 ghost use Rattle.rules.specs.Dependencies.{dependencyList};
+ghost use Rattle.rules.specs.Limits.{maxDependencyKeys, maxDependencies};
 ghost use Rattle.ports_claimed.specs.Blocks.{filled};
+ghost use Rattle.ports_resolved.specs.Blocks.{listRoom};
 ghost use Rattle.ports_inherited.specs.Blocks.{fitted};
+use ports_resolved::ROOM;
+use rules::limits;
 
-// A finished dependency list of at most 48 ports. A count of 49 says that it is longer.
+// The count that says that a list is too long.
+pub const LONGER: usize = limits::DEPENDENCIES + 1;
+
+// A finished dependency list of at most 48 ports, or that it is longer.
 pub struct Dependencies {
     pub count: usize,
-    pub ports: [u64; 96],
+    pub ports: [u64; ROOM],
 }
 
 // The list of a new plugin: the first 16 declared keys resolved, then for each port of the parent's list itself and its
@@ -23,9 +31,9 @@ pub fn dependency_list(
     parents: &[u64],
 ) -> Dependencies
     ensures { λ r. ⌜ r ≡ fitted (dependencyList (realmsWith other (now (realms .entry))) (pairs (now (provisions .entry)))
-        (take 16 (now (keys .entry))) (pairs (now (parents .entry)))) ⌝ }
+        (take maxDependencyKeys (now (keys .entry))) (pairs (now (parents .entry)))) ⌝ }
 {
-    let mut ports = [0u64; 96];
+    let mut ports = [0u64; ROOM];
     let mut n = ports_resolved::declared(realms, other, keys, &mut ports);
     let mut c: usize = 0;
     'next: while c / 2 < parents.len() / 2 {
@@ -45,7 +53,7 @@ pub fn dependency_list(
             }
             k += 1;
         }
-        if n == 48 {
+        if n == limits::DEPENDENCIES {
             return longer();
         }
         ports[n * 2] = key;
@@ -57,10 +65,10 @@ pub fn dependency_list(
 
 // What a list of more than 48 ports answers.
 fn longer() -> Dependencies
-    ensures { λ r. ⌜ (r .count ≡ 49) × (r .ports ≡ filled 96 []) ⌝ }
+    ensures { λ r. ⌜ (r .count ≡ maxDependencies + 1) × (r .ports ≡ filled listRoom []) ⌝ }
 {
     Dependencies {
-        count: 49,
-        ports: [0u64; 96],
+        count: LONGER,
+        ports: [0u64; ROOM],
     }
 }

@@ -7,17 +7,18 @@ use mathlib.Core.List.{List, map}
 use lib.ListN.{length, getD, set, take, drop, length-take, drop-of-length-le}
 use lib.Seq.{getD-take, drop-cons}
 use Rattle.rules.specs.declared.Port.{Port}
+use Rattle.rules.specs.Limits.{maxDependencyKeys}
 use Rattle.ports_resolved.specs.Blocks.{stored}
 
 module _ (f : ℕ → Port) (keys array : List ℕ) (i : ℕ) where
-  pub stored-next : (q : Port) → i < length keys → i < 16 → q ≡ f (getD keys i 0)
-      → stored array i (map f (drop i (take 16 keys))) ≡ stored (set (set array (i * 2) (q .key)) (i * 2 + 1) (q .realm)) (i + 1) (map f (drop (i + 1) (take 16 keys)))
+  pub stored-next : (q : Port) → i < length keys → i < maxDependencyKeys → q ≡ f (getD keys i 0)
+      → stored array i (map f (drop i (take maxDependencyKeys keys))) ≡ stored (set (set array (i * 2) (q .key)) (i * 2 + 1) (q .realm)) (i + 1) (map f (drop (i + 1) (take maxDependencyKeys keys)))
   unfolding stored
   stored-next q h l e =
-      let g : f (getD (take 16 keys) i 0) ≡ q = ap f (getD-take 16 keys i 0 l) ∙ sym e in
-      ap (λ (ks : List ℕ). stored array i (map f ks)) (drop-cons (take 16 keys) i 0 (omega (arith, length-take 16 keys)))
-      ∙ (λ j. stored (set (set array (i * 2) (g j .key)) (i * 2 + 1) (g j .realm)) (i + 1) (map f (drop (sym (add-one i) j) (take 16 keys))))
+      let g : f (getD (take maxDependencyKeys keys) i 0) ≡ q = ap f (getD-take maxDependencyKeys keys i 0 l) ∙ sym e in
+      ap (λ (ks : List ℕ). stored array i (map f ks)) (drop-cons (take maxDependencyKeys keys) i 0 (omega (arith, length-take maxDependencyKeys keys)))
+      ∙ (λ j. stored (set (set array (i * 2) (g j .key)) (i * 2 + 1) (g j .realm)) (i + 1) (map f (drop (sym (add-one i) j) (take maxDependencyKeys keys))))
 
-  pub stored-end : length (take 16 keys) ≤ i → stored array i (map f (drop i (take 16 keys))) ≡ array
+  pub stored-end : length (take maxDependencyKeys keys) ≤ i → stored array i (map f (drop i (take maxDependencyKeys keys))) ≡ array
   unfolding stored
-  stored-end h = rw (drop-of-length-le (take 16 keys) {i = i} h)
+  stored-end h = rw (drop-of-length-le (take maxDependencyKeys keys) {i = i} h)

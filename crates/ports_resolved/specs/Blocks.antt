@@ -8,12 +8,17 @@ use lib.ListN.{length, set, take, length-append, length-map, length-take}
 use Rattle.rules.specs.Basics.{pick}
 use Rattle.rules.specs.declared.Port.{Port}
 use Rattle.rules.specs.Ports.{resolveIn, flat}
+use Rattle.rules.specs.Limits.{maxDependencyKeys, maxDependencies}
 use Rattle.ports_claimed.specs.Blocks.{filled}
 use Rattle.ports_claimed.specs.Filled.{Lists, lists-more}
 
+-- room for a finished list, as key and realm
+abbrev pub listRoom : ℕ
+listRoom = maxDependencies * 2
+
 -- the resolved keys, at most 16
 abbrev pub declaredOf : ℕ → List Port → List ℕ → List Port
-declaredOf other rows keys = map (resolveIn other rows) (take 16 keys)
+declaredOf other rows keys = map (resolveIn other rows) (take maxDependencyKeys keys)
 
 -- Ports stored in an array, as key and realm, from place k on; the rest stays.
 unfoldable pub stored : List ℕ → ℕ → List Port → List ℕ
@@ -41,11 +46,11 @@ stored-lists {size} {k} {array} {ps} (q ∷ qs) r h =
 
 -- stored in zeros they stand in front, and the rest is 0
 pub declared-lists : (other : ℕ) (rows : List Port) (keys : List ℕ) {n : ℕ} {array : List ℕ} → n ≡ length (declaredOf other rows keys)
-    → array ≡ stored (filled 96 []) 0 (declaredOf other rows keys) → Lists 96 n array (declaredOf other rows keys)
+    → array ≡ stored (filled listRoom []) 0 (declaredOf other rows keys) → Lists listRoom n array (declaredOf other rows keys)
 declared-lists other rows keys e f =
     let ps = declaredOf other rows keys in
-    let h : (0 + length ps) * 2 ≤ 96 = omega (arith, length-map (take 16 keys) (resolveIn other rows), length-take 16 keys) in
-    let none : Lists 96 0 (filled 96 []) [] = record { counted = refl; numbers = refl } in
+    let h : (0 + length ps) * 2 ≤ listRoom = omega (arith, length-map (take maxDependencyKeys keys) (resolveIn other rows), length-take maxDependencyKeys keys) in
+    let none : Lists listRoom 0 (filled listRoom []) [] = record { counted = refl; numbers = refl } in
     record { counted = e; numbers = f ∙ stored-lists ps none h .numbers }
 
 -- the realm of a candidate: its own at turn 0, else that of its key resolved again

@@ -3,15 +3,19 @@ ghost use mathlib.Core.Path.{_≡_};
 ghost use Rattle.rules.specs.Ports.{pairs};
 ghost use Rattle.ports_resolved.specs.Blocks.{declaredOf, Stores, candidateRealm};
 use rules::Port;
+use rules::limits;
 
-// The first 16 declared keys, resolved, in the front of an array that a finished list of 48 ports fits into; their count.
-pub fn declared(realms: &[u64], other: u64, keys: &[u64], ports: &mut [u64; 96]) -> usize
+// Room for a finished dependency list, as key and realm.
+pub const ROOM: usize = limits::DEPENDENCIES * 2;
+
+// The first 16 declared keys, resolved, in the front of an array that a finished list fits into; their count.
+pub fn declared(realms: &[u64], other: u64, keys: &[u64], ports: &mut [u64; ROOM]) -> usize
     ensures { λ r. ⌜ Stores (declaredOf other (pairs (now (realms .entry))) (now (keys .entry))) (now (ports .entry)) r (now (ports .exit)) ⌝ }
 {
     let mut i: usize = 0;
     while i < keys.len() {
-        if i == 16 {
-            return 16;
+        if i == limits::DEPENDENCY_KEYS {
+            return limits::DEPENDENCY_KEYS;
         }
         let q = ports::resolve(realms, Port::new(keys[i], other));
         ports[i * 2] = q.key;

@@ -15,7 +15,7 @@ use Rattle.rules.specs.Outcomes.{Refused, Accepted, Outcome, refuses, stores, c
 use Rattle.rules.specs.Phases.{setup}
 use Rattle.rules.specs.Admission.{Ticket, Invocation, five, isUnissued, admissionChecks, admit, isAccepted, admits, isLive, receipt, call}
 use Rattle.memory.specs.Ways.{leftBy}
-use Rattle.memory.specs.Layout.{word}
+use Rattle.memory.specs.Layout.{word, places, domainWord}
 use Rattle.memory.specs.View.{lifeAt, pluginAt, view}
 use Rattle.memory.specs.Writes.{findAt, putLife}
 use Rattle.memory.specs.Frames.{withLife}
@@ -28,7 +28,7 @@ use Rattle.registry_live.specs.Lives.{verdict, verdictOf, liveOf}
 use Rattle.registry_admit.specs.Lives.{rootedLife}
 
 -- a found plugin and its life as it was loaded
-module _ (m : List ℕ) (id i : ℕ) (life : Life) (e : findAt m id ≡ At i) (l : life ≡ lifeAt m (i % 32)) where
+module _ (m : List ℕ) (id i : ℕ) (life : Life) (e : findAt m id ≡ At i) (l : life ≡ lifeAt m (i % places)) where
   loaded : lifeOf (pluginAt m i) ≡ life
   loaded = life-of m i ∙ sym (life-found m id i e life l)
 
@@ -37,9 +37,9 @@ module _ (m : List ℕ) (id i : ℕ) (life : Life) (e : findAt m id ≡ At i) (l
 
   -- its life was stored with another root
   told-rooted : (o : Outcome) (r : Root) (vs : List ℕ) (l′ : Life) (m′ : List ℕ) → o ≡ stores (withRoot r (pluginAt m i)) vs
-      → l′ ≡ rootedLife r life → m′ ≡ putLife m (i % 32) l′ → Meets storedLife o m (Accepted vs) m′
+      → l′ ≡ rootedLife r life → m′ ≡ putLife m (i % places) l′ → Meets storedLife o m (Accepted vs) m′
   told-rooted o r vs l′ m′ k s p =
-      told-stored o m id i vs (rootedLife r life) m′ e (k ∙ ap (λ x. stores x vs) (rooted-plugin r)) (p ∙ ap (putLife m (i % 32)) s)
+      told-stored o m id i vs (rootedLife r life) m′ e (k ∙ ap (λ x. stores x vs) (rooted-plugin r)) (p ∙ ap (putLife m (i % places)) s)
 
 -- What a verdict says of what they come to, with the outcome where they all pass.
 record Says (m : List ℕ) (same : Bool) (v : ℕ) (comes o : Outcome) : Type 0 where
@@ -72,14 +72,14 @@ abbrev queued : Plugin → Invocation → Outcome
 queued p t = stores (withRoot (Queued (t .revision) (t .argument)) p) (five t)
 
 -- over the header's word as it was read
-module _ (m : List ℕ) (t : Ticket) (a d : ℕ) (domain : d ≡ word m 0) where
+module _ (m : List ℕ) (t : Ticket) (a d : ℕ) (domain : d ≡ word m domainWord) where
   pub admit-foreign : t .domain ≢ d → admit (view m) t a ≡ refuses InvalidState []
   unfolding admit checked view
-  admit-foreign n = rw (ne-eqb (t .domain) (word m 0) (λ s. n (s ∙ sym domain)))
+  admit-foreign n = rw (ne-eqb (t .domain) (word m domainWord) (λ s. n (s ∙ sym domain)))
 
   module _ (same : t .domain ≡ d) where
-    own : eqb (t .domain) (word m 0) ≡ true
-    own = eq-eqb (t .domain) (word m 0) (same ∙ domain)
+    own : eqb (t .domain) (word m domainWord) ≡ true
+    own = eq-eqb (t .domain) (word m domainWord) (same ∙ domain)
 
     pub admit-kind : t .kind ≢ setup → admit (view m) t a ≡ refuses InvalidState []
     unfolding admit checked view
@@ -90,16 +90,16 @@ module _ (m : List ℕ) (t : Ticket) (a d : ℕ) (domain : d ≡ word m 0) where
       unfolding admit checked view
       admit-none e = rw (own, eq-eqb (t .kind) setup kind) (none-known m (t .id) e _)
 
-      module _ (i : ℕ) (life : Life) (v : ℕ) (e : findAt m (t .id) ≡ At i) (l : life ≡ lifeAt m (i % 32)) (k : v ≡ verdictOf life (t .generation)) where
+      module _ (i : ℕ) (life : Life) (v : ℕ) (e : findAt m (t .id) ≡ At i) (l : life ≡ lifeAt m (i % places)) (k : v ≡ verdictOf life (t .generation)) where
         said : v ≡ verdictOf (lifeOf (pluginAt m i)) (t .generation)
         said = k ∙ ap (λ x. verdictOf x (t .generation)) (sym (loaded m (t .id) i life e l))
 
-        says : Says m (eqb (pluginAt m i .generation) (t .generation)) v (admit (view m) t a) (queued (pluginAt m i) (invocation (word m 0) a (pluginAt m i)))
+        says : Says m (eqb (pluginAt m i .generation) (t .generation)) v (admit (view m) t a) (queued (pluginAt m i) (invocation (word m domainWord) a (pluginAt m i)))
         unfolding admit checked view verdictOf
         says =
             let p = pluginAt m i in
             rw (own, eq-eqb (t .kind) setup kind) (rw (at-known m (t .id) i e _, said)
-            (verdict-says m (queued p (invocation (word m 0) a p)) (p .retired) (isLoading (p .phase)) (eqb (p .generation) (t .generation)) (isUnissued (p .root))))
+            (verdict-says m (queued p (invocation (word m domainWord) a p)) (p .retired) (isLoading (p .phase)) (eqb (p .generation) (t .generation)) (isUnissued (p .root))))
 
         pub told-verdict : v ≢ 0 → Meets storedLife (admit (view m) t a) m (Refused v []) m
         told-verdict n = says .stops n
@@ -110,7 +110,7 @@ module _ (m : List ℕ) (t : Ticket) (a d : ℕ) (domain : d ≡ word m 0) where
         abbrev given : Invocation
         given = record { domain = t .domain; id = t .id; generation = t .generation; revision = life .revision; argument = a }
 
-        gives : v ≡ 0 → invocation (word m 0) a (pluginAt m i) ≡ given
+        gives : v ≡ 0 → invocation (word m domainWord) a (pluginAt m i) ≡ given
         gives z = λ x. record {
           domain = sym (same ∙ domain) x;
           id = at-id m (t .id) i e x;
@@ -119,7 +119,7 @@ module _ (m : List ℕ) (t : Ticket) (a d : ℕ) (domain : d ≡ word m 0) where
           argument = a;
         }
 
-        pub told-admitted : (l′ : Life) (m′ : List ℕ) → v ≡ 0 → l′ ≡ rootedLife (Queued (life .revision) a) life → m′ ≡ putLife m (i % 32) l′
+        pub told-admitted : (l′ : Life) (m′ : List ℕ) → v ≡ 0 → l′ ≡ rootedLife (Queued (life .revision) a) life → m′ ≡ putLife m (i % places) l′
             → Meets storedLife (admit (view m) t a) m (Accepted (five given)) m′
         told-admitted l′ m′ z s p =
             told-rooted m (t .id) i life e l (admit (view m) t a) (Queued (life .revision) a) (five given) l′ m′
@@ -135,20 +135,20 @@ module _ (m : List ℕ) (t : Ticket) where
   admits-refused x e = admits-as false (rw e)
 
 -- A call.
-module _ (m : List ℕ) (t : Invocation) (d : ℕ) (domain : d ≡ word m 0) where
+module _ (m : List ℕ) (t : Invocation) (d : ℕ) (domain : d ≡ word m domainWord) where
   pub call-foreign : t .domain ≢ d → call (view m) t ≡ refuses InvalidState []
   unfolding call checked view
-  call-foreign n = rw (ne-eqb (t .domain) (word m 0) (λ s. n (s ∙ sym domain)))
+  call-foreign n = rw (ne-eqb (t .domain) (word m domainWord) (λ s. n (s ∙ sym domain)))
 
   module _ (same : t .domain ≡ d) where
-    ours : eqb (t .domain) (word m 0) ≡ true
-    ours = eq-eqb (t .domain) (word m 0) (same ∙ domain)
+    ours : eqb (t .domain) (word m domainWord) ≡ true
+    ours = eq-eqb (t .domain) (word m domainWord) (same ∙ domain)
 
     pub call-none : findAt m (t .id) ≡ Nowhere → call (view m) t ≡ refuses Unknown []
     unfolding call checked view
     call-none e = rw ours (none-known m (t .id) e _)
 
-    module _ (i : ℕ) (life : Life) (e : findAt m (t .id) ≡ At i) (l : life ≡ lifeAt m (i % 32)) where
+    module _ (i : ℕ) (life : Life) (e : findAt m (t .id) ≡ At i) (l : life ≡ lifeAt m (i % places)) where
       marked : pluginAt m i .retired ≡ life .retired
       marked = ap (λ x. x .retired) (loaded m (t .id) i life e l)
 
@@ -169,7 +169,7 @@ module _ (m : List ℕ) (t : Invocation) (d : ℕ) (domain : d ≡ word m 0) whe
         unfolding call checked view
         call-spends y = rw ours (at-known m (t .id) i e _ ∙ rw (live ∙ y, marked ∙ f))
 
-        pub told-called : (l′ : Life) (m′ : List ℕ) → b ≡ true → l′ ≡ rootedLife Spent life → m′ ≡ putLife m (i % 32) l′
+        pub told-called : (l′ : Life) (m′ : List ℕ) → b ≡ true → l′ ≡ rootedLife Spent life → m′ ≡ putLife m (i % places) l′
             → Meets storedLife (call (view m) t) m (Accepted (receipt t (life .payload))) m′
         told-called l′ m′ y s p =
             told-rooted m (t .id) i life e l (call (view m) t) Spent (receipt t (life .payload)) l′ m′

@@ -13,7 +13,8 @@ use Rattle.rules.specs.Outcomes.{Check, _⇒_}
 use Rattle.rules.specs.declared.Port.{Port}
 use Rattle.rules.specs.Ports.{badRealms, realmsOf}
 use Rattle.rules.specs.Registration.{Definition, resolved, repeats, parentChecks, askedChecks, claimChecks, roomChecks}
-use Rattle.memory.specs.Layout.{word}
+use Rattle.rules.specs.Limits.{maxRows, maxDependencies, maxDependencyKeys, maxProvisionKeys}
+use Rattle.memory.specs.Layout.{word, places, nextWord}
 use Rattle.memory.specs.View.{pluginAt, lifeAt, view}
 use Rattle.memory.specs.Writes.{findAt, parentId}
 use Rattle.memory.specs.Known.{at-place, at-lookup, none-lookup}
@@ -32,11 +33,11 @@ use Rattle.registry_checks.specs.Verdicts.{verdict, under, placeAbove}
 use Rattle.registry_checks.specs.Runs.{under-passed, under-refused, verdict-first, verdict-then}
 
 -- 9, 10, 11, 12
-next-of : (m : List ℕ) (n : ℕ) → n ≡ word m 2 → n ≡ view m .next
+next-of : (m : List ℕ) (n : ℕ) → n ≡ word m nextWord → n ≡ view m .next
 unfolding view
 next-of m n e = e
 
-module _ (m : List ℕ) (u d c n : ℕ) (e : n ≡ word m 2) where
+module _ (m : List ℕ) (u d c n : ℕ) (e : n ≡ word m nextWord) where
   abbrev room : Checked
   room = verdict (roomChecks (view m) d (u + (d + c)))
 
@@ -48,26 +49,26 @@ module _ (m : List ℕ) (u d c n : ℕ) (e : n ≡ word m 2) where
     some-id : eqb (view m .next) last ≡ false
     some-id = ne-eqb _ _ (λ f. a (next-of m n e ∙ f))
 
-    pub late-full : 32 ≤ k → Refused 10 ≡ room
+    pub late-full : places ≤ k → Refused 10 ≡ room
     unfolding verdict
-    late-full h = rw (some-id, le-leb 32 (count (view m)) (rw (← g) h))
+    late-full h = rw (some-id, le-leb places (count (view m)) (rw (← g) h))
 
-    module _ (h : k < 32) where
-      some-place : leb 32 (count (view m)) ≡ false
-      some-place = lt-leb 32 (count (view m)) (rw (← g) h)
+    module _ (h : k < places) where
+      some-place : leb places (count (view m)) ≡ false
+      some-place = lt-leb places (count (view m)) (rw (← g) h)
 
-      pub late-long : 48 < d → Refused 11 ≡ room
+      pub late-long : maxDependencies < d → Refused 11 ≡ room
       unfolding verdict
-      late-long l = rw (some-id, some-place, lt-ltb 48 d l)
+      late-long l = rw (some-id, some-place, lt-ltb maxDependencies d l)
 
-      module _ (l : d ≤ 48) where
-        pub late-rows : 1024 < u + (d + c) → Refused 12 ≡ room
+      module _ (l : d ≤ maxDependencies) where
+        pub late-rows : maxRows < u + (d + c) → Refused 12 ≡ room
         unfolding verdict
-        late-rows o = rw (some-id, some-place, le-ltb 48 d l, lt-ltb 1024 (u + (d + c)) o)
+        late-rows o = rw (some-id, some-place, le-ltb maxDependencies d l, lt-ltb maxRows (u + (d + c)) o)
 
-        pub late-pass : u + (d + c) ≤ 1024 → Passed ≡ room
+        pub late-pass : u + (d + c) ≤ maxRows → Passed ≡ room
         unfolding verdict
-        late-pass o = rw (some-id, some-place, le-ltb 48 d l, le-ltb 1024 (u + (d + c)) o)
+        late-pass o = rw (some-id, some-place, le-ltb maxDependencies d l, le-ltb maxRows (u + (d + c)) o)
 
 -- The parent's checks.
 module _ (m : List ℕ) (p : Parent) where
@@ -84,7 +85,7 @@ module _ (m : List ℕ) (p : Parent) where
     parent-unknown e = rw f (rw (none-lookup m id e))
 
     -- by the mark and the phase of a found parent
-    module _ (i : ℕ) (e : findAt m id ≡ At i) (l : Life) (g : l ≡ lifeAt m (i % 32)) where
+    module _ (i : ℕ) (e : findAt m id ≡ At i) (l : Life) (g : l ≡ lifeAt m (i % places)) where
       known : of-parent ≡ under (At i) (pick (l .retired) (Refused 2) (pick (isUnloading (l .phase)) (Refused 3) Passed))
       unfolding verdict pluginAt
       known =
@@ -110,22 +111,22 @@ module _ (r : Registry) (d : Definition) (at : Place) where
   early-4 e = rw e
 
   module _ (e : badRealms (d .realms) ≡ false) where
-    pub early-5-dependencies : 16 < length (d .dependencies) → early.Refused 5 ≡ asks
+    pub early-5-dependencies : maxDependencyKeys < length (d .dependencies) → early.Refused 5 ≡ asks
     unfolding verdict
-    early-5-dependencies h = rw (e, lt-ltb 16 (length (d .dependencies)) h)
+    early-5-dependencies h = rw (e, lt-ltb maxDependencyKeys (length (d .dependencies)) h)
 
-    module _ (h : length (d .dependencies) ≤ 16) where
-      pub early-5-provisions : 15 < length (d .provisions) → early.Refused 5 ≡ asks
+    module _ (h : length (d .dependencies) ≤ maxDependencyKeys) where
+      pub early-5-provisions : maxProvisionKeys < length (d .provisions) → early.Refused 5 ≡ asks
       unfolding verdict
-      early-5-provisions k = rw (e, le-ltb 16 (length (d .dependencies)) h, lt-ltb 15 (length (d .provisions)) k)
+      early-5-provisions k = rw (e, le-ltb maxDependencyKeys (length (d .dependencies)) h, lt-ltb maxProvisionKeys (length (d .provisions)) k)
 
-      module _ (k : length (d .provisions) ≤ 15) (p : Early) (f : p ≡ under at (verdict (parentChecks r (d .parent)))) where
+      module _ (k : length (d .provisions) ≤ maxProvisionKeys) (p : Early) (f : p ≡ under at (verdict (parentChecks r (d .parent)))) where
         abbrev six : List Check
         six = (repeats (resolved d (d .dependencies)) ⇒ DuplicateDependency) ∷ []
 
         rest : verdict (askedChecks r d) ≡ verdict (parentChecks r (d .parent) ++ six)
         unfolding verdict
-        rest = rw (e, le-ltb 16 (length (d .dependencies)) h, le-ltb 15 (length (d .provisions)) k)
+        rest = rw (e, le-ltb maxDependencyKeys (length (d .dependencies)) h, le-ltb maxProvisionKeys (length (d .provisions)) k)
 
         pub early-parent : (n : ℕ) → p ≡ early.Refused n → p ≡ asks
         early-parent n z =

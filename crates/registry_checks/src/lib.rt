@@ -10,6 +10,7 @@ use memory::Parent;
 use memory::Place;
 use memory::WORDS;
 use rules::Phase;
+use rules::limits;
 use rules::refusal;
 
 // What a run comes to: every check passes, or the first that refuses has this number.
@@ -61,10 +62,10 @@ pub fn early_verdict(
     if ports::bad_realms(realms) {
         return Early::Refused(refusal::BAD_REALMS);
     }
-    if 16 < dependencies.len() {
+    if limits::DEPENDENCY_KEYS < dependencies.len() {
         return Early::Refused(refusal::TOO_MANY_KEYS);
     }
-    if 15 < provisions.len() {
+    if limits::PROVISION_KEYS < provisions.len() {
         return Early::Refused(refusal::TOO_MANY_KEYS);
     }
     let of_parent = parent_verdict(m, parent);
@@ -95,22 +96,22 @@ pub fn late_verdict(m: &[u64; WORDS], rows: usize, dependencies: usize, claims: 
     ensures { λ r. ⌜ r ≡ verdict (roomChecks (view (now (m .entry))) dependencies (rows + (dependencies + claims))) ⌝ }
 {
     let registered = memory_places::registered(m);
-    if memory::next_id(m) == 18446744073709551615 {
+    if memory::next_id(m) == u64::MAX {
         return Checked::Refused(refusal::NO_ID);
     }
-    if 32 <= registered {
+    if limits::PLUGINS <= registered as usize {
         return Checked::Refused(refusal::FULL);
     }
-    if 48 < dependencies {
+    if limits::DEPENDENCIES < dependencies {
         return Checked::Refused(refusal::TOO_LONG);
     }
-    if 1024 < rows {
+    if limits::ROWS < rows {
         return Checked::Refused(refusal::NO_ROWS);
     }
-    if 1024 - rows < dependencies {
+    if limits::ROWS - rows < dependencies {
         return Checked::Refused(refusal::NO_ROWS);
     }
-    if 1024 - rows - dependencies < claims {
+    if limits::ROWS - rows - dependencies < claims {
         return Checked::Refused(refusal::NO_ROWS);
     }
     Checked::Passed

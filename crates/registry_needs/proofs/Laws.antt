@@ -9,7 +9,7 @@ use Rattle.rules.specs.Holds.{isActive, isLoading}
 use Rattle.rules.specs.declared.Port.{Port}
 use Rattle.rules.specs.Phases.{available}
 use Rattle.rules.specs.Ports.{pairs}
-use Rattle.memory.specs.Layout.{depPart}
+use Rattle.memory.specs.Layout.{depPart, places}
 use Rattle.memory.specs.View.{lifeAt, pluginAt, view}
 use Rattle.memory.specs.declared.Life.{Life}
 use Rattle.memory.specs.declared.Place.{Place}
@@ -35,7 +35,7 @@ module _ (m : List ℕ) (q : Port) (x : Place) (e : x ≡ providerAt m q) where
   pub no-provider : x ≡ Nowhere → false ≡ available (view m) q
   no-provider f = rw (provider-view m q, sym e ∙ f)
 
-  pub has-provider : (i : ℕ) → x ≡ At i → (l : Life) → l ≡ lifeAt m (i % 32) → (b : Bool) → b ≡ isActive (l .phase) → b ≡ available (view m) q
+  pub has-provider : (i : ℕ) → x ≡ At i → (l : Life) → l ≡ lifeAt m (i % places) → (b : Bool) → b ≡ isActive (l .phase) → b ≡ available (view m) q
   unfolding pluginAt
   has-provider i f l g b h =
       let k : l ≡ lifeAt m i = g ∙ ap (lifeAt m) (mod-eq-of-lt (provider-below m q i (sym e ∙ f))) in
@@ -55,5 +55,5 @@ module _ (m : List ℕ) (u p : ℕ) (l : Life) (e : l ≡ lifeAt m u) (b : Bool)
   user-rests n = rw (runs ∙ n)
 
 -- a place's own number
-pub own-place : (m : List ℕ) (p i : ℕ) → i < 32 → (b : Bool) → b ≡ userAt m p (pluginAt m (i % 32)) → b ≡ userAt m p (pluginAt m i)
+pub own-place : (m : List ℕ) (p i : ℕ) → i < places → (b : Bool) → b ≡ userAt m p (pluginAt m (i % places)) → b ≡ userAt m p (pluginAt m i)
 own-place m p i h b e = e ∙ ap (λ k. userAt m p (pluginAt m k)) (mod-eq-of-lt h)

@@ -7,10 +7,12 @@ ghost use Rattle.rules.specs.Holds.{port, provides, isActive, isLoading};
 ghost use Rattle.rules.specs.Phases.{available, inUse};
 ghost use Rattle.rules.specs.Ports.{pairs};
 ghost use Rattle.memory.specs.View.{pluginAt, view};
+ghost use Rattle.memory.specs.Layout.{places};
 ghost use Rattle.registry_needs.specs.Users.{depends, userAt};
 use memory::Life;
 use memory::Place;
 use memory::WORDS;
+use memory::layout::PLACES;
 use rules::Phase;
 
 pub fn is_active(life: Life) -> bool
@@ -65,7 +67,7 @@ pub fn all_available(m: &[u64; WORDS], ports: &[u64]) -> bool
 
 // Whether the plugin of a place provides one of the ports.
 fn provides_one(m: &[u64; WORDS], place: usize, ports: &[u64]) -> bool
-    ensures { λ r. ⌜ r ≡ depends (now (m .entry)) (place % 32) (pairs (now (ports .entry))) ⌝ }
+    ensures { λ r. ⌜ r ≡ depends (now (m .entry)) (place % places) (pairs (now (ports .entry))) ⌝ }
 {
     let mut i: usize = 1;
     while i < ports.len() {
@@ -79,7 +81,7 @@ fn provides_one(m: &[u64; WORDS], place: usize, ports: &[u64]) -> bool
 
 // Whether the plugin of one place runs and depends on that of another.
 fn is_user(m: &[u64; WORDS], user: usize, place: usize) -> bool
-    ensures { λ r. ⌜ r ≡ userAt (now (m .entry)) (place % 32) (pluginAt (now (m .entry)) (user % 32)) ⌝ }
+    ensures { λ r. ⌜ r ≡ userAt (now (m .entry)) (place % places) (pluginAt (now (m .entry)) (user % places)) ⌝ }
 {
     if is_running(memory_life::load(m, user)) {
         provides_one(m, place, memory_lists::dependency_words(m, user))
@@ -90,10 +92,10 @@ fn is_user(m: &[u64; WORDS], user: usize, place: usize) -> bool
 
 // Whether a Loading or Active plugin depends on a provision or the anchor of this place's.
 pub fn in_use(m: &[u64; WORDS], place: usize) -> bool
-    ensures { λ r. ⌜ r ≡ inUse (view (now (m .entry))) (pluginAt (now (m .entry)) (place % 32)) ⌝ }
+    ensures { λ r. ⌜ r ≡ inUse (view (now (m .entry))) (pluginAt (now (m .entry)) (place % places)) ⌝ }
 {
     let mut i: usize = 0;
-    while i < 32 {
+    while i < PLACES {
         if memory::is_taken(m, i) {
             if is_user(m, i, place) {
                 return true;

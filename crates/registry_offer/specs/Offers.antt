@@ -15,7 +15,8 @@ use Rattle.rules.specs.Outcomes.{Answer, Refused, Accepted, refuses, stores, ch
 use Rattle.rules.specs.Ports.{pairs}
 use Rattle.rules.specs.Values.{valueIn, offer}
 use Rattle.memory.specs.Ways.{leftBy}
-use Rattle.memory.specs.Layout.{provPart}
+use Rattle.memory.specs.Layout.{provPart, places}
+use Rattle.rules.specs.Limits.{maxProvisionKeys}
 use Rattle.memory.specs.View.{lifeAt, valueAt, pluginAt, view}
 use Rattle.memory.specs.Writes.{findAt}
 use Rattle.memory.specs.Known.{at-place, at-known, none-known}
@@ -51,7 +52,7 @@ module _ (m : List ℕ) (i : ℕ) (q : Port) where
     pub value-is : valueIn q (pluginAt m i .provisions) ≡ valueAt m i j
     value-is = ap (λ (vs : List Provision). valueIn q vs) (provisions-at m i) ∙ value-there m i q (pairs (provPart m i)) j t
 
-    pub row-is : j % 15 ≡ j
+    pub row-is : j % maxProvisionKeys ≡ j
     row-is = mod-eq-of-lt (omega (arith, port-below m i q j t))
 
     -- an offer that is stored is stored there
@@ -72,7 +73,7 @@ module _ (m : List ℕ) (id : ℕ) (q : Port) (v : ℕ) where
   unfolding offer
   offered-none e = refused Unknown (none-known m id e (offers q v))
 
-  module _ (i : ℕ) (e : findAt m id ≡ At i) (life : Life) (l : life ≡ lifeAt m (i % 32)) (b : Bool) (k : b ≡ not (isLoading (life .phase) && not (life .retired))) where
+  module _ (i : ℕ) (e : findAt m id ≡ At i) (life : Life) (l : life ≡ lifeAt m (i % places)) (b : Bool) (k : b ≡ not (isLoading (life .phase) && not (life .retired))) where
     offer-found : offer (view m) id q v ≡ offers q v (pluginAt m i)
     unfolding offer
     offer-found = at-known m id i e (offers q v)
@@ -85,7 +86,7 @@ module _ (m : List ℕ) (id : ℕ) (q : Port) (v : ℕ) where
     unfolding checked
     offered-closed t = refused Closed (offer-found ∙ rw (closed-is ∙ t))
 
-    module _ (o : b ≡ false) (ws : List ℕ) (w : ws ≡ provPart m (i % 32)) (f : Found) (g : f ≡ portFrom 0 q (pairs ws)) where
+    module _ (o : b ≡ false) (ws : List ℕ) (w : ws ≡ provPart m (i % places)) (f : Found) (g : f ≡ portFrom 0 q (pairs ws)) where
       found-is : portFrom 0 q (pairs (provPart m i)) ≡ f
       found-is = sym (g ∙ ap (λ (x : List ℕ). portFrom 0 q (pairs x)) (w ∙ ap (provPart m) (at-place m id i e)))
 
@@ -93,11 +94,11 @@ module _ (m : List ℕ) (id : ℕ) (q : Port) (v : ℕ) where
       unfolding checked
       offered-undeclared n = refused Undeclared (offer-found ∙ rw (closed-is ∙ o, undeclared m i q (found-is ∙ n)))
 
-      module _ (j : ℕ) (t : f ≡ found.At j) (x : Value) (y : valueOf x ≡ valueAt m (i % 32) (j % 15)) (c : Bool) (z : c ≡ isSome (valueOf x)) where
+      module _ (j : ℕ) (t : f ≡ found.At j) (x : Value) (y : valueOf x ≡ valueAt m (i % places) (j % maxProvisionKeys)) (c : Bool) (z : c ≡ isSome (valueOf x)) where
         given-is : isSome (valueIn q (pluginAt m i .provisions)) ≡ c
         given-is =
             let u = found-is ∙ t in
-            let h : valueAt m (i % 32) (j % 15) ≡ valueAt m i j = rw (at-place m id i e, row-is m i q j u) in
+            let h : valueAt m (i % places) (j % maxProvisionKeys) ≡ valueAt m i j = rw (at-place m id i e, row-is m i q j u) in
             ap isSome (value-is m i q j u ∙ sym (y ∙ h)) ∙ sym z
 
         pub offered-twice : c ≡ true → Offered (Refused (number Duplicate) []) m
@@ -108,8 +109,8 @@ module _ (m : List ℕ) (id : ℕ) (q : Port) (v : ℕ) where
         unfolding checked
         stored-is s = offer-found ∙ rw (closed-is ∙ o, declared m i q j (found-is ∙ t), given-is ∙ s)
 
-        pub offered-now : c ≡ false → (m′ : List ℕ) → m′ ≡ withValue m (i % 32) (j % 15) v → Offered (Accepted []) m′
+        pub offered-now : c ≡ false → (m′ : List ℕ) → m′ ≡ withValue m (i % places) (j % maxProvisionKeys) v → Offered (Accepted []) m′
         offered-now s m′ p =
             let u = found-is ∙ t in
-            let h : withValue m (i % 32) (j % 15) v ≡ withValue m i j v = rw (at-place m id i e, row-is m i q j u) in
+            let h : withValue m (i % places) (j % maxProvisionKeys) v ≡ withValue m i j v = rw (at-place m id i e, row-is m i q j u) in
             (sym (ap answerOf (stored-is s)), p ∙ h ∙ sym (ap (offeredTo m id q v) (stored-is s) ∙ put-there m i q j u id e v))

@@ -20,7 +20,8 @@ use Rattle.rules.specs.Values.{valueIn, offer}
 use Rattle.rules.specs.Built.{Built}
 use Rattle.rules.specs.Laws.Tests.{by-test, neither, checked-elim}
 use Rattle.memory.specs.Ways.{leftBy}
-use Rattle.memory.specs.Layout.{word, taken, idAt, depsAt, provsAt, provPart}
+use Rattle.memory.specs.Layout.{word, taken, idAt, depsAt, provsAt, provPart, memoryWords, placeWords, places, idWord, firstRowWord, dependenciesWord, provisionsWord, realmsWord, maskWord, valuesWord, realmRowsWord, domainWord, firstWord, nextWord}
+use Rattle.rules.specs.Limits.{maxProvisionKeys}
 use Rattle.memory.specs.View.{valueAt, pluginAt, placeAt, view}
 use Rattle.memory.specs.Writes.{findAt}
 use Rattle.memory.specs.Known.{at-below, at-taken, at-known, none-known}
@@ -44,19 +45,19 @@ abbrev rows : List ℕ → ℕ → ℕ
 rows m k = depsAt m k + provsAt m k + 1
 
 -- A value is set at place i.
-module _ (m : List ℕ) (i j v : ℕ) (d : Dense m) (h : i < 32) (below : j < 15) where
+module _ (m : List ℕ) (i j v : ℕ) (d : Dense m) (h : i < places) (below : j < maxProvisionKeys) where
   abbrev m′ : List ℕ
   m′ = withValue m i j v
 
   -- only the mask and the values of the place change
-  same : (n : ℕ) → (i * 72 + 23 ≤ n → n < i * 72 + 39 → ⊥) → word m′ n ≡ word m n
+  same : (n : ℕ) → (i * placeWords + maskWord ≤ n → n < i * placeWords + realmRowsWord → ⊥) → word m′ n ≡ word m n
   unfolding withValue
   same n a = by-test (eqb (maskBit m i j) 1)
       (λ t. rw t)
-      (λ f. rw f (getD-set-other (masked m i j) (i * 72 + 24 + j) n v 0 (λ e. a (omega arith) (omega arith))
-      ∙ getD-set-other m (i * 72 + 23) n (maskAt m i + 2 ^ j) 0 (λ e. a (omega arith) (omega arith))))
+      (λ f. rw f (getD-set-other (masked m i j) (i * placeWords + valuesWord + j) n v 0 (λ e. a (omega arith) (omega arith))
+      ∙ getD-set-other m (i * placeWords + maskWord) n (maskAt m i + 2 ^ j) 0 (λ e. a (omega arith) (omega arith))))
 
-  size-set : length m′ ≡ 4488
+  size-set : length m′ ≡ memoryWords
   size-set = set-length m i j v ∙ d .size
 
   taken-set : (k : ℕ) → taken m′ k ≡ taken m k
@@ -66,22 +67,22 @@ module _ (m : List ℕ) (i j v : ℕ) (d : Dense m) (h : i < 32) (below : j < 15
   was k t = sym (taken-set k) ∙ t
 
   id-set : (k : ℕ) → idAt m′ k ≡ idAt m k
-  id-set k = same (k * 72 + 8) (λ a b. omega arith)
+  id-set k = same (k * placeWords + idWord) (λ a b. omega arith)
 
   start-set : (k : ℕ) → startWord m′ k ≡ startWord m k
-  start-set k = same (k * 72 + 19) (λ a b. omega arith)
+  start-set k = same (k * placeWords + firstRowWord) (λ a b. omega arith)
 
-  dependencies-set : (k : ℕ) → word m′ (k * 72 + 20) ≡ word m (k * 72 + 20)
-  dependencies-set k = same (k * 72 + 20) (λ a b. omega arith)
+  dependencies-set : (k : ℕ) → word m′ (k * placeWords + dependenciesWord) ≡ word m (k * placeWords + dependenciesWord)
+  dependencies-set k = same (k * placeWords + dependenciesWord) (λ a b. omega arith)
 
-  provisions-set : (k : ℕ) → word m′ (k * 72 + 21) ≡ word m (k * 72 + 21)
-  provisions-set k = same (k * 72 + 21) (λ a b. omega arith)
+  provisions-set : (k : ℕ) → word m′ (k * placeWords + provisionsWord) ≡ word m (k * placeWords + provisionsWord)
+  provisions-set k = same (k * placeWords + provisionsWord) (λ a b. omega arith)
 
   rows-set : (k : ℕ) → rows m′ k ≡ rows m k
   rows-set k = rw (dependencies-set k, provisions-set k)
 
   used-set : used m′ ≡ used m
-  used-set = sum-same 32 (share (taken m′) (rows m′)) (share (taken m) (rows m)) 0
+  used-set = sum-same places (share (taken m′) (rows m′)) (share (taken m) (rows m)) 0
       (λ k a b. rw (taken-set k) (ap (λ (x : ℕ). pick (taken m k) x 0) (rows-set k)))
 
   value-dense : Dense m′
@@ -90,7 +91,7 @@ module _ (m : List ℕ) (i j v : ℕ) (d : Dense m) (h : i < 32) (below : j < 15
     alone = λ k n s t e. d .alone k n (was k s) (was n t) (sym (id-set k) ∙ e ∙ id-set n);
     few-dependencies = λ k t. rw (dependencies-set k) (d .few-dependencies k (was k t));
     few-provisions = λ k t. rw (provisions-set k) (d .few-provisions k (was k t));
-    few-realms = λ k t. rw (same (k * 72 + 22) (λ a b. omega arith)) (d .few-realms k (was k t));
+    few-realms = λ k t. rw (same (k * placeWords + realmsWord) (λ a b. omega arith)) (d .few-realms k (was k t));
     tiled = record {
       below = λ k u t. omega (arith, start-set k, rows-set k, used-set, d .tiled .below k u (was k t));
       apart = λ k n u g x s t o. omega (arith, start-set k, start-set n, rows-set k, d .tiled .apart k n u g x (was k s) (was n t) (omega (arith, start-set k, start-set n)));
@@ -109,7 +110,7 @@ module _ (m : List ℕ) (i j v : ℕ) (d : Dense m) (h : i < 32) (below : j < 15
     unfolding pluginAt
     id-of k = refl
 
-    place-set : (k : ℕ) → k < 32 → placeAt m′ k ≡ storedAt (withOffered q v (pluginAt m i)) (placeAt m k)
+    place-set : (k : ℕ) → k < places → placeAt m′ k ≡ storedAt (withOffered q v (pluginAt m i)) (placeAt m k)
     unfolding placeAt
     place-set k u = by-test (taken m k)
         (λ t. by-test (eqb i k)
@@ -122,10 +123,10 @@ module _ (m : List ℕ) (i j v : ℕ) (d : Dense m) (h : i < 32) (below : j < 15
     value-view : view m′ ≡ after (view m) (stores (withOffered q v (pluginAt m i)) [])
     unfolding view after
     value-view = λ x. record {
-      domain = same 0 (λ a b. omega arith) x;
-      first = same 1 (λ a b. omega arith) x;
-      next = same 2 (λ a b. omega arith) x;
-      places = places-map (storedAt (withOffered q v (pluginAt m i))) m m′ 32 0 (λ k a b. place-set k b) x;
+      domain = same domainWord (λ a b. omega arith) x;
+      first = same firstWord (λ a b. omega arith) x;
+      next = same nextWord (λ a b. omega arith) x;
+      places = places-map (storedAt (withOffered q v (pluginAt m i))) m m′ places 0 (λ k a b. place-set k b) x;
     }
 
 module _ (m : List ℕ) (d : Dense m) (built : Built (view m)) (id : ℕ) (q : Port) (v : ℕ) where

@@ -3,13 +3,13 @@ use Prim.Native.Nat.{ℕ, _%_}
 use mathlib.Core.List.{List, []}
 use mathlib.Core.Option.{Option}
 use Rattle.rules.specs.Basics.{orElse, isSome, yesNo}
-use Rattle.memory.specs.Layout.{depPart}
+use Rattle.memory.specs.Layout.{depPart, places}
 use Rattle.memory.specs.declared.Place.{Place}
 use Rattle.memory.specs.declared.Place.the-variants.{At, Nowhere}
 
 -- the dependency rows of the plugin at a place
 abbrev pub dependenciesAt : List ℕ → Place → List ℕ
-dependenciesAt m (At i) = depPart m (i % 32)
+dependenciesAt m (At i) = depPart m (i % places)
 dependenciesAt m Nowhere = []
 
 -- a parent or none, in two words

@@ -15,10 +15,11 @@ use Rattle.rules.specs.Ports.{pairs, flat}
 use Rattle.rules.specs.Queries.{Field, Parent, Anchor, PhaseOf, RetiredMark, phaseNumber, fieldOf, askPlugin}
 use Rattle.rules.specs.Dependencies.{firstPort, dependencyPort}
 use Rattle.rules.specs.Lists.{Which, listing, list}
+use Rattle.rules.specs.Limits.{maxDependencies}
 use Rattle.ports.specs.declared.Found.the-variants as found
 use Rattle.ports.specs.Answers.{firstFrom}
 use Rattle.ports.specs.Found.{first-port-law, first-port-none, first-port-numbers}
-use Rattle.memory.specs.Layout.{depPart}
+use Rattle.memory.specs.Layout.{depPart, places}
 use Rattle.memory.specs.View.{parentAt, anchorAt, lifeAt, pluginAt, view}
 use Rattle.memory.specs.Writes.{findAt, parentId}
 use Rattle.memory.specs.Known.{at-place, lifeOf, life-of}
@@ -39,44 +40,44 @@ module _ (m : List ℕ) (id : ℕ) (e : findAt m id ≡ Nowhere) where
   no-list w place b = rw (listed-none m id e w place b) (refl, refl)
 
 module _ (m : List ℕ) (id i : ℕ) (e : findAt m id ≡ At i) where
-  pub answer : (f : Field) → Accepted (fieldOf f (pluginAt m (i % 32))) ≡ answerOf (askPlugin (view m) f id)
+  pub answer : (f : Field) → Accepted (fieldOf f (pluginAt m (i % places))) ≡ answerOf (askPlugin (view m) f id)
   answer f = rw (at-place m id i e) (sym (ap answerOf (asked m id i e f)))
 
   -- a question whose answer the life holds
-  pub life-answer : (f : Field) (g : Life → List ℕ) → ((p : Plugin) → fieldOf f p ≡ g (lifeOf p)) → (l : Life) → l ≡ lifeAt m (i % 32)
+  pub life-answer : (f : Field) (g : Life → List ℕ) → ((p : Plugin) → fieldOf f p ≡ g (lifeOf p)) → (l : Life) → l ≡ lifeAt m (i % places)
       → Accepted (g l) ≡ answerOf (askPlugin (view m) f id)
   life-answer f g h l k =
-      ap (λ (x : Life). Accepted (g x)) (k ∙ sym (life-of m (i % 32))) ∙ sym (ap Accepted (h (pluginAt m (i % 32)))) ∙ answer f
+      ap (λ (x : Life). Accepted (g x)) (k ∙ sym (life-of m (i % places))) ∙ sym (ap Accepted (h (pluginAt m (i % places)))) ∙ answer f
 
-  pub phase-answer : (l : Life) (p : Phase) → l ≡ lifeAt m (i % 32) → l .phase ≡ p → Accepted (phaseNumber p ∷ []) ≡ answerOf (askPlugin (view m) PhaseOf id)
+  pub phase-answer : (l : Life) (p : Phase) → l ≡ lifeAt m (i % places) → l .phase ≡ p → Accepted (phaseNumber p ∷ []) ≡ answerOf (askPlugin (view m) PhaseOf id)
   phase-answer l p k h = rw h at (life-answer PhaseOf (λ x. phaseNumber (x .phase) ∷ []) (λ q. refl) l k)
 
-  pub mark-answer : (l : Life) (b : Bool) → l ≡ lifeAt m (i % 32) → l .retired ≡ b → Accepted (yesNo b ∷ []) ≡ answerOf (askPlugin (view m) RetiredMark id)
+  pub mark-answer : (l : Life) (b : Bool) → l ≡ lifeAt m (i % places) → l .retired ≡ b → Accepted (yesNo b ∷ []) ≡ answerOf (askPlugin (view m) RetiredMark id)
   mark-answer l b k h = rw h at (life-answer RetiredMark (λ x. yesNo (x .retired) ∷ []) (λ q. refl) l k)
 
-  pub parent-answer : (p q : parent.Parent) → parentId p ≡ parentAt m (i % 32) → p ≡ q → Accepted (one (parentId q)) ≡ answerOf (askPlugin (view m) Parent id)
+  pub parent-answer : (p q : parent.Parent) → parentId p ≡ parentAt m (i % places) → p ≡ q → Accepted (one (parentId q)) ≡ answerOf (askPlugin (view m) Parent id)
   unfolding pluginAt
   parent-answer p q h k = ap (λ (x : Option ℕ). Accepted (one x)) (sym (ap parentId k) ∙ h) ∙ answer Parent
 
-  pub list-answer : (w : Which) (place : ℕ) (b b′ l : List ℕ) (a : Answer) → l ≡ partOf w m (i % 32)
+  pub list-answer : (w : Which) (place : ℕ) (b b′ l : List ℕ) (a : Answer) → l ≡ partOf w m (i % places)
       → (a ≡ answerOf (listing (pairs l) place b)) × (b′ ≡ lentAfter b (listing (pairs l) place b))
       → (a ≡ answerOf (list (view m) w id place b)) × (b′ ≡ lentAfter b (list (view m) w id place b))
   list-answer w place b b′ l a h r = rw (listed m id i e w place b, ← at-place m id i e, ← h) r
 
-  pub anchor-answer : (q : Port) → q ≡ anchorAt m (i % 32) → Accepted (flat (q ∷ [])) ≡ answerOf (askPlugin (view m) Anchor id)
+  pub anchor-answer : (q : Port) → q ≡ anchorAt m (i % places) → Accepted (flat (q ∷ [])) ≡ answerOf (askPlugin (view m) Anchor id)
   unfolding pluginAt
   anchor-answer q h = rw h (answer Anchor)
 
   -- the port of a dependency key
-  module _ (k : ℕ) (l : List ℕ) (h : l ≡ depPart m (i % 32)) where
+  module _ (k : ℕ) (l : List ℕ) (h : l ≡ depPart m (i % places)) where
     port-told : Accepted (firstPort k (pairs l)) ≡ answerOf (dependencyPort (view m) id k)
     port-told = rw (h, at-place m id i e) (sym (ap answerOf (port-asked m id i e k)))
 
     pub port-nothing : firstFrom 0 k (pairs l) ≡ found.Nothing → Accepted [] ≡ answerOf (dependencyPort (view m) id k)
     port-nothing f = sym (ap Accepted (first-port-none k (pairs l) f)) ∙ port-told
 
-    -- both numbers of the port stand in the list, which has no more than 96
-    pub port-within : (n : ℕ) → firstFrom 0 k (pairs l) ≡ found.At n → (n * 2 + 1 < length l) × (length l ≤ 96)
+    -- both numbers of the port stand in the list, which has no more than 48 ports
+    pub port-within : (n : ℕ) → firstFrom 0 k (pairs l) ≡ found.At n → (n * 2 + 1 < length l) × (length l ≤ maxDependencies * 2)
     port-within n f =
         (first-port-numbers k l n (first-port-law k (pairs l) n f) .0, rw h (simp (length-take, length-drop) (omega arith)))
 

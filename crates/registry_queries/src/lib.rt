@@ -7,6 +7,7 @@ ghost use Rattle.rules.specs.Holds.{port};
 ghost use Rattle.rules.specs.Lists.{list, Dependencies, Provisions, RealmRows};
 ghost use Rattle.rules.specs.Outcomes.{answerOf, lentAfter, Meets};
 ghost use Rattle.rules.specs.Queries.{askPlugin, Parent, Anchor, PhaseOf, RetiredMark, Generation, Revision, Payload, RootOf};
+ghost use Rattle.rules.specs.Limits.{maxDependencies};
 ghost use Rattle.ports_listed.specs.Answers.{listedAnswer};
 ghost use Rattle.memory.specs.View.{view};
 ghost use Rattle.registry_queries.specs.Answers.{numberAnswer, perhapsAnswer, portAnswer, rootAnswer};
@@ -136,7 +137,7 @@ pub fn root(m: &[u64; WORDS], id: u64) -> ARoot
 
 // The port of a row of a dependency list.
 fn port_of(ports: &[u64], row: usize) -> Port
-    requires { ⌜ (row * 2 + 1 < length (now ports)) × (length (now ports) ≤ 96) ⌝ }
+    requires { ⌜ (row * 2 + 1 < length (now ports)) × (length (now ports) ≤ maxDependencies * 2) ⌝ }
     ensures { λ r. ⌜ r ≡ port (getD (now (ports .entry)) (row * 2) 0) (getD (now (ports .entry)) (row * 2 + 1) 0) ⌝ }
 {
     Port::new(ports[row * 2], ports[row * 2 + 1])

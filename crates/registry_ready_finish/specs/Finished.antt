@@ -14,6 +14,7 @@ use Rattle.memory.specs.Known.{lifeOf}
 use Rattle.memory.specs.declared.Life.{Life}
 use Rattle.memory.specs.declared.Place.{Place}
 use Rattle.memory.specs.declared.Place.the-variants.{At, Nowhere}
+use Rattle.memory.specs.Layout.{placeWords, maskWord}
 
 -- root Unissued
 abbrev pub restedLife : Life → Phase → Life
@@ -28,7 +29,7 @@ restedLife l p = record {
 
 -- a life stored and no value left
 abbrev pub emptied : List ℕ → Place → Life → List ℕ
-emptied m (At i) l = set (putLife m i l) (i * 72 + 23) 0
+emptied m (At i) l = set (putLife m i l) (i * placeWords + maskWord) 0
 emptied m Nowhere l = m
 
 -- The words after a finish.
@@ -44,4 +45,4 @@ finished-sized = storing-sized _ λ m q. at m q (findAt m (q .id))
   where
     at : (m : List ℕ) (q : Plugin) (p : Place) → length (emptied m p (lifeOf q)) ≡ length m
     at m q Nowhere = refl
-    at m q (At i) = length-set (putLife m i (lifeOf q)) (i * 72 + 23) 0 ∙ life-length m i (lifeOf q)
+    at m q (At i) = length-set (putLife m i (lifeOf q)) (i * placeWords + maskWord) 0 ∙ life-length m i (lifeOf q)

@@ -14,7 +14,7 @@ use Rattle.rules.specs.Ports.{pairs}
 use Rattle.rules.specs.Outcomes.{Refused, Accepted, Outcome, refuses, stores, checked, answerOf}
 use Rattle.rules.specs.Phases as rules
 use Rattle.memory.specs.Ways.{leftBy}
-use Rattle.memory.specs.Layout.{provPart}
+use Rattle.memory.specs.Layout.{provPart, placeWords, places, maskWord}
 use Rattle.memory.specs.View.{lifeAt, pluginAt, view}
 use Rattle.memory.specs.Writes.{findAt, putLife}
 use Rattle.memory.specs.Frames.{withLife}
@@ -49,7 +49,7 @@ finished-refused o m x e = (rw e, rw e)
 abbrev pub rested : Plugin → Plugin
 rested p = rules.moved rules.Finish (withProvisions (map rules.dropped (p .provisions)) (withRoot Unissued p))
 
-module _ (m : List ℕ) (id i : ℕ) (e : findAt m id ≡ At i) (l : Life) (h : l ≡ lifeAt m (i % 32)) where
+module _ (m : List ℕ) (id i : ℕ) (e : findAt m id ≡ At i) (l : Life) (h : l ≡ lifeAt m (i % places)) where
   same : l ≡ lifeAt m i
   same = life-found m id i e l h
 
@@ -68,13 +68,13 @@ module _ (m : List ℕ) (id i : ℕ) (e : findAt m id ≡ At i) (l : Life) (h : 
       ready-not-run z = at-known m id i e _ ∙ rw (← same) (rw (n, f, sym g ∙ z))
 
       module _ (y : s ≡ true) where
-        pub ready-lacks : lacks (pluginAt m (i % 32)) ≡ true → rules.ready (view m) id ≡ refuses Missing []
+        pub ready-lacks : lacks (pluginAt m (i % places)) ≡ true → rules.ready (view m) id ≡ refuses Missing []
         unfolding rules.ready checked pluginAt
         ready-lacks k =
             let k′ : lacks (pluginAt m i) ≡ true = sym (ap (λ j. lacks (pluginAt m j)) (at-place m id i e)) ∙ k in
             at-known m id i e _ ∙ rw (← same) (rw (n, f, sym g ∙ y, k′))
 
-        pub ready-moves : lacks (pluginAt m (i % 32)) ≡ false → rules.ready (view m) id ≡ stores (withLife (pluginAt m i) (movedLife l p)) []
+        pub ready-moves : lacks (pluginAt m (i % places)) ≡ false → rules.ready (view m) id ≡ stores (withLife (pluginAt m i) (movedLife l p)) []
         unfolding rules.ready checked pluginAt
         ready-moves k =
             let k′ : lacks (pluginAt m i) ≡ false = sym (ap (λ j. lacks (pluginAt m j)) (at-place m id i e)) ∙ k in
@@ -89,11 +89,11 @@ module _ (m : List ℕ) (id i : ℕ) (e : findAt m id ≡ At i) (l : Life) (h : 
     unfolding rules.finish checked pluginAt
     finish-rests = at-known m id i e _ ∙ rw (← same) (rw f)
 
-    pub finish-told : (l′ : Life) → l′ ≡ restedLife l p → (m′ : List ℕ) → m′ ≡ putLife m (i % 32) l′ → (m″ : List ℕ) → m″ ≡ set m′ (i % 32 * 72 + 23) 0
+    pub finish-told : (l′ : Life) → l′ ≡ restedLife l p → (m′ : List ℕ) → m′ ≡ putLife m (i % places) l′ → (m″ : List ℕ) → m″ ≡ set m′ (i % places * placeWords + maskWord) 0
         → (Accepted [] ≡ answerOf (rules.finish (view m) id)) × (m″ ≡ finishedTo m (rules.finish (view m) id))
     unfolding leftBy pluginAt
     finish-told l′ k m′ s m″ t =
-        let a : i % 32 ≡ i = at-place m id i e in
+        let a : i % places ≡ i = at-place m id i e in
         let w : l′ ≡ restedLife (lifeAt m i) p = k ∙ ap (λ (x : Life). restedLife x p) same in
         let c : rules.cell (lifeAt m i .phase) rules.Finish ≡ some p = sym (ap (λ (x : Life). rules.cell (x .phase) rules.Finish) same) ∙ f in
         (rw finish-rests, rw (finish-rests, at-id m id i e, e) (t ∙ rw (s, a, w) (rw c)))

@@ -13,7 +13,7 @@ use Rattle.rules.specs.Outcomes.{Outcome, refuses, stores, after}
 use Rattle.rules.specs.Phases as rules
 use Rattle.rules.specs.Laws.Tests.{checked-elim}
 use Rattle.memory.specs.Ways.{leftBy}
-use Rattle.memory.specs.Layout.{word, taken}
+use Rattle.memory.specs.Layout.{word, taken, memoryWords, placeWords, idWord, firstRowWord, dependenciesWord, provisionsWord, realmsWord, maskWord, domainWord, firstWord, nextWord, occupancyWord}
 use Rattle.memory.specs.View.{lifeAt, pluginAt, view}
 use Rattle.memory.specs.Writes.{findAt, putLife}
 use Rattle.memory.specs.Frames.{life-length, life-before}
@@ -40,17 +40,17 @@ module _ (m : List ℕ) (d : Dense m) where
     m₁ = putLife m i l
 
     abbrev m₂ : List ℕ
-    m₂ = set m₁ (i * 72 + 23) 0
+    m₂ = set m₁ (i * placeWords + maskWord) 0
 
-    size : length m₁ ≡ 4488
+    size : length m₁ ≡ memoryWords
     size = life-length m i l ∙ d .size
 
-    other : (n : ℕ) → n ≢ i * 72 + 23 → word m₂ n ≡ word m₁ n
-    other n a = getD-set-other m₁ (i * 72 + 23) n 0 0 a
+    other : (n : ℕ) → n ≢ i * placeWords + maskWord → word m₂ n ≡ word m₁ n
+    other n a = getD-set-other m₁ (i * placeWords + maskWord) n 0 0 a
 
     taken-put : (j : ℕ) → taken m₁ j ≡ taken m j
     unfolding taken
-    taken-put j = rw (life-before m i l 3 (omega arith))
+    taken-put j = rw (life-before m i l occupancyWord (omega arith))
 
     plugin : pluginAt m₂ i ≡ rested (pluginAt m i)
     unfolding pluginAt
@@ -63,12 +63,12 @@ module _ (m : List ℕ) (d : Dense m) where
     words = rw (at-id m id i e, e)
 
     dense : Dense m₂
-    dense = same-dense m₁ m₂ (life-dense m i l d) (length-set m₁ (i * 72 + 23) 0) (other 3 (λ x. omega arith))
-        (λ j. other (j * 72 + 8) (λ x. omega arith))
-        (λ j. other (j * 72 + 19) (λ x. omega arith))
-        (λ j. other (j * 72 + 20) (λ x. omega arith))
-        (λ j. other (j * 72 + 21) (λ x. omega arith))
-        (λ j. other (j * 72 + 22) (λ x. omega arith))
+    dense = same-dense m₁ m₂ (life-dense m i l d) (length-set m₁ (i * placeWords + maskWord) 0) (other occupancyWord (λ x. omega arith))
+        (λ j. other (j * placeWords + idWord) (λ x. omega arith))
+        (λ j. other (j * placeWords + firstRowWord) (λ x. omega arith))
+        (λ j. other (j * placeWords + dependenciesWord) (λ x. omega arith))
+        (λ j. other (j * placeWords + provisionsWord) (λ x. omega arith))
+        (λ j. other (j * placeWords + realmsWord) (λ x. omega arith))
 
     finished : Finished (stores (rested (pluginAt m i)) [])
     unfolding pluginAt
@@ -77,9 +77,9 @@ module _ (m : List ℕ) (d : Dense m) where
         rw words record {
           registry =
               changed-view m m₂ i (d .alone) (at-taken m id i e)
-              (other 0 (λ x. omega arith) ∙ life-before m i l 0 (omega arith))
-              (other 1 (λ x. omega arith) ∙ life-before m i l 1 (omega arith))
-              (other 2 (λ x. omega arith) ∙ life-before m i l 2 (omega arith))
+              (other domainWord (λ x. omega arith) ∙ life-before m i l domainWord (omega arith))
+              (other firstWord (λ x. omega arith) ∙ life-before m i l firstWord (omega arith))
+              (other nextWord (λ x. omega arith) ∙ life-before m i l nextWord (omega arith))
               (λ j. drop-taken m₁ i h size j ∙ taken-put j)
               (ap (λ (p : Plugin). p .id) plugin)
               (λ j a n. drop-elsewhere m₁ i h size j a n ∙ plugin-other m i l h (d .size) j a (λ x. n (sym x))) []

@@ -12,7 +12,7 @@ use Rattle.rules.specs.Basics.{last}
 use Rattle.rules.specs.Holds.{rowsInUse}
 use Rattle.rules.specs.Outcomes.{Refused, Accepted}
 use Rattle.rules.specs.Laws.Tests.{Passed}
-use Rattle.memory.specs.Layout.{word}
+use Rattle.memory.specs.Layout.{word, places, nextWord}
 use Rattle.memory.specs.View.{view}
 use Rattle.memory.specs.declared.Place.the-variants.{At, Nowhere}
 use Rattle.memory_places.specs.Changes.{freeAt}
@@ -42,7 +42,7 @@ module _ (m : List ℕ) (parent : Option ℕ) (payload count : ℕ) (ds cs zs : 
     passed : Passed (roomChecks (view m) count (rowsInUse (view m) + (count + length cs / 2)))
     passed = passes (roomChecks (view m) count (rowsInUse (view m) + (count + length cs / 2))) (sym e ∙ z)
 
-    pub id-left : word m 2 ≢ last
+    pub id-left : word m nextWord ≢ last
     unfolding view
     id-left = eqb-false _ _ (passed .0)
 
@@ -54,11 +54,11 @@ module _ (m : List ℕ) (parent : Option ℕ) (payload count : ℕ) (ds cs zs : 
         omega arith
 
     pub settle-writes : (at : ℕ) → freeAt m ≡ At at → (b : ℕ) → b ≡ length cs / 2 - 1 → (n : Entry) → n ≡ newEntry m parent payload count b (length zs / 2)
-        → (m′ : List ℕ) → m′ ≡ filledPlace m (at % 32) n ds cs zs
+        → (m′ : List ℕ) → m′ ≡ filledPlace m (at % places) n ds cs zs
         → (Accepted (n .id ∷ []) ≡ settledAnswer m count cs) × (m′ ≡ settledWords m parent payload count ds cs zs)
     unfolding settledAnswer settledWords
     settle-writes at f b g n h m′ s =
         let t : lateVerdict m count cs ≡ checked.Passed = sym e ∙ z in
-        let p : at % 32 ≡ at = mod-eq-of-lt (free-at m at f .below) in
+        let p : at % places ≡ at = mod-eq-of-lt (free-at m at f .below) in
         let k : n ≡ newEntry m parent payload count (length cs / 2 - 1) (length zs / 2) = h ∙ ap (λ x. newEntry m parent payload count x (length zs / 2)) g in
         (rw t (ap (λ (x : Entry). Accepted (x .id ∷ [])) k), rw (t, f) (s ∙ ap (λ x. filledPlace m x n ds cs zs) p ∙ ap (λ x. filledPlace m at x ds cs zs) k))

@@ -17,6 +17,7 @@ use Rattle.rules.specs.Registration.{Definition, parentOf, inheritedFrom, resol
 use Rattle.rules.specs.Laws.Tests.{by-test, neither}
 use Rattle.rules.specs.Kept.New.{new-ports}
 use Rattle.memory.specs.Ways.{leftBy}
+use Rattle.rules.specs.Limits.{maxDependencies, maxDependencyKeys, maxProvisionKeys}
 use Rattle.memory.specs.Layout.{part, depPart}
 use Rattle.memory.specs.View.{pluginAt, view}
 use Rattle.memory.specs.Writes.{parentId, findAt}
@@ -48,9 +49,9 @@ use Rattle.registry_register.specs.declared.Registered.{Registered}
 room-fitted : (r : Registry) (u : ℕ) (l : List Port) (c : ℕ)
     → verdict (roomChecks r (fitted l .count) (u + (fitted l .count + c))) ≡ verdict (roomChecks r (length l) (u + (length l + c)))
 unfolding verdict
-room-fitted r u l c = by-test (leb (length l) 48)
+room-fitted r u l c = by-test (leb (length l) maxDependencies)
     (λ t. ap (λ n. verdict (roomChecks r n (u + (n + c)))) (fitted-law l (leb-true _ _ t) .counted))
-    (λ f. let h = leb-false _ _ f in rw (fitted-long l h, lt-ltb 48 (length l) h))
+    (λ f. let h = leb-false _ _ f in rw (fitted-long l h, lt-ltb maxDependencies (length l) h))
 
 module _ (m : List ℕ) (parent : Parent) (anchor : Port) (zs ks vs : List ℕ) (payload : ℕ) where
   abbrev r : Registry
@@ -95,13 +96,13 @@ module _ (m : List ℕ) (parent : Parent) (anchor : Port) (zs ks vs : List ℕ) 
       good : badRealms zs ≡ false
       good = passes (asks r d) e .0
 
-      few : (ltb 16 (length ks) ≡ false) × (ltb 15 (length vs) ≡ false)
-      few = neither (ltb 16 (length ks)) (ltb 15 (length vs)) (passes (asks r d) e .1 .0)
+      few : (ltb maxDependencyKeys (length ks) ≡ false) × (ltb maxProvisionKeys (length vs) ≡ false)
+      few = neither (ltb maxDependencyKeys (length ks)) (ltb maxProvisionKeys (length vs)) (passes (asks r d) e .1 .0)
 
-      few-keys : length ks ≤ 16
+      few-keys : length ks ≤ maxDependencyKeys
       few-keys = ltb-false _ _ (few .0)
 
-      few-provisions : length vs ≤ 15
+      few-provisions : length vs ≤ maxProvisionKeys
       few-provisions = ltb-false _ _ (few .1)
 
       claim-words : cw ≡ flat (claimed d)
@@ -126,7 +127,7 @@ module _ (m : List ℕ) (parent : Parent) (anchor : Port) (zs ks vs : List ℕ) 
 
         module _ (free : t ≡ checked.Passed) (pw : List ℕ) (rest : pw ≡ part cw 2 (length cw))
             (iw : List ℕ) (rows : iw ≡ dependenciesAt m above)
-            (l : Dependencies) (listed : l ≡ fitted (dependencyList (realmsWith 0 zs) (pairs pw) (take 16 ks) (pairs iw)))
+            (l : Dependencies) (listed : l ≡ fitted (dependencyList (realmsWith 0 zs) (pairs pw) (take maxDependencyKeys ks) (pairs iw)))
             (dw : List ℕ) (first : dw ≡ take (l .count * 2) (l .ports)) where
           none-taken : verdict (claims r d) ≡ checked.Passed
           none-taken = sym taken ∙ free
@@ -139,7 +140,7 @@ module _ (m : List ℕ) (parent : Parent) (anchor : Port) (zs ks vs : List ℕ) 
           unfolding dependenciesOf
           list =
               listed
-              ∙ ap fitted ((λ i. dependencyList (realmsOf zs) (provisions i) (take 16 ks) ((ap pairs (rows ∙ ap (dependenciesAt m) (sym place)) ∙ inherits) i))
+              ∙ ap fitted ((λ i. dependencyList (realmsOf zs) (provisions i) (take maxDependencyKeys ks) ((ap pairs (rows ∙ ap (dependenciesAt m) (sym place)) ∙ inherits) i))
               ∙ dependency-law (realmsOf zs) (resolved d vs) ks (inheritedFrom (parentOf r (parentId parent))) few-keys)
 
           late-is : lateVerdict m (l .count) cw ≡ verdict (room r d)
@@ -152,7 +153,7 @@ module _ (m : List ℕ) (parent : Parent) (anchor : Port) (zs ks vs : List ℕ) 
             accepted : register r d ≡ adds (newPlugin r d) (r .next ∷ [])
             accepted = all-pass r d e none-taken (sym late-is ∙ z)
 
-            fits : length (dependenciesOf r d) ≤ 48
+            fits : length (dependenciesOf r d) ≤ maxDependencies
             fits = ltb-false _ _ (passes (room r d) (sym late-is ∙ z) .1 .1 .0)
 
             list-count : l .count ≡ length (dependenciesOf r d)

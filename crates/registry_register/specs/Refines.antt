@@ -17,7 +17,8 @@ use Rattle.rules.specs.Built.{Built}
 use Rattle.rules.specs.Kept.New.{new-ports}
 use Rattle.rules.specs.Laws.Tests.{neither, Passed, checked-elim}
 use Rattle.memory.specs.Ways.{leftBy}
-use Rattle.memory.specs.Layout.{word, taken, idAt}
+use Rattle.memory.specs.Layout.{word, taken, idAt, nextWord}
+use Rattle.rules.specs.Limits.{maxRows, maxDependencies, maxDependencyKeys, maxProvisionKeys}
 use Rattle.memory.specs.View.{parentOf, pluginAt, view}
 use Rattle.memory.specs.declared.Place.{Place}
 use Rattle.memory.specs.declared.Place.the-variants.{At, Nowhere}
@@ -34,7 +35,7 @@ use Rattle.registry_register.specs.Written.{addedTo}
 
 -- No registered plugin has the next id.
 abbrev pub Fresh : List ℕ → Type 0
-Fresh m = (j : ℕ) → taken m j ≡ true → idAt m j ≢ word m 2
+Fresh m = (j : ℕ) → taken m j ≡ true → idAt m j ≢ word m nextWord
 
 pub built-fresh : (m : List ℕ) → Built (view m) → Fresh m
 unfolding view pluginAt
@@ -51,7 +52,7 @@ module _ (m : List ℕ) (d : Definition) where
   -- what is written of the new plugin
   abbrev n : Newcomer
   n = record {
-    id = word m 2;
+    id = word m nextWord;
     tag = tagOf (d .parent);
     parent = wordOf (d .parent);
     payload = d .payload;
@@ -69,14 +70,14 @@ module _ (m : List ℕ) (d : Definition) where
   same = rw (parent-back (d .parent), pairs-flat (dependenciesOf r d), pairs-flat (resolved d (d .provisions)), pairs-flat (pairs (d .realms)))
 
   module _ (dense : Dense m) (fresh : Fresh m) (p : Passed (registrationChecks r d)) where
-    rows : rowsInUse r + rowsOf (newPlugin r d) ≤ 1024
+    rows : rowsInUse r + rowsOf (newPlugin r d) ≤ maxRows
     rows = ltb-false _ _ (p .1 .1 .1 .1 .1 .1 .1 .1 .1 .1 .1 .0)
 
-    fits : length (dependenciesOf r d) ≤ 48
+    fits : length (dependenciesOf r d) ≤ maxDependencies
     fits = ltb-false _ _ (p .1 .1 .1 .1 .1 .1 .1 .1 .1 .1 .0)
 
-    few : length (d .provisions) ≤ 15
-    few = ltb-false _ _ (neither (ltb 16 (length (d .dependencies))) (ltb 15 (length (d .provisions))) (p .1 .0) .1)
+    few : length (d .provisions) ≤ maxProvisionKeys
+    few = ltb-false _ _ (neither (ltb maxDependencyKeys (length (d .dependencies))) (ltb maxProvisionKeys (length (d .provisions))) (p .1 .0) .1)
 
     sized : Sized m n
     unfolding newPlugin
@@ -95,9 +96,9 @@ module _ (m : List ℕ) (d : Definition) where
     abbrev o : Outcome
     o = adds (newPlugin r d) (r .next ∷ [])
 
-    written : (at : ℕ) → freeAt m ≡ At at → addedTo m o ≡ filledPlace m at (entryOf n (used m) (word m 2 + 1)) (n .dependencies) (claimWords n) (n .realms)
+    written : (at : ℕ) → freeAt m ≡ At at → addedTo m o ≡ filledPlace m at (entryOf n (used m) (word m nextWord + 1)) (n .dependencies) (claimWords n) (n .realms)
     unfolding leftBy newPlugin
-    written at e = rw e (λ i. filledPlace m at (entryOf n (used-is m (dense .size) i) (word m 2 + 1)) (n .dependencies) (flat (d .anchor ∷ new-ports r d i)) (n .realms))
+    written at e = rw e (λ i. filledPlace m at (entryOf n (used-is m (dense .size) i) (word m nextWord + 1)) (n .dependencies) (flat (d .anchor ∷ new-ports r d i)) (n .realms))
 
     registered : (free : Place) → freeAt m ≡ free → Refines m (addedTo m o) o
     registered Nowhere e =
@@ -106,8 +107,8 @@ module _ (m : List ℕ) (d : Definition) where
         let z : _≡_ {A = ℕ} 0 1 = cc in
         absurd (omega arith)
     registered (At at) e = rw (written at e) record {
-      registry = filled-view m at n (word m 2 + 1) e dense sized fresh refl (r .next ∷ []) ∙ ap (λ x. after r (adds x (r .next ∷ []))) same;
-      dense = filled-dense m at n (word m 2 + 1) e dense sized fresh;
+      registry = filled-view m at n (word m nextWord + 1) e dense sized fresh refl (r .next ∷ []) ∙ ap (λ x. after r (adds x (r .next ∷ []))) same;
+      dense = filled-dense m at n (word m nextWord + 1) e dense sized fresh;
     }
 
   pub register-refines : Dense m → Fresh m → Refines m (addedTo m (register (view m) d)) (register (view m) d)

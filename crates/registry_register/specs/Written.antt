@@ -9,7 +9,7 @@ use Rattle.rules.specs.declared.Port.{Port}
 use Rattle.rules.specs.Ports.{flat}
 use Rattle.rules.specs.Outcomes.{Answer, Refused, Accepted, Outcome}
 use Rattle.rules.specs.Registration.{Definition, roomChecks}
-use Rattle.memory.specs.Layout.{word}
+use Rattle.memory.specs.Layout.{word, nextWord}
 use Rattle.memory.specs.View.{view}
 use Rattle.memory.specs.Writes.{parentId}
 use Rattle.memory.specs.Ways.{Way, leftBy, byAdding, Sized, adding-sized}
@@ -45,7 +45,7 @@ definition parent anchor realms dependencies provisions payload = record {
 -- The words of a new plugin beside its lists: next id is its id, and its rows stand behind all others.
 abbrev pub newEntry : List ℕ → Option ℕ → ℕ → ℕ → ℕ → ℕ → Entry
 newEntry m parent payload dependencies provisions realms = record {
-  id = word m 2;
+  id = word m nextWord;
   tag = tagOf parent;
   parent = wordOf parent;
   payload = payload;
@@ -53,7 +53,7 @@ newEntry m parent payload dependencies provisions realms = record {
   dependencies = dependencies;
   provisions = provisions;
   realms = realms;
-  next = word m 2 + 1;
+  next = word m nextWord + 1;
 }
 
 -- Written to a place; no place leaves the words.
@@ -86,7 +86,7 @@ wordsBy checked.Passed m new = new
 wordsBy (checked.Refused n) m new = m
 
 unfoldable pub settledAnswer : List ℕ → ℕ → List ℕ → Answer
-settledAnswer m count claims = answerBy (lateVerdict m count claims) (word m 2)
+settledAnswer m count claims = answerBy (lateVerdict m count claims) (word m nextWord)
 
 unfoldable pub settledWords : List ℕ → Option ℕ → ℕ → ℕ → List ℕ → List ℕ → List ℕ → List ℕ
 settledWords m parent payload count dependencies claims realms =

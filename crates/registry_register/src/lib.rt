@@ -2,9 +2,10 @@
 ghost use mathlib.Core.Path.{_≡_};
 ghost use mathlib.Core.Logic.{_≢_};
 ghost use Rattle.rules.specs.Outcomes.{Meets};
+ghost use Rattle.rules.specs.Basics.{last};
 ghost use Rattle.rules.specs.Holds.{rowsInUse};
 ghost use Rattle.rules.specs.Registration.{register};
-ghost use Rattle.memory.specs.Layout.{word};
+ghost use Rattle.memory.specs.Layout.{word, nextWord};
 ghost use Rattle.memory.specs.View.{view};
 ghost use Rattle.memory.specs.Writes.{parentId};
 ghost use Rattle.registry_register.specs.Written.{registeredAnswer, definition, newEntry, Settles, addedTo};
@@ -33,7 +34,7 @@ fn entry(
     provisions: usize,
     realms: usize,
 ) -> Entry
-    requires { ⌜ word (now m) 2 ≢ 18446744073709551615 ⌝ ∗ ⌜ start ≡ rowsInUse (view (now m)) ⌝ }
+    requires { ⌜ word (now m) nextWord ≢ last ⌝ ∗ ⌜ start ≡ rowsInUse (view (now m)) ⌝ }
     ensures { λ r. ⌜ r ≡ newEntry (now (m .entry)) (parentId parent) payload dependencies provisions realms ⌝ }
 {
     let id = memory::next_id(m);

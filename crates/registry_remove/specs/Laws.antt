@@ -16,6 +16,7 @@ use Rattle.memory.specs.Writes.{findAt}
 use Rattle.memory.specs.Known.{at-place, at-known, none-known}
 use Rattle.memory.specs.declared.Life.{Life}
 use Rattle.memory.specs.declared.Place.the-variants.{At, Nowhere}
+use Rattle.memory.specs.Layout.{places}
 use Rattle.memory_rows.specs.Moves.{freedPlace}
 use Rattle.memory_life.specs.Told.{doneAnswer}
 use Rattle.memory_life.specs.declared.Done.{Done}
@@ -46,7 +47,7 @@ pub remove-found : (m : List ℕ) (id i : ℕ) → findAt m id ≡ At i → remo
 unfolding remove
 remove-found m id i e = at-known m id i e (removal m id)
 
-module _ (m : List ℕ) (id i : ℕ) (life : Life) (b : Bool) (e : findAt m id ≡ At i) (l : life ≡ lifeAt m (i % 32)) (t : b ≡ (isIdle (life .phase) && life .retired)) where
+module _ (m : List ℕ) (id i : ℕ) (life : Life) (b : Bool) (e : findAt m id ≡ At i) (l : life ≡ lifeAt m (i % places)) (t : b ≡ (isIdle (life .phase) && life .retired)) where
   removable : (isIdle (pluginAt m i .phase) && pluginAt m i .retired) ≡ b
   unfolding pluginAt
   removable = sym (t ∙ ap (λ x. isIdle (x .phase) && x .retired) (l ∙ ap (lifeAt m) (at-place m id i e)))
@@ -64,11 +65,11 @@ module _ (m : List ℕ) (id i : ℕ) (life : Life) (b : Bool) (e : findAt m id �
     unfolding checked
     remove-done z = remove-found m id i e ∙ rw (removable ∙ y) (rw (sym u ∙ z))
 
-    pub freed-done : (m′ : List ℕ) → k ≡ false → m′ ≡ freedPlace m (i % 32) → Freed (remove (view m) id) m done.Accepted m′
+    pub freed-done : (m′ : List ℕ) → k ≡ false → m′ ≡ freedPlace m (i % places) → Freed (remove (view m) id) m done.Accepted m′
     unfolding leftBy
     freed-done m′ z s = (rw (remove-done z), rw (remove-done z, e) (s ∙ ap (freedPlace m) (at-place m id i e)))
 
 -- whether the plugin of a place names the id as parent
-pub named : (m : List ℕ) (id i : ℕ) → i < 32 → (b : Bool) → b ≡ holds (eqb id) (parentAt m (i % 32)) → b ≡ isChildOf id (pluginAt m i)
+pub named : (m : List ℕ) (id i : ℕ) → i < places → (b : Bool) → b ≡ holds (eqb id) (parentAt m (i % places)) → b ≡ isChildOf id (pluginAt m i)
 unfolding pluginAt
 named m id i h b c = c ∙ ap (λ k. holds (eqb id) (parentAt m k)) (mod-eq-of-lt h)

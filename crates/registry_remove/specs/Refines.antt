@@ -14,7 +14,7 @@ use Rattle.rules.specs.Outcomes.{Outcome, refuses, removes, _⇒_, after}
 use Rattle.rules.specs.Retirement.{isChildOf, remove}
 use Rattle.rules.specs.Laws.Tests.{checked-elim}
 use Rattle.memory.specs.Ways.{leftBy}
-use Rattle.memory.specs.Layout.{occupancy, taken, idAt}
+use Rattle.memory.specs.Layout.{occupancy, taken, idAt, memoryWords, places}
 use Rattle.memory.specs.View.{pluginAt, placeAt, placesFrom, view}
 use Rattle.memory.specs.Writes.{findAt, puts}
 use Rattle.memory.specs.Frames.{puts-length, puts-same}
@@ -54,7 +54,7 @@ module _ (m : List ℕ) (d : Dense m) where
           (removes id []) removed-refused (λ h. removed-one id i e))
 
 -- Opening leaves no place taken.
-module _ (m : List ℕ) (domain first : ℕ) (size : length m ≡ 4488) where
+module _ (m : List ℕ) (domain first : ℕ) (size : length m ≡ memoryWords) where
   abbrev blank : List ℕ
   blank = puts m 0 0 (domain ∷ first ∷ first ∷ 0 ∷ [])
 
@@ -62,7 +62,7 @@ module _ (m : List ℕ) (domain first : ℕ) (size : length m ≡ 4488) where
   unfolding taken
   none-taken i =
       let s : occupancy blank ≡ 0 = rw (puts-same (domain ∷ first ∷ first ∷ 0 ∷ []) m 0 0 3 (omega arith) (omega arith)) in
-      rw (s, zero-div (2 ^ i)) (never (ltb i 32))
+      rw (s, zero-div (2 ^ i)) (never (ltb i places))
     where
       never : (b : Bool) → (b && false) ≡ false
       never true = refl
@@ -81,7 +81,7 @@ module _ (m : List ℕ) (domain first : ℕ) (size : length m ≡ 4488) where
 
   none-used : used blank ≡ 0
   unfolding sum
-  none-used = sum-same 32 (share (taken blank) (rowsAt blank)) (λ j. 0) 0 (λ j a b. rw (none-taken j))
+  none-used = sum-same places (share (taken blank) (rowsAt blank)) (λ j. 0) 0 (λ j a b. rw (none-taken j))
 
   pub open-refines : view (puts m 0 0 (domain ∷ first ∷ first ∷ 0 ∷ [])) ≡ opened domain first
   unfolding view
@@ -89,7 +89,7 @@ module _ (m : List ℕ) (domain first : ℕ) (size : length m ≡ 4488) where
     domain = puts-same (domain ∷ first ∷ first ∷ 0 ∷ []) m 0 0 0 (omega arith) (omega arith) x;
     first = puts-same (domain ∷ first ∷ first ∷ 0 ∷ []) m 0 0 1 (omega arith) (omega arith) x;
     next = puts-same (domain ∷ first ∷ first ∷ 0 ∷ []) m 0 0 2 (omega arith) (omega arith) x;
-    places = all-free 32 0 x;
+    places = all-free places 0 x;
   }
 
   pub open-dense : Dense (puts m 0 0 (domain ∷ first ∷ first ∷ 0 ∷ []))

@@ -6,6 +6,7 @@ ghost use Rattle.rules.specs.Outcomes.{Meets};
 ghost use Rattle.rules.specs.Basics.{any};
 ghost use Rattle.rules.specs.Holds.{plugins, isIdle};
 ghost use Rattle.rules.specs.Retirement.{isChildOf, remove};
+ghost use Rattle.memory.specs.Layout.{domainWord};
 ghost use Rattle.memory.specs.View.{view};
 ghost use Rattle.memory.specs.Writes.{puts};
 ghost use Rattle.memory_life.specs.Told.{doneAnswer};
@@ -13,17 +14,19 @@ ghost use Rattle.registry_remove.specs.Words.{removedFrom};
 use memory::Life;
 use memory::Place;
 use memory::WORDS;
+use memory::layout;
+use memory::layout::PLACES;
 use memory_life::Done;
 use rules::refusal;
 
 // Open: domain, first id and next id, and all places free.
 pub fn open(m: &mut [u64; WORDS], domain: u64, first: u64)
-    ensures { λ _. ⌜ now (m .exit) ≡ puts (now (m .entry)) 0 0 (domain ∷ first ∷ first ∷ 0 ∷ []) ⌝ }
+    ensures { λ _. ⌜ now (m .exit) ≡ puts (now (m .entry)) domainWord 0 (domain ∷ first ∷ first ∷ 0 ∷ []) ⌝ }
 {
-    m[0] = domain;
-    m[1] = first;
-    m[2] = first;
-    m[3] = 0;
+    m[layout::DOMAIN] = domain;
+    m[layout::FIRST] = first;
+    m[layout::NEXT] = first;
+    m[layout::OCCUPANCY] = 0;
 }
 
 // Whether a registered plugin names the id as parent.
@@ -31,7 +34,7 @@ fn has_children(m: &[u64; WORDS], id: u64) -> bool
     ensures { λ r. ⌜ r ≡ any (isChildOf id) (plugins (view (now (m .entry)))) ⌝ }
 {
     let mut i: usize = 0;
-    while i < 32 {
+    while i < PLACES {
         if memory::is_child_of(m, i, id) {
             if memory::is_taken(m, i) {
                 return true;

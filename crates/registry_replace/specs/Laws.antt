@@ -16,6 +16,7 @@ use Rattle.memory.specs.Frames.{withLife}
 use Rattle.memory.specs.Known.{at-place, at-known, none-known}
 use Rattle.memory.specs.declared.Life.{Life}
 use Rattle.memory.specs.declared.Place.the-variants.{At, Nowhere}
+use Rattle.memory.specs.Layout.{places}
 use Rattle.memory_life.specs.Told.{life-found, whetherAnswer}
 use Rattle.registry_replace.specs.Answers.{replacedAnswer}
 use Rattle.registry_replace.specs.Recipes.{changeOf, was-last, not-last, recipeOf, fitsBehind, fits-sum}
@@ -53,7 +54,7 @@ module _ (m : List ℕ) (id v : ℕ) where
     replace-stores f = replace-found ∙ rw f
 
     -- its life loaded, and its recipe lent
-    module _ (life : Life) (c : Change) (l : life ≡ lifeAt m (i % 32)) (s : c ≡ changeOf (recipeOf life) v) where
+    module _ (life : Life) (c : Change) (l : life ≡ lifeAt m (i % places)) (s : c ≡ changeOf (recipeOf life) v) where
       loaded : life ≡ lifeAt m i
       loaded = life-found m id i e life l
 
@@ -62,7 +63,7 @@ module _ (m : List ℕ) (id v : ℕ) where
           let t : eqb (life .revision) last ≡ true = was-last (recipeOf life) v n w (rw s at a) in
           rw (s, t) (meets-refused replacing (replace (view m) id v) m Exhausted (v ∷ []) (replace-last (rw loaded at t)))
 
-      pub told-replaced : (f : ℕ) (m′ : List ℕ) → c .answer ≡ replaced.Former f → m′ ≡ renewedAt m (i % 32) (c .recipe .revision) (c .recipe .payload)
+      pub told-replaced : (f : ℕ) (m′ : List ℕ) → c .answer ≡ replaced.Former f → m′ ≡ renewedAt m (i % places) (c .recipe .revision) (c .recipe .payload)
           → Meets replacedIn (replace (view m) id v) m (replacedAnswer (c .answer)) m′
       told-replaced f m′ a p =
           let t : eqb (lifeAt m i .revision) last ≡ false = rw loaded at (not-last (recipeOf life) v f (rw s at a)) in
@@ -79,7 +80,7 @@ module _ (m : List ℕ) (id n : ℕ) where
   unfolding fits
   fits-none e = rw (none-known m id e (λ p. answers (yesNo (leb (p .revision + n) last) ∷ [])))
 
-  module _ (i : ℕ) (life : Life) (e : findAt m id ≡ At i) (l : life ≡ lifeAt m (i % 32)) where
+  module _ (i : ℕ) (life : Life) (e : findAt m id ≡ At i) (l : life ≡ lifeAt m (i % places)) where
     fits-found : fits (view m) id n ≡ answers (yesNo (leb (life .revision + n) last) ∷ [])
     unfolding fits pluginAt
     fits-found = at-known m id i e (λ p. answers (yesNo (leb (p .revision + n) last) ∷ []))

@@ -12,9 +12,6 @@ use memory::WORDS;
 use memory_life::Whether;
 use rules::refusal;
 
-// The last revision.
-const LAST: u64 = 18446744073709551615;
-
 // What a replacement changes of a plugin.
 pub struct Recipe {
     pub revision: u64,
@@ -37,7 +34,7 @@ pub struct Change {
 pub fn changed(r: Recipe, payload: u64) -> Change
     ensures { λ c. ⌜ c ≡ changeOf r payload ⌝ }
 {
-    if r.revision == LAST {
+    if r.revision == u64::MAX {
         return Change {
             recipe: r,
             answer: Replaced::Refused(refusal::EXHAUSTED, payload),
@@ -100,7 +97,7 @@ pub fn replace(m: &mut [u64; WORDS], id: u64, payload: u64) -> Replaced
 fn fits_behind(revision: u64, count: u64) -> bool
     ensures { λ r. ⌜ r ≡ fitsBehind revision count ⌝ }
 {
-    count <= LAST - revision
+    count <= u64::MAX - revision
 }
 
 // Whether a count of replacements fits: 1, else yes exactly if no revision passes the last.

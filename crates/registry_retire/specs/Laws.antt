@@ -13,7 +13,7 @@ use Rattle.rules.specs.Holds.{lookup}
 use Rattle.rules.specs.Refusals.{Unknown, Retired, InvalidState}
 use Rattle.rules.specs.Outcomes.{Refused, Accepted, Outcome, refuses, answers, checked, answerOf, Meets}
 use Rattle.rules.specs.Retirement.{Identity, isChildOf, retire, retireFound, retireChild, identity, childIdentity}
-use Rattle.memory.specs.Layout.{word}
+use Rattle.memory.specs.Layout.{word, places, domainWord, firstWord, nextWord}
 use Rattle.memory.specs.View.{parentAt, lifeAt, pluginAt, view}
 use Rattle.memory.specs.Writes.{parentId, findAt, putLife}
 use Rattle.memory.specs.Known.{at-place, at-lookup, at-known, none-lookup, none-known, storedLife}
@@ -27,7 +27,7 @@ use Rattle.registry_retire.specs.Marks.{markedLife}
 use Rattle.registry_retire.specs.declared.Child.the-variants as child
 
 -- A plugin found, its life loaded, and perhaps a marked one stored: retired by id, or by what comes to the same.
-module _ (m : List ℕ) (id i : ℕ) (o : Outcome) (life : Life) (e : findAt m id ≡ At i) (g : o ≡ retire (view m) id) (l : life ≡ lifeAt m (i % 32)) where
+module _ (m : List ℕ) (id i : ℕ) (o : Outcome) (life : Life) (e : findAt m id ≡ At i) (g : o ≡ retire (view m) id) (l : life ≡ lifeAt m (i % places)) where
   loaded : life ≡ lifeAt m i
   loaded = life-found m id i e life l
 
@@ -35,42 +35,42 @@ module _ (m : List ℕ) (id i : ℕ) (o : Outcome) (life : Life) (e : findAt m i
   unfolding retire checked pluginAt
   told-retired t = told-refused o m Retired [] (g ∙ at-known m id i e _ ∙ rw (rw loaded at t))
 
-  pub told-marked : (l′ : Life) (m′ : List ℕ) → life .retired ≡ false → l′ ≡ markedLife life → m′ ≡ putLife m (i % 32) l′ → Meets storedLife o m (Accepted []) m′
+  pub told-marked : (l′ : Life) (m′ : List ℕ) → life .retired ≡ false → l′ ≡ markedLife life → m′ ≡ putLife m (i % places) l′ → Meets storedLife o m (Accepted []) m′
   unfolding retire checked pluginAt
   told-marked l′ m′ f s p =
-      told-stored o m id i [] (markedLife (lifeAt m i)) m′ e (g ∙ at-known m id i e _ ∙ rw (rw loaded at f)) (p ∙ ap (putLife m (i % 32)) (s ∙ ap markedLife loaded))
+      told-stored o m id i [] (markedLife (lifeAt m i)) m′ e (g ∙ at-known m id i e _ ∙ rw (rw loaded at f)) (p ∙ ap (putLife m (i % places)) (s ∙ ap markedLife loaded))
 
 -- by child identity, over the header's words as they were read
-module _ (m : List ℕ) (c : Identity) (d : ℕ) (domain : d ≡ word m 0) where
+module _ (m : List ℕ) (c : Identity) (d : ℕ) (domain : d ≡ word m domainWord) where
   pub child-foreign : c .domain ≢ d → retireChild (view m) c ≡ refuses InvalidState []
   unfolding retireChild checked view
-  child-foreign n = rw (ne-eqb (c .domain) (word m 0) (λ s. n (s ∙ sym domain)))
+  child-foreign n = rw (ne-eqb (c .domain) (word m domainWord) (λ s. n (s ∙ sym domain)))
 
-  module _ (f : ℕ) (same : c .domain ≡ d) (first : f ≡ word m 1) where
-    own : eqb (c .domain) (word m 0) ≡ true
-    own = eq-eqb (c .domain) (word m 0) (same ∙ domain)
+  module _ (f : ℕ) (same : c .domain ≡ d) (first : f ≡ word m firstWord) where
+    own : eqb (c .domain) (word m domainWord) ≡ true
+    own = eq-eqb (c .domain) (word m domainWord) (same ∙ domain)
 
     pub child-below : c .id < f → retireChild (view m) c ≡ refuses Unknown []
     unfolding retireChild checked view
-    child-below h = rw (own, lt-ltb (c .id) (word m 1) (omega arith))
+    child-below h = rw (own, lt-ltb (c .id) (word m firstWord) (omega arith))
 
-    module _ (n : ℕ) (from : f ≤ c .id) (next : n ≡ word m 2) where
-      not-below : ltb (c .id) (word m 1) ≡ false
-      not-below = le-ltb (c .id) (word m 1) (omega arith)
+    module _ (n : ℕ) (from : f ≤ c .id) (next : n ≡ word m nextWord) where
+      not-below : ltb (c .id) (word m firstWord) ≡ false
+      not-below = le-ltb (c .id) (word m firstWord) (omega arith)
 
       pub child-above : n ≤ c .id → retireChild (view m) c ≡ refuses Unknown []
       unfolding retireChild checked view
-      child-above h = rw (own, not-below, le-leb (word m 2) (c .id) (omega arith))
+      child-above h = rw (own, not-below, le-leb (word m nextWord) (c .id) (omega arith))
 
       module _ (below : c .id < n) where
         child-issued : retireChild (view m) c ≡ retireFound (c .parent) (lookup (view m) (c .id))
         unfolding retireChild checked view
-        child-issued = rw (own, not-below, lt-leb (word m 2) (c .id) (omega arith))
+        child-issued = rw (own, not-below, lt-leb (word m nextWord) (c .id) (omega arith))
 
         pub child-gone : findAt m (c .id) ≡ Nowhere → retireChild (view m) c ≡ answers []
         child-gone e = child-issued ∙ ap (retireFound (c .parent)) (none-lookup m (c .id) e)
 
-        module _ (i : ℕ) (b : Bool) (e : findAt m (c .id) ≡ At i) (t : b ≡ holds (eqb (c .parent)) (parentAt m (i % 32))) where
+        module _ (i : ℕ) (b : Bool) (e : findAt m (c .id) ≡ At i) (t : b ≡ holds (eqb (c .parent)) (parentAt m (i % places))) where
           tested : isChildOf (c .parent) (pluginAt m i) ≡ b
           unfolding pluginAt
           tested = sym (t ∙ ap (λ k. holds (eqb (c .parent)) (parentAt m k)) (at-place m (c .id) i e))
@@ -92,15 +92,15 @@ module _ (m : List ℕ) (id : ℕ) where
   unfolding childIdentity
   identity-none e = rw (none-known m id e (λ p. answers (identity (view m .domain) id (p .parent))))
 
-  module _ (i : ℕ) (q : Parent) (e : findAt m id ≡ At i) (t : parentId q ≡ parentAt m (i % 32)) where
-    identity-found : childIdentity (view m) id ≡ answers (identity (word m 0) id (parentId q))
+  module _ (i : ℕ) (q : Parent) (e : findAt m id ≡ At i) (t : parentId q ≡ parentAt m (i % places)) where
+    identity-found : childIdentity (view m) id ≡ answers (identity (word m domainWord) id (parentId q))
     unfolding childIdentity view pluginAt
     identity-found =
         at-known m id i e (λ p. answers (identity (view m .domain) id (p .parent)))
-        ∙ ap (λ o. answers (identity (word m 0) id o)) (sym (t ∙ ap (parentAt m) (at-place m id i e)))
+        ∙ ap (λ o. answers (identity (word m domainWord) id o)) (sym (t ∙ ap (parentAt m) (at-place m id i e)))
 
     pub identity-orphan : q ≡ Nobody → childAnswer child.Orphan ≡ answerOf (childIdentity (view m) id)
     identity-orphan s = rw (identity-found, s)
 
-    pub identity-child : (d p : ℕ) → q ≡ Of p → d ≡ word m 0 → childAnswer (child.Of d p id) ≡ answerOf (childIdentity (view m) id)
+    pub identity-child : (d p : ℕ) → q ≡ Of p → d ≡ word m domainWord → childAnswer (child.Of d p id) ≡ answerOf (childIdentity (view m) id)
     identity-child d p s w = rw (identity-found, s, w)

@@ -14,7 +14,7 @@ use Rattle.rules.specs.Refusals.{Retired, InvalidState, Exhausted, Unavailable,
 use Rattle.rules.specs.Outcomes.{Accepted, refuses, stores, checked, Meets}
 use Rattle.rules.specs.Ports.{pairs}
 use Rattle.rules.specs.Phases as rules
-use Rattle.memory.specs.Layout.{word, depPart}
+use Rattle.memory.specs.Layout.{word, depPart, places, domainWord}
 use Rattle.memory.specs.View.{lifeAt, pluginAt, view}
 use Rattle.memory.specs.Writes.{findAt, putLife}
 use Rattle.memory.specs.Frames.{withLife}
@@ -24,7 +24,7 @@ use Rattle.memory.specs.declared.Place.the-variants.{At}
 use Rattle.memory_life.specs.Told.{life-found, generation-found, told-stored}
 use Rattle.registry_steps.specs.Lives.{movedLife, begunLife}
 
-module _ (m : List ℕ) (id i : ℕ) (e : findAt m id ≡ At i) (l : Life) (h : l ≡ lifeAt m (i % 32)) where
+module _ (m : List ℕ) (id i : ℕ) (e : findAt m id ≡ At i) (l : Life) (h : l ≡ lifeAt m (i % places)) where
   same : l ≡ lifeAt m i
   same = life-found m id i e l h
 
@@ -45,7 +45,7 @@ module _ (m : List ℕ) (id i : ℕ) (e : findAt m id ≡ At i) (l : Life) (h : 
   unfolding rules.unload checked
   unload-stuck f = at-known m id i e _ ∙ rw (at-phase rules.Unload none f)
 
-  module _ (p : Phase) (f : rules.cell (l .phase) rules.Unload ≡ some p) (b : Bool) (u : b ≡ rules.inUse (view m) (pluginAt m (i % 32))) where
+  module _ (p : Phase) (f : rules.cell (l .phase) rules.Unload ≡ some p) (b : Bool) (u : b ≡ rules.inUse (view m) (pluginAt m (i % places))) where
     used : rules.inUse (view m) (pluginAt m i) ≡ b
     used = sym (u ∙ ap (λ k. rules.inUse (view m) (pluginAt m k)) (at-place m id i e))
 
@@ -74,7 +74,7 @@ module _ (m : List ℕ) (id i : ℕ) (e : findAt m id ≡ At i) (l : Life) (h : 
       unfolding rules.begin checked pluginAt
       begin-last g = at-known m id i e _ ∙ rw (← same) (rw (n, f, eq-eqb (pluginAt m i .generation) last (of-generation ∙ g)))
 
-      module _ (g : l .generation .0 ≢ last) (ws : List ℕ) (d : ws ≡ depPart m (i % 32)) (b : Bool) (u : b ≡ all (rules.available (view m)) (pairs ws)) where
+      module _ (g : l .generation .0 ≢ last) (ws : List ℕ) (d : ws ≡ depPart m (i % places)) (b : Bool) (u : b ≡ all (rules.available (view m)) (pairs ws)) where
         not-last : eqb (pluginAt m i .generation) last ≡ false
         not-last = ne-eqb (pluginAt m i .generation) last (λ z. g (sym of-generation ∙ z))
 
@@ -85,12 +85,12 @@ module _ (m : List ℕ) (id i : ℕ) (e : findAt m id ≡ At i) (l : Life) (h : 
         unfolding rules.begin checked pluginAt
         begin-lacks z = at-known m id i e _ ∙ rw (← same) (rw (n, f, not-last, ready-for ∙ z))
 
-        pub begin-moves : b ≡ true → rules.begin (view m) id ≡ stores (withLife (pluginAt m i) (begunLife l p)) (word m 0 ∷ id ∷ nextGeneration (l .generation) .0 ∷ 1 ∷ [])
+        pub begin-moves : b ≡ true → rules.begin (view m) id ≡ stores (withLife (pluginAt m i) (begunLife l p)) (word m domainWord ∷ id ∷ nextGeneration (l .generation) .0 ∷ 1 ∷ [])
         unfolding rules.begin checked pluginAt view
         begin-moves y = at-known m id i e _ ∙ rw (← same) (rw (n, f, not-last, ready-for ∙ y, of-generation, ne-eqb (l .generation .0) last g))
 
-        pub begin-told : b ≡ true → (dm : ℕ) → dm ≡ word m 0 → (l′ : Life) → l′ ≡ begunLife l p → (m′ : List ℕ) → m′ ≡ putLife m (i % 32) l′
+        pub begin-told : b ≡ true → (dm : ℕ) → dm ≡ word m domainWord → (l′ : Life) → l′ ≡ begunLife l p → (m′ : List ℕ) → m′ ≡ putLife m (i % places) l′
             → Meets storedLife (rules.begin (view m) id) m (Accepted (dm ∷ id ∷ l′ .generation .0 ∷ 1 ∷ [])) m′
         begin-told y dm w l′ k m′ s =
-            let t = told-stored (rules.begin (view m) id) m id i _ (begunLife l p) m′ e (begin-moves y) (s ∙ ap (putLife m (i % 32)) k) in
+            let t = told-stored (rules.begin (view m) id) m id i _ (begunLife l p) m′ e (begin-moves y) (s ∙ ap (putLife m (i % places)) k) in
             ((λ j. Accepted (w j ∷ id ∷ k j .generation .0 ∷ 1 ∷ [])) ∙ t .0, t .1)

@@ -14,7 +14,8 @@ use Rattle.rules.specs.Refusals.{Refusal, number, Unknown, Closed, Undeclared, 
 use Rattle.rules.specs.Outcomes.{Answer, Refused, Accepted, Outcome, refuses, answers, checked, known, answerOf}
 use Rattle.rules.specs.Ports.{pairs, flat, oddLength, samePorts}
 use Rattle.rules.specs.Values.{valueIn, served, seen, firstMissing, read, visible, own, missing, matching, declares}
-use Rattle.memory.specs.Layout.{idAt, depPart, provPart}
+use Rattle.rules.specs.Limits.{maxProvisionKeys}
+use Rattle.memory.specs.Layout.{idAt, depPart, provPart, places}
 use Rattle.memory.specs.View.{lifeAt, valued, pluginAt, view}
 use Rattle.memory.specs.Writes.{findAt}
 use Rattle.memory.specs.Lookups.{placed}
@@ -92,8 +93,8 @@ module _ (m : List ℕ) (q : Port) (x : Place) (h : x ≡ providerAt m q) where
   pub visible-nobody : x ≡ Nowhere → Accepted [] ≡ answerOf (visible (view m) q)
   visible-nobody n = sym (seen-is Nowhere n)
 
-  module _ (i : ℕ) (n : x ≡ At i) (life : Life) (l : life ≡ lifeAt m (i % 32)) (b : Bool) (k : b ≡ isActive (life .phase)) where
-    place-is : i % 32 ≡ i
+  module _ (i : ℕ) (n : x ≡ At i) (life : Life) (l : life ≡ lifeAt m (i % places)) (b : Bool) (k : b ≡ isActive (life .phase)) where
+    place-is : i % places ≡ i
     place-is = mod-eq-of-lt (provider-below m q i (sym h ∙ n))
 
     active-is : isActive (pluginAt m i .phase) ≡ b
@@ -103,7 +104,7 @@ module _ (m : List ℕ) (q : Port) (x : Place) (h : x ≡ providerAt m q) where
     pub visible-waiting : b ≡ false → Accepted [] ≡ answerOf (visible (view m) q)
     visible-waiting f = sym (seen-is (At i) n ∙ rw (active-is ∙ f))
 
-    pub visible-value : b ≡ true → (v : Value) → valueOf v ≡ valueIn q (pluginAt m (i % 32) .provisions) → Accepted (one (valueOf v)) ≡ answerOf (visible (view m) q)
+    pub visible-value : b ≡ true → (v : Value) → valueOf v ≡ valueIn q (pluginAt m (i % places) .provisions) → Accepted (one (valueOf v)) ≡ answerOf (visible (view m) q)
     visible-value t v g =
         ap (λ (y : Option ℕ). Accepted (one y)) (g ∙ ap (λ j. valueIn q (pluginAt m j .provisions)) place-is)
         ∙ sym (seen-is (At i) n ∙ rw (active-is ∙ t))
@@ -135,55 +136,55 @@ module _ (m : List ℕ) (id : ℕ) (e : findAt m id ≡ Nowhere) where
 
 -- Where it is found.
 module _ (m : List ℕ) (id i : ℕ) (e : findAt m id ≡ At i) where
-  found-at : (f : Plugin → Outcome) → known (view m) id f ≡ f (pluginAt m (i % 32))
+  found-at : (f : Plugin → Outcome) → known (view m) id f ≡ f (pluginAt m (i % places))
   found-at f = at-known m id i e f ∙ ap (λ j. f (pluginAt m j)) (sym (at-place m id i e))
 
-  pub own-answer : (q : Port) (x y : Value) → valueOf x ≡ valueIn q (pluginAt m (i % 32) .provisions) → x ≡ y → Accepted (one (valueOf y)) ≡ answerOf (own (view m) id q)
+  pub own-answer : (q : Port) (x y : Value) → valueOf x ≡ valueIn q (pluginAt m (i % places) .provisions) → x ≡ y → Accepted (one (valueOf y)) ≡ answerOf (own (view m) id q)
   unfolding own
   own-answer q x y h n = ap (λ (z : Option ℕ). Accepted (one z)) (sym (ap valueOf n) ∙ h) ∙ sym (ap answerOf (found-at (owns q)))
 
-  pub matching-answer : (l ws : List ℕ) → ws ≡ provPart m (i % 32) → (b : Bool) → b ≡ (not (oddLength l) && samePorts (pairs l) (pairs ws))
+  pub matching-answer : (l ws : List ℕ) → ws ≡ provPart m (i % places) → (b : Bool) → b ≡ (not (oddLength l) && samePorts (pairs l) (pairs ws))
       → (a : Answer) → a ≡ Accepted (yesNo b ∷ []) → a ≡ answerOf (matching (view m) id l)
   unfolding matching
   matching-answer l ws w b k a h =
-      let s : pairs ws ≡ provided (pluginAt m (i % 32)) = ap pairs w ∙ sym (provided-at m (i % 32)) in
+      let s : pairs ws ≡ provided (pluginAt m (i % places)) = ap pairs w ∙ sym (provided-at m (i % places)) in
       h ∙ ap (λ (x : Bool). Accepted (yesNo x ∷ [])) (k ∙ ap (λ (ps : List Port). not (oddLength l) && samePorts (pairs l) ps) s)
       ∙ sym (ap answerOf (found-at (fits l)))
 
-  pub declares-answer : (q : Port) (b : Bool) → b ≡ declared (pluginAt m (i % 32)) q → (a : Answer) → a ≡ Accepted (yesNo b ∷ []) → a ≡ answerOf (declares (view m) id q)
+  pub declares-answer : (q : Port) (b : Bool) → b ≡ declared (pluginAt m (i % places)) q → (a : Answer) → a ≡ Accepted (yesNo b ∷ []) → a ≡ answerOf (declares (view m) id q)
   unfolding declares declared
   declares-answer q b k a h = h ∙ ap (λ (x : Bool). Accepted (yesNo x ∷ [])) k ∙ sym (ap answerOf (found-at (tells q)))
 
   -- Missing.
-  missing-is : answerOf (missing (view m) id) ≡ Accepted (firstMissing (pluginAt m (i % 32) .provisions))
+  missing-is : answerOf (missing (view m) id) ≡ Accepted (firstMissing (pluginAt m (i % places) .provisions))
   unfolding missing
   missing-is = ap answerOf (found-at lacks)
 
-  module _ (f : Found) (h : f ≡ lackFrom 0 (pluginAt m (i % 32) .provisions)) where
+  module _ (f : Found) (h : f ≡ lackFrom 0 (pluginAt m (i % places) .provisions)) where
     pub missing-nothing : f ≡ found.Nothing → Accepted [] ≡ answerOf (missing (view m) id)
-    missing-nothing n = sym (missing-is ∙ ap Accepted (lack-nothing (pluginAt m (i % 32) .provisions) (sym h ∙ n) .1))
+    missing-nothing n = sym (missing-is ∙ ap Accepted (lack-nothing (pluginAt m (i % places) .provisions) (sym h ∙ n) .1))
 
-    module _ (j : ℕ) (n : f ≡ found.At j) (ws : List ℕ) (w : ws ≡ provPart m (i % 32)) where
-      lacking : lackFrom 0 (valued m (i % 32) 0 (pairs (provPart m (i % 32)))) ≡ found.At j
-      lacking = sym (ap (lackFrom 0) (provisions-at m (i % 32))) ∙ sym h ∙ n
+    module _ (j : ℕ) (n : f ≡ found.At j) (ws : List ℕ) (w : ws ≡ provPart m (i % places)) where
+      lacking : lackFrom 0 (valued m (i % places) 0 (pairs (provPart m (i % places)))) ≡ found.At j
+      lacking = sym (ap (lackFrom 0) (provisions-at m (i % places))) ∙ sym h ∙ n
 
-      within : j < length (provPart m (i % 32)) / 2
-      within = omega (arith, lack-within m (i % 32) (pairs (provPart m (i % 32))) j lacking, length-pairs (provPart m (i % 32)))
+      within : j < length (provPart m (i % places)) / 2
+      within = omega (arith, lack-within m (i % places) (pairs (provPart m (i % places))) j lacking, length-pairs (provPart m (i % places)))
 
       -- both numbers of the port stand in the list
-      pub missing-within : (j * 2 + 1 < length ws) × (length ws ≤ 30)
-      missing-within = rw w (omega (arith, within), few-words m (i % 32))
+      pub missing-within : (j * 2 + 1 < length ws) × (length ws ≤ maxProvisionKeys * 2)
+      missing-within = rw w (omega (arith, within), few-words m (i % places))
 
       pub missing-port : (q : Port) → q ≡ port (getD ws (j * 2) 0) (getD ws (j * 2 + 1) 0) → Accepted (flat (q ∷ [])) ≡ answerOf (missing (view m) id)
       missing-port q g =
-          let k = i % 32 in
+          let k = i % places in
           let s : q ≡ getD (pairs (provPart m k)) j (port 0 0) = g ∙ ap (λ (l : List ℕ). port (getD l (j * 2) 0) (getD l (j * 2 + 1) 0)) w ∙ sym (pairs-get (provPart m k) j within) in
           ap (λ (p : Port). Accepted (flat (p ∷ []))) s
           ∙ sym (missing-is ∙ ap (λ (vs : List Provision). Accepted (firstMissing vs)) (provisions-at m k) ∙ ap Accepted (lack-answer m k (pairs (provPart m k)) j lacking))
 
   -- Read.
-  module _ (q : Port) (life : Life) (l : life ≡ lifeAt m (i % 32)) (b : Bool) (k : b ≡ (isLoading (life .phase) || isActive (life .phase))) where
-    read-found : read (view m) id q ≡ reads (view m) q (pluginAt m (i % 32))
+  module _ (q : Port) (life : Life) (l : life ≡ lifeAt m (i % places)) (b : Bool) (k : b ≡ (isLoading (life .phase) || isActive (life .phase))) where
+    read-found : read (view m) id q ≡ reads (view m) q (pluginAt m (i % places))
     unfolding read
     read-found = found-at (reads (view m) q)
 
@@ -192,17 +193,17 @@ module _ (m : List ℕ) (id i : ℕ) (e : findAt m id ≡ At i) where
 
     pub read-closed : b ≡ false → Refused (number Closed) [] ≡ answerOf (read (view m) id q)
     unfolding checked
-    read-closed f = refused Closed (read-found ∙ rw (running-is m (i % 32) life l b k ∙ f))
+    read-closed f = refused Closed (read-found ∙ rw (running-is m (i % places) life l b k ∙ f))
 
-    module _ (o : b ≡ true) (ws : List ℕ) (w : ws ≡ depPart m (i % 32)) (c : Bool) (g : c ≡ isIn q (pairs ws)) where
+    module _ (o : b ≡ true) (ws : List ℕ) (w : ws ≡ depPart m (i % places)) (c : Bool) (g : c ≡ isIn q (pairs ws)) where
       pub read-undeclared : c ≡ false → Refused (number Undeclared) [] ≡ answerOf (read (view m) id q)
       unfolding checked
-      read-undeclared f = refused Undeclared (read-found ∙ rw (running-is m (i % 32) life l b k ∙ o, dependency-is m (i % 32) q ws c g w ∙ f))
+      read-undeclared f = refused Undeclared (read-found ∙ rw (running-is m (i % places) life l b k ∙ o, dependency-is m (i % places) q ws c g w ∙ f))
 
       module _ (t : c ≡ true) (x : Place) (h : x ≡ providerAt m q) where
         read-served : read (view m) id q ≡ checked (asks (served q (provider (view m) q))) (answers (served q (provider (view m) q)))
         unfolding checked
-        read-served = read-found ∙ rw (running-is m (i % 32) life l b k ∙ o, dependency-is m (i % 32) q ws c g w ∙ t)
+        read-served = read-found ∙ rw (running-is m (i % places) life l b k ∙ o, dependency-is m (i % places) q ws c g w ∙ t)
 
         served-is : (y : Place) → x ≡ y → answerOf (read (view m) id q) ≡ servedAnswer (served q (placed m y))
         served-is y n =
@@ -214,7 +215,7 @@ module _ (m : List ℕ) (id i : ℕ) (e : findAt m id ≡ At i) where
         read-nobody n = sym (served-is Nowhere n)
 
         -- what the live provider gives
-        pub read-given : (j : ℕ) → x ≡ At j → (a : Answer) → a ≡ givenBy (pluginAt m (j % 32)) q → a ≡ answerOf (read (view m) id q)
+        pub read-given : (j : ℕ) → x ≡ At j → (a : Answer) → a ≡ givenBy (pluginAt m (j % places)) q → a ≡ answerOf (read (view m) id q)
         unfolding givenBy
         read-given j n a p =
             p ∙ ap (λ y. givenBy (pluginAt m y) q) (mod-eq-of-lt (provider-below m q j (sym h ∙ n))) ∙ sym (served-is (At j) n)

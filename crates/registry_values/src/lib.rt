@@ -7,7 +7,9 @@ ghost use Rattle.rules.specs.Basics.{yesNo};
 ghost use Rattle.rules.specs.Holds.{port};
 ghost use Rattle.rules.specs.Outcomes.{Accepted, answerOf};
 ghost use Rattle.rules.specs.Values.{read, visible, own, missing, matching, declares};
+ghost use Rattle.rules.specs.Limits.{maxProvisionKeys};
 ghost use Rattle.memory.specs.View.{pluginAt, view};
+ghost use Rattle.memory.specs.Layout.{places};
 ghost use Rattle.memory_life.specs.Told.{whetherAnswer};
 ghost use Rattle.registry_queries.specs.Answers.{perhapsAnswer, portAnswer};
 ghost use Rattle.registry_values.specs.Answers.{readingAnswer, valueAnswer};
@@ -30,7 +32,7 @@ pub enum Reading {
 
 // What the plugin of a place gives for a port: the value and its own id, or 22.
 fn given(m: &[u64; WORDS], place: usize, key: u64, realm: u64) -> Reading
-    ensures { λ r. ⌜ readingAnswer r ≡ givenBy (pluginAt (now (m .entry)) (place % 32)) (port key realm) ⌝ }
+    ensures { λ r. ⌜ readingAnswer r ≡ givenBy (pluginAt (now (m .entry)) (place % places)) (port key realm) ⌝ }
 {
     let value = memory_values::value_of(m, place, key, realm);
     match value {
@@ -87,7 +89,7 @@ pub fn own(m: &[u64; WORDS], id: u64, key: u64, realm: u64) -> Perhaps
 
 // The port of a row of a provision list.
 fn port_at(ports: &[u64], row: usize) -> Port
-    requires { ⌜ (row * 2 + 1 < length (now ports)) × (length (now ports) ≤ 30) ⌝ }
+    requires { ⌜ (row * 2 + 1 < length (now ports)) × (length (now ports) ≤ maxProvisionKeys * 2) ⌝ }
     ensures { λ r. ⌜ r ≡ port (getD (now (ports .entry)) (row * 2) 0) (getD (now (ports .entry)) (row * 2 + 1) 0) ⌝ }
 {
     Port::new(ports[row * 2], ports[row * 2 + 1])
@@ -124,7 +126,7 @@ pub fn matches(m: &[u64; WORDS], id: u64, list: &[u64]) -> Whether
 
 // A provision, or a dependency of a plugin that is Loading or Active.
 fn is_declared(m: &[u64; WORDS], place: usize, key: u64, realm: u64) -> bool
-    ensures { λ r. ⌜ r ≡ declared (pluginAt (now (m .entry)) (place % 32)) (port key realm) ⌝ }
+    ensures { λ r. ⌜ r ≡ declared (pluginAt (now (m .entry)) (place % places)) (port key realm) ⌝ }
 {
     if ports::has_port(memory_lists::provision_words(m, place), key, realm) {
         return true;

@@ -11,15 +11,16 @@ use Rattle.rules.specs.Holds.{Idle, Active, isIdle, Unissued, Queued, Sp
 use Rattle.rules.specs.Ports.{rising, resolve}
 use Rattle.rules.specs.Registration.{repeats}
 use Rattle.rules.specs.Laws.Members.{In}
+use Rattle.rules.specs.Limits.{maxPlugins, maxRows, maxProvisionKeys, maxDependencies, maxRealmRows}
 
 -- What registration fixes of a plugin: the limits on its lists, realm keys that rise strictly, realm 0 for any other key, and ports
 -- that are different and have the realm that their key resolves to.
 pub record Shaped (p : Plugin) : Type 0 where
-  pub realm-rows : length (p .realms .rows) ≤ 16
+  pub realm-rows : length (p .realms .rows) ≤ maxRealmRows
   pub rise : rising (p .realms .rows) ≡ true
   pub default : p .realms .other ≡ defaultRealm
-  pub provisions : length (p .provisions) ≤ 15
-  pub dependencies : length (p .dependencies) ≤ 48
+  pub provisions : length (p .provisions) ≤ maxProvisionKeys
+  pub dependencies : length (p .dependencies) ≤ maxDependencies
   pub resolved : (q : Port) → In q (provided p) → resolve (p .realms) (q .key) ≡ q
   pub apart : repeats (p .anchor ∷ provided p) ≡ false
 
@@ -72,10 +73,10 @@ abbrev pub idsOf : List Plugin → List ℕ
 idsOf ps = map (λ (p : Plugin). p .id) ps
 
 pub record Built (r : Registry) : Type 0 where
-  pub room : length (r .places) ≡ 32
+  pub room : length (r .places) ≡ maxPlugins
   pub first : r .first ≤ r .next
   pub next : r .next ≤ last
-  pub rows : rowsInUse r ≤ 1024
+  pub rows : rowsInUse r ≤ maxRows
   -- no id stands in two places
   pub once : twice (idsOf (plugins r)) ≡ false
   pub members : (a : Plugin) → In a (plugins r) → Member r a

@@ -23,10 +23,11 @@ use Rattle.rules.specs.Laws.Tests.{by-test, both}
 use Rattle.rules.specs.Demand3.Link.{isAdmission, live, Once, Agrees, Linked, Good}
 use Rattle.rules.specs.Demand3.Lives.{same-true, same-refl, would-accept, lives, not-callable, silent}
 use Rattle.rules.specs.Demand3.Kept.{kept}
+use Rattle.rules.specs.Limits.{maxPlugins}
 
 -- What is asked of a start: 32 places, every id below the next one, and no root Queued.
 pub record Start (s : Registry) : Type 0 where
-  pub room : length (s .places) ≡ 32
+  pub room : length (s .places) ≡ maxPlugins
   pub fresh : (x : ℕ) → s .next ≤ x → lookup s x ≡ none
   pub unqueued : (x : ℕ) (p : Plugin) → lookup s x ≡ some p → (v a : ℕ) → p .root ≢ Queued v a
 

@@ -11,6 +11,7 @@ pub use Rattle.rules.specs.declared.Phase.the-variants.{Idle, Loading, A
 pub use Rattle.rules.specs.declared.Root.{Root}
 pub use Rattle.rules.specs.declared.Root.the-variants.{Unissued, Queued, Spent}
 use Rattle.rules.specs.Basics.{any, first}
+use Rattle.rules.specs.Limits.{maxPlugins}
 
 -- A port is (key, realm).
 abbrev pub port : ℕ → ℕ → Port
@@ -100,7 +101,7 @@ freePlaces (suc n) = none ∷ freePlaces n
 
 -- Open: domain, first id and next id are all from its opening (next = first).
 abbrev pub opened : ℕ → ℕ → Registry
-opened d f = record { domain = d; first = f; next = f; places = freePlaces 32 }
+opened d f = record { domain = d; first = f; next = f; places = freePlaces maxPlugins }
 
 -- The registered plugins, in the order of their places.
 abbrev pub held : Places → List Plugin

@@ -1,4 +1,5 @@
 pub mod Basics
+pub mod Limits
 pub mod Holds
 pub mod Generations
 pub mod Refusals

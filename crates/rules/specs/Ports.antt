@@ -8,6 +8,7 @@ use Rattle.rules.specs.Basics.{pick}
 use Rattle.rules.specs.Holds.{Port, port, Realms, defaultRealm, samePort}
 use Rattle.rules.specs.Refusals.{BadRealms}
 use Rattle.rules.specs.Outcomes.{Outcome, answers, _⇒_, checked}
+use Rattle.rules.specs.Limits.{maxRealmRows}
 
 -- A list of ports comes as key, realm, key, realm; so does a realm list.
 abbrev pub pairs : List ℕ → List Port
@@ -37,7 +38,7 @@ rising (p ∷ q ∷ ps) = ltb (p .key) (q .key) && rising (q ∷ ps)
 
 -- Row 4: realm list of odd length, over 16 rows, or keys not strictly rising.
 unfoldable pub badRealms : List ℕ → Bool
-badRealms l = oddLength l || ltb 16 (length (pairs l)) || not (rising (pairs l))
+badRealms l = oddLength l || ltb maxRealmRows (length (pairs l)) || not (rising (pairs l))
 
 -- A key found in the realm list gets its realm; any other gets the table's other realm.
 abbrev pub resolveIn : ℕ → List Port → ℕ → Port

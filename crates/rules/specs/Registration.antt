@@ -13,6 +13,7 @@ use Rattle.rules.specs.Refusals.{NoId, Full, TooLong, NoRows}
 use Rattle.rules.specs.Outcomes.{Outcome, adds, Check, _⇒_, checked}
 use Rattle.rules.specs.Ports.{badRealms, realmsOf, resolve}
 use Rattle.rules.specs.Dependencies.{dependencyList}
+use Rattle.rules.specs.Limits.{maxPlugins, maxRows, maxDependencyKeys, maxProvisionKeys, maxDependencies}
 
 -- What a registration is given.
 pub record Definition : Type 0 where
@@ -81,7 +82,7 @@ parentChecks r id =
 abbrev pub askedChecks : Registry → Definition → List Check
 askedChecks r d =
     (badRealms (d .realms) ⇒ BadRealms)
-    ∷ (ltb 16 (length (d .dependencies)) || ltb 15 (length (d .provisions)) ⇒ TooManyKeys)
+    ∷ (ltb maxDependencyKeys (length (d .dependencies)) || ltb maxProvisionKeys (length (d .provisions)) ⇒ TooManyKeys)
     ∷ parentChecks r (d .parent)
     ++ (repeats (resolved d (d .dependencies)) ⇒ DuplicateDependency)
     ∷ []
@@ -97,9 +98,9 @@ claimChecks r ports =
 abbrev pub roomChecks : Registry → ℕ → ℕ → List Check
 roomChecks r dependencies rows =
     (eqb (r .next) last ⇒ NoId)
-    ∷ (leb 32 (count r) ⇒ Full)
-    ∷ (ltb 48 dependencies ⇒ TooLong)
-    ∷ (ltb 1024 rows ⇒ NoRows)
+    ∷ (leb maxPlugins (count r) ⇒ Full)
+    ∷ (ltb maxDependencies dependencies ⇒ TooLong)
+    ∷ (ltb maxRows rows ⇒ NoRows)
     ∷ []
 
 -- 4, 5, parent 1, parent 2, parent Unloading 3, then 6, 7, 8, 9, 10, 11, 12

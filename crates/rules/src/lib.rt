@@ -3,6 +3,7 @@ ghost use mathlib.Core.Path.{_≡_};
 ghost use Rattle.rules.specs.Holds.{port, defaultRealm};
 ghost use Rattle.rules.specs.Generations.{generationOf, nextGeneration};
 
+pub mod limits;
 pub mod refusal;
 
 pub struct Port {
@@ -34,7 +35,7 @@ pub struct Generation(pub u64);
 impl Generation {
     pub const NEVER_BEGUN: Generation = Generation(0);
 
-    pub const LAST: Generation = Generation(18446744073709551615);
+    pub const LAST: Generation = Generation(u64::MAX);
 
     pub fn of(number: u64) -> Generation
         ensures { λ r. ⌜ r ≡ generationOf number ⌝ }

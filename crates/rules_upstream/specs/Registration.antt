@@ -21,6 +21,7 @@ use Rattle.rules.specs.Built.{Built}
 use Rattle.rules.specs.Kept.Places.{Only, only-added}
 use Rattle.rules.specs.Kept.Moves.{fresh}
 use Rattle.rules.specs.Kept.New.{new-joins}
+use Rattle.rules.specs.Limits.{maxPlugins, maxRows, maxDependencyKeys, maxProvisionKeys, maxDependencies}
 use Rattle.rules_upstream.specs.Accepted.{accepted, checked-accepted, below, When, when-passed}
 use Rattle.rules_upstream.specs.Dependencies.{same-self, is-in-exactly}
 
@@ -55,10 +56,10 @@ enabled r d =
 
 -- What document 01 asks besides: well-formed lists (4, 5), and room (10, 11, 12).
 abbrev pub wellFormed : Definition → Bool
-wellFormed d = not (badRealms (d .realms)) && not (ltb 16 (length (d .dependencies)) || ltb 15 (length (d .provisions)))
+wellFormed d = not (badRealms (d .realms)) && not (ltb maxDependencyKeys (length (d .dependencies)) || ltb maxProvisionKeys (length (d .provisions)))
 
 abbrev pub roomFor : Registry → Definition → Bool
-roomFor r d = not (leb 32 (count r)) && not (ltb 48 (length (dependenciesOf r d))) && not (ltb 1024 (rowsInUse r + rowsOf (newPlugin r d)))
+roomFor r d = not (leb maxPlugins (count r)) && not (ltb maxDependencies (length (dependenciesOf r d))) && not (ltb maxRows (rowsInUse r + rowsOf (newPlugin r d)))
 
 parent-free : (r : Registry) (u : Option ℕ)
     → (not (isSome u && isNone (parentOf r u)) && (not (holds (λ p. p .retired) (parentOf r u)) && not (holds (λ p. isUnloading (p .phase)) (parentOf r u))))

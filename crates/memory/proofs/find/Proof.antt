@@ -7,12 +7,13 @@ use native.Mathlib.Omega.{arith}
 use borrow.Author.Needs.{needs}
 use Rattle.memory.proofs.find.Statement.{statement}
 use Rattle.memory.proofs.find.Tie as tie
+use Rattle.memory.specs.Layout.{places}
 
 abbrev Inv-loop : tie.InvT-loop
-Inv-loop m id i₀ i = (i ≤ 32) × (findAt m id ≡ findFrom (32 - i) m id i)
+Inv-loop m id i₀ i = (i ≤ places) × (findAt m id ≡ findFrom (places - i) m id i)
 
 abbrev μ-loop : tie.MeasureT-loop
-μ-loop m id i₀ i = 32 - i
+μ-loop m id i₀ i = places - i
 
 loop-holds : tie.Need-loop-holds Inv-loop μ-loop
 unfolding findAt

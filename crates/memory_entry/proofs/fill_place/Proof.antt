@@ -1,5 +1,6 @@
 -- `fill_place` meets its contract: a start or a list too large changes nothing, else each step is the definition's, in its order.
 use Prim.Native.Nat.{_%_}
+use Rattle.memory.specs.Layout.{places}
 use Rattle.memory_entry.proofs.Laws.{fill-steps, fill-not, fill-long}
 use borrow.Author.Needs.{needs}
 use Rattle.memory_entry.proofs.fill_place.Statement.{statement}
@@ -8,12 +9,12 @@ use Rattle.memory_entry.proofs.fill_place.Tie as tie
 returns : tie.Need-returns
 returns c =
     let a = c .before .before .before .before .args in
-    fill-not (a .m .now) (a .place % 32) (a .e) (a .dependencies .now) (a .claims .now) (a .realms .now) (c .if1 .taken)
+    fill-not (a .m .now) (a .place % places) (a .e) (a .dependencies .now) (a .claims .now) (a .realms .now) (c .if1 .taken)
 
 returns-2 : tie.Need-returns-2
 returns-2 c =
     let a = c .before .before .before .before .before .args in
-    fill-long (a .m .now) (a .place % 32) (a .e) (a .dependencies .now) (a .claims .now) (a .realms .now) (c .before .if1 .left) (c .if2 .taken)
+    fill-long (a .m .now) (a .place % places) (a .e) (a .dependencies .now) (a .claims .now) (a .realms .now) (c .before .if1 .left) (c .if2 .taken)
 
 mul-row : tie.Need-mul-row
 mul-row c = search needs
@@ -52,7 +53,7 @@ returns-3 : tie.Need-returns-3
 returns-3 c =
     let s = c .before .before .before .before .before .before .before .before .before .before in
     let a = s .before .before .before .before .before .args in
-    fill-steps (a .m .now) _ _ _ _ _ (a .place % 32) (a .e) (a .dependencies .now) (a .claims .now) (a .realms .now)
+    fill-steps (a .m .now) _ _ _ _ _ (a .place % places) (a .e) (a .dependencies .now) (a .claims .now) (a .realms .now)
     (s .before .if1 .left)
     (s .if2 .left)
     (c .before .before .before .before .before .before .before .before .put-words .ensures)

@@ -3,6 +3,7 @@ use mathlib.Core.Path.{_≡_, refl, sym, _∙_}
 use Prim.Native.Nat.{_-_}
 use lib.ListN.{length, drop, length-set}
 use Rattle.memory.specs.Writes.{puts}
+use Rattle.memory.specs.Layout.{memoryWords}
 use Rattle.memory_entry.proofs.Laws.{puts-past, puts-next, puts-end}
 use native.Mathlib.Omega.{arith}
 use borrow.Author.Needs.{needs}
@@ -10,7 +11,7 @@ use Rattle.memory_entry.proofs.put_words.Statement.{statement}
 use Rattle.memory_entry.proofs.put_words.Tie as tie
 
 abbrev Inv-loop : tie.InvT-loop
-Inv-loop m₀ from words k₀ m k = (length m ≡ 4488) × (puts m₀ from 0 words ≡ puts m from k (drop k words))
+Inv-loop m₀ from words k₀ m k = (length m ≡ memoryWords) × (puts m₀ from 0 words ≡ puts m from k (drop k words))
 
 abbrev μ-loop : tie.MeasureT-loop
 μ-loop m₀ from words k₀ m k = length words - k

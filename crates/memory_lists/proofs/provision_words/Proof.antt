@@ -13,11 +13,14 @@ dependencies-requires c κs = search needs
 add-from : tie.Need-add-from
 add-from c = search needs
 
+add-from-2 : tie.Need-add-from-2
+add-from-2 c = search needs
+
 mul-from : tie.Need-mul-from
 mul-from c = search needs
 
-add-from-2 : tie.Need-add-from-2
-add-from-2 c = search needs
+add-from-3 : tie.Need-add-from-3
+add-from-3 c = search needs
 
 provisions-requires : tie.Need-provisions-requires
 provisions-requires c κs = search needs
@@ -38,8 +41,9 @@ provision-words-spec =
     start-requires
     dependencies-requires
     add-from
-    mul-from
     add-from-2
+    mul-from
+    add-from-3
     provisions-requires
     mul-count
     some-words-requires

@@ -1,4 +1,5 @@
 -- `realm_words` meets its contract.
+use Rattle.memory.specs.Layout.{places}
 use Rattle.memory_lists.proofs.Lists.{realm-words}
 use Prim.Native.Nat.{_%_}
 use borrow.Author.Needs.{needs}
@@ -23,7 +24,7 @@ some-words-requires c κs = search needs
 returns : tie.Need-returns
 returns c =
     let a = c .before .before .before .args in
-    realm-words (a .m .now) _ (a .place % 32) _ (c .before .before .realm-rows .ensures) (c .some-words .ensures)
+    realm-words (a .m .now) _ (a .place % places) _ (c .before .before .realm-rows .ensures) (c .some-words .ensures)
 
 pub realm-words-spec : {M : Type 1} → statement M
 realm-words-spec =

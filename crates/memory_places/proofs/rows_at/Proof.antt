@@ -1,5 +1,6 @@
 -- `rows_at` meets its contract: the bit set, the rows are the two lists' and the anchor's, 64 at most, and else 0.
 use Prim.Native.Nat.{_%_}
+use Rattle.memory.specs.Layout.{places}
 use Rattle.memory_places.proofs.Loops.{rows-yes, rows-no}
 use borrow.Author.Needs.{needs}
 use Rattle.memory_places.proofs.rows_at.Statement.{statement}
@@ -20,10 +21,10 @@ add-result-2 c = search needs
 returns : tie.Need-returns
 returns c =
     let a = c .before .before .before .args in
-    rows-yes _ (a .m .now) (a .place % 32) _ _ (c .before .before .if1 .taken) (c .before .dependencies .ensures) (c .provisions .ensures)
+    rows-yes _ (a .m .now) (a .place % places) _ _ (c .before .before .if1 .taken) (c .before .dependencies .ensures) (c .provisions .ensures)
 
 returns-2 : tie.Need-returns-2
-returns-2 c = rows-no _ (c .before .args .m .now) (c .before .args .place % 32) (c .if1 .left)
+returns-2 c = rows-no _ (c .before .args .m .now) (c .before .args .place % places) (c .if1 .left)
 
 pub rows-at-spec : {M : Type 1} → statement M
 rows-at-spec =

@@ -6,16 +6,17 @@ use borrow.Author.Needs.{needs}
 use Rattle.rules.specs.Basics.{isSome}
 use Rattle.rules.specs.Ports.{pairs}
 use Rattle.memory.specs.Lookups.{placed}
+use Rattle.memory.specs.Layout.{places}
 use Rattle.memory_providers.proofs.Laws.{search-here, search-next, search-end}
 use Rattle.memory_providers.proofs.Claims.{oneFrom, offers-claimed, provided-one}
 use Rattle.memory_providers.proofs.one_provided.Statement.{statement}
 use Rattle.memory_providers.proofs.one_provided.Tie as tie
 
 abbrev Inv-loop : tie.InvT-loop
-Inv-loop m claims bits i₀ i = (i ≤ 32) × (oneFrom (pairs claims) 32 m 0 ≡ oneFrom (pairs claims) (32 - i) m i)
+Inv-loop m claims bits i₀ i = (i ≤ places) × (oneFrom (pairs claims) places m 0 ≡ oneFrom (pairs claims) (places - i) m i)
 
 abbrev μ-loop : tie.MeasureT-loop
-μ-loop m claims bits i₀ i = 32 - i
+μ-loop m claims bits i₀ i = places - i
 
 known-requires : tie.Need-known-requires Inv-loop μ-loop
 known-requires c κs = search needs

@@ -3,6 +3,7 @@ use mathlib.Core.Path.{_≡_, refl, sym, _∙_}
 use Prim.Native.Nat.{_≤_, _-_}
 use Rattle.rules.specs.Holds.{port, Plugin, provides}
 use Rattle.memory.specs.Lookups.{searchFrom}
+use Rattle.memory.specs.Layout.{places}
 use Rattle.memory_providers.specs.Providers.{providerAt}
 use Rattle.memory_providers.proofs.Laws.{search-here, search-next, search-end}
 use native.Mathlib.Omega.{arith}
@@ -12,10 +13,10 @@ use Rattle.memory_providers.proofs.provider.Tie as tie
 
 abbrev Inv-loop : tie.InvT-loop
 Inv-loop m key realm i₀ i =
-    (i ≤ 32) × (providerAt m (port key realm) ≡ searchFrom (λ (p : Plugin). provides p (port key realm)) (32 - i) m i)
+    (i ≤ places) × (providerAt m (port key realm) ≡ searchFrom (λ (p : Plugin). provides p (port key realm)) (places - i) m i)
 
 abbrev μ-loop : tie.MeasureT-loop
-μ-loop m key realm i₀ i = 32 - i
+μ-loop m key realm i₀ i = places - i
 
 loop-holds : tie.Need-loop-holds Inv-loop μ-loop
 unfolding providerAt

@@ -1,6 +1,7 @@
 -- `close_gap` meets its contract: to move the words from j on, over those moved so far, is to close the gap.
 use mathlib.Core.Path.{_≡_, sym, _∙_}
 use Prim.Native.Nat.{_+_, _*_, _-_, _≤_}
+use Rattle.memory.specs.Layout.{rowsStart, rowWords}
 use Rattle.memory_rows.specs.Moves.{moved, closedGap}
 use Rattle.memory_rows.specs.Laws.{moved-next, moved-end, gap-none, gap-start}
 use native.Mathlib.Omega.{arith}
@@ -10,7 +11,7 @@ use Rattle.memory_rows.proofs.close_gap.Tie as tie
 
 abbrev Inv-loop : tie.InvT-loop
 Inv-loop m₀ start count end k stop j₀ m j =
-    (start * 2 + 2312 ≤ j) × (j ≤ stop) × (closedGap m₀ start count end ≡ moved (stop - j) m j k)
+    (start * rowWords + rowsStart ≤ j) × (j ≤ stop) × (closedGap m₀ start count end ≡ moved (stop - j) m j k)
 
 abbrev μ-loop : tie.MeasureT-loop
 μ-loop m₀ start count end k stop j₀ m j = stop - j

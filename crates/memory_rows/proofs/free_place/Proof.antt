@@ -1,6 +1,7 @@
 -- `free_place` meets its contract: in a taken place each call is a step of the definition, and a free place changes nothing.
 use Prim.Native.Nat.{_%_}
 use mathlib.Core.Path.{sym, _∙_}
+use Rattle.memory.specs.Layout.{places}
 use Rattle.memory_rows.specs.Laws.{free-steps, free-not}
 use native.Mathlib.Omega.{arith}
 use borrow.Author.Needs.{needs}
@@ -48,7 +49,7 @@ returns c =
     let p = c .before .before .before .before .before .before in
     let s = p .before .before .before .before .before .before .before in
     let a = s .before .before .before .before .before .args in
-    free-steps (a .m .now) _ _ _ (a .place % 32) _ _ _ _ _ (omega arith) (sym (s .before .before .before .is-taken .ensures) ∙ s .before .before .if1 .taken)
+    free-steps (a .m .now) _ _ _ (a .place % places) _ _ _ _ _ (omega arith) (sym (s .before .before .before .is-taken .ensures) ∙ s .before .before .if1 .taken)
     (p .before .before .before .before .before .before .before .start .ensures)
     (p .before .before .before .before .before .dependencies .ensures)
     (p .before .before .before .provisions .ensures)
@@ -61,7 +62,7 @@ returns c =
 returns-2 : tie.Need-returns-2
 returns-2 c =
     let a = c .before .before .before .args in
-    free-not (a .m .now) (a .place % 32) (sym (c .before .is-taken .ensures) ∙ c .if1 .left)
+    free-not (a .m .now) (a .place % places) (sym (c .before .is-taken .ensures) ∙ c .if1 .left)
 
 pub free-place-spec : {M : Type 1} → statement M
 free-place-spec =

@@ -1,6 +1,7 @@
 -- `lower_starts` meets its contract: to lower the starts from place i on, over those lowered so far, is to lower all.
 use mathlib.Core.Path.{_≡_, refl, sym, _∙_}
 use Prim.Native.Nat.{_-_, _≤_}
+use Rattle.memory.specs.Layout.{places}
 use Rattle.memory_rows.specs.Moves.{lowerFrom}
 use Rattle.memory_rows.specs.Laws.{lower-next, lower-end}
 use native.Mathlib.Omega.{arith}
@@ -9,10 +10,10 @@ use Rattle.memory_rows.proofs.lower_starts.Statement.{statement}
 use Rattle.memory_rows.proofs.lower_starts.Tie as tie
 
 abbrev Inv-loop : tie.InvT-loop
-Inv-loop m₀ end count i₀ m i = (i ≤ 32) × (lowerFrom 32 m₀ end count 0 ≡ lowerFrom (32 - i) m end count i)
+Inv-loop m₀ end count i₀ m i = (i ≤ places) × (lowerFrom places m₀ end count 0 ≡ lowerFrom (places - i) m end count i)
 
 abbrev μ-loop : tie.MeasureT-loop
-μ-loop m₀ end count i₀ m i = 32 - i
+μ-loop m₀ end count i₀ m i = places - i
 
 loop-holds : tie.Need-loop-holds Inv-loop μ-loop
 loop-holds c = (omega arith, refl)

@@ -1,5 +1,7 @@
 -- `value_at` meets its contract.
 use Prim.Native.Nat.{_%_}
+use Rattle.rules.specs.Limits.{maxProvisionKeys}
+use Rattle.memory.specs.Layout.{places}
 use Rattle.memory_values.proofs.Laws.{value-is, value-not}
 use borrow.Author.Needs.{needs}
 use Rattle.memory_values.proofs.value_at.Statement.{statement}
@@ -27,12 +29,12 @@ returns : tie.Need-returns
 returns c =
     let r = c .before .before in
     let a = r .before .args in
-    value-is (a .m .now) (a .place % 32) (a .provision % 15) _ (r .has-value .ensures) (c .before .if1 .taken)
+    value-is (a .m .now) (a .place % places) (a .provision % maxProvisionKeys) _ (r .has-value .ensures) (c .before .if1 .taken)
 
 returns-2 : tie.Need-returns-2
 returns-2 c =
     let a = c .before .before .args in
-    value-not (a .m .now) (a .place % 32) (a .provision % 15) _ (c .before .has-value .ensures) (c .if1 .left)
+    value-not (a .m .now) (a .place % places) (a .provision % maxProvisionKeys) _ (c .before .has-value .ensures) (c .if1 .left)
 
 pub value-at-spec : {M : Type 1} → statement M
 value-at-spec =

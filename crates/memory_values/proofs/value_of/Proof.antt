@@ -1,6 +1,7 @@
 -- `value_of` meets its contract.
 use Prim.Native.Nat.{_%_}
 use mathlib.Core.Path.{_∙_}
+use Rattle.memory.specs.Layout.{places}
 use Rattle.rules.specs.Holds.{port}
 use Rattle.memory_values.proofs.Laws.{no-value, its-value}
 use borrow.Author.Needs.{needs}
@@ -23,7 +24,7 @@ returns : tie.Need-returns
 returns c =
     let f = c .before .before in
     let a = f .before .before .args in
-    no-value (a .m .now) (a .place % 32) (port (a .key) (a .realm)) _ (f .before .provision-words .ensures) _ (f .place-of .ensures) (c .enum-told .given .1)
+    no-value (a .m .now) (a .place % places) (port (a .key) (a .realm)) _ (f .before .provision-words .ensures) _ (f .place-of .ensures) (c .enum-told .given .1)
 
 value-at-requires : tie.Need-value-at-requires
 value-at-requires c κs = search needs
@@ -34,7 +35,7 @@ returns-2 c =
     let f = j .before .before in
     let a = f .before .before .args in
     c .value-at .ensures
-    ∙ its-value (a .m .now) (a .place % 32) (port (a .key) (a .realm)) _ (f .before .provision-words .ensures) _ (f .place-of .ensures) _ (j .j .given .1)
+    ∙ its-value (a .m .now) (a .place % places) (port (a .key) (a .realm)) _ (f .before .provision-words .ensures) _ (f .place-of .ensures) _ (j .j .given .1)
 
 pub value-of-spec : {M : Type 1} → statement M
 value-of-spec =

@@ -7,14 +7,16 @@ use lib.ListN.{length, take}
 use lib.Seq.{take-all}
 use borrow.Author.Needs.{needs}
 use Rattle.rules.specs.Ports.{pairs, resolveIn}
+use Rattle.rules.specs.Limits.{maxProvisionKeys}
 use Rattle.ports.specs.Found.{resolve-with}
+use Rattle.ports_claimed.specs.Blocks.{claimRoom}
 use Rattle.ports_claimed.specs.Filled.{Lists, lists-key}
 use Rattle.ports_claimed.proofs.claims.Statement.{statement}
 use Rattle.ports_claimed.proofs.claims.Tie as tie
 
 abbrev Inv-loop : tie.InvT-loop
 Inv-loop realms other keys ports₀ i₀ ports i =
-    (i ≤ 15) × (i ≤ length keys) × Lists 32 (i + 1) ports (pairs (take 2 ports₀) ++ map (resolveIn other (pairs realms)) (take i keys))
+    (i ≤ maxProvisionKeys) × (i ≤ length keys) × Lists claimRoom (i + 1) ports (pairs (take 2 ports₀) ++ map (resolveIn other (pairs realms)) (take i keys))
 
 abbrev μ-loop : tie.MeasureT-loop
 μ-loop realms other keys ports₀ i₀ ports i = length keys - i
@@ -90,7 +92,7 @@ returns-2 : tie.Need-returns-2 Inv-loop μ-loop
 returns-2 c =
     let at = c .before in
     let keys = at .before .before .before .args .keys .now in
-    let t : take (at .loop .i) keys ≡ take 15 keys = take-all (at .loop .i) keys (omega arith) ∙ sym (take-all 15 keys (omega arith)) in
+    let t : take (at .loop .i) keys ≡ take maxProvisionKeys keys = take-all (at .loop .i) keys (omega arith) ∙ sym (take-all maxProvisionKeys keys (omega arith)) in
     let r = rw t at (at .loop .inv .2) in
     λ k. record { count = r .counted k; ports = r .numbers k }
 

@@ -10,10 +10,11 @@ use Rattle.rules.specs.declared.Port.{Port}
 use Rattle.rules.specs.Holds.{port, isIn}
 use Rattle.rules.specs.Ports.{pairs, resolve, resolveIn, realmsWith}
 use Rattle.rules.specs.Dependencies.{candidates, inherit, dependencyList}
+use Rattle.rules.specs.Limits.{maxDependencyKeys, maxDependencies}
 use Rattle.ports.specs.Places.{in-hit, in-miss}
 use Rattle.ports_inherited.specs.Blocks.{fitted}
 use Rattle.ports_claimed.specs.Filled.{Lists, listed, lists-own, lists-at, lists-end, lists-more}
-use Rattle.ports_resolved.specs.Blocks.{declared-lists}
+use Rattle.ports_resolved.specs.Blocks.{declared-lists, listRoom}
 use Rattle.ports_inherited.specs.Answers.{fitted-lists, fitted-longer}
 use Rattle.ports_inherited.proofs.Turns.{candidate-at, candidates-end, skip-provision, skip-listed, append-new, grows}
 use Rattle.ports_inherited.proofs.dependency_list.Statement.{statement}
@@ -32,8 +33,8 @@ abbrev μ-loop : tie.MeasureT-loop
 
 abbrev Inv-next : tie.InvT-next
 Inv-next realms other provisions keys parents ports₀ n₀ c₀ ports n c =
-    (n ≤ 48) × Lists 96 n ports (soFar n ports)
-    × (dependencyList (realmsWith other realms) (pairs provisions) (take 16 keys) (pairs parents)
+    (n ≤ maxDependencies) × Lists listRoom n ports (soFar n ports)
+    × (dependencyList (realmsWith other realms) (pairs provisions) (take maxDependencyKeys keys) (pairs parents)
     ≡ inherit (pairs provisions) (drop c (candidates (realmsWith other realms) (pairs parents))) (soFar n ports))
 
 abbrev μ-next : tie.MeasureT-next
@@ -75,9 +76,9 @@ unfolding dependencyList resolve
 next-holds c =
     let a = c .before .before .before .before .before .before .args in
     let f = resolveIn (a .other) (pairs (a .realms .now)) in
-    let keys = take 16 (a .keys .now) in
+    let keys = take maxDependencyKeys (a .keys .now) in
     let r = declared-lists (a .other) (pairs (a .realms .now)) (a .keys .now) (c .declared .ensures .0) (c .declared .ensures .1) in
-    let h : c .declared .result ≤ 48 = omega (arith, r .counted, length-map keys f, length-take 16 (a .keys .now)) in
+    let h : c .declared .result ≤ maxDependencies = omega (arith, r .counted, length-map keys f, length-take maxDependencyKeys (a .keys .now)) in
     (h, lists-own r, ap (λ (l : List Port). inherit (pairs (a .provisions .now)) (candidates (realmsWith (a .other) (a .realms .now)) (pairs (a .parents .now))) l) (sym (listed r)))
 
 mul-at : tie.Need-mul-at Inv-loop μ-loop Inv-next μ-next
@@ -185,7 +186,7 @@ returns c =
     let v = head t .next .inv in
     let l = list t ++ port-at t ∷ [] in
     let e = v .2 ∙ appended al in
-    let n : 48 < length (inherit (provided t) (rest t (head t .next .c + 1)) l) =
+    let n : maxDependencies < length (inherit (provided t) (rest t (head t .next .c + 1)) l) =
     omega (arith, grows (provided t) (rest t (head t .next .c + 1)) l, length-append (list t) (port-at t ∷ []), v .1 .counted, c .before .if4 .taken) in
     fitted-longer (inherit (provided t) (rest t (head t .next .c + 1)) l) n (c .longer .ensures .0) (c .longer .ensures .1) ∙ ap fitted (sym e)
 

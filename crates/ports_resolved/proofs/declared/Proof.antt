@@ -6,6 +6,7 @@ use mathlib.Core.List.{map}
 use lib.ListN.{length, take, drop, length-map, length-take}
 use borrow.Author.Needs.{needs}
 use Rattle.rules.specs.Ports.{pairs, resolveIn}
+use Rattle.rules.specs.Limits.{maxDependencyKeys}
 use Rattle.ports.specs.Found.{resolve-with}
 use Rattle.ports_resolved.specs.Blocks.{declaredOf, stored}
 use Rattle.ports_resolved.proofs.Laws.{stored-next, stored-end}
@@ -14,8 +15,8 @@ use Rattle.ports_resolved.proofs.declared.Tie as tie
 
 abbrev Inv-loop : tie.InvT-loop
 Inv-loop realms other keys ports₀ i₀ ports i =
-    (i ≤ 16) × (i ≤ length keys)
-    × (stored ports₀ 0 (declaredOf other (pairs realms) keys) ≡ stored ports i (map (resolveIn other (pairs realms)) (drop i (take 16 keys))))
+    (i ≤ maxDependencyKeys) × (i ≤ length keys)
+    × (stored ports₀ 0 (declaredOf other (pairs realms) keys) ≡ stored ports i (map (resolveIn other (pairs realms)) (drop i (take maxDependencyKeys keys))))
 
 abbrev μ-loop : tie.MeasureT-loop
 μ-loop realms other keys ports₀ i₀ ports i = length keys - i
@@ -29,8 +30,8 @@ returns c =
     let a = at .before .before .before .args in
     let keys = a .keys .now in
     let f = resolveIn (a .other) (pairs (a .realms .now)) in
-    let n = length-map (take 16 keys) f in
-    let t = length-take 16 keys in
+    let n = length-map (take maxDependencyKeys keys) f in
+    let t = length-take maxDependencyKeys keys in
     (omega (arith, n, t), sym (at .loop .inv .2 ∙ stored-end f keys (at .loop .ports) (at .loop .i) (omega (arith, t))))
 
 mul-new : tie.Need-mul-new Inv-loop μ-loop
@@ -86,8 +87,8 @@ returns-2 c =
     let a = at .before .before .before .args in
     let keys = a .keys .now in
     let f = resolveIn (a .other) (pairs (a .realms .now)) in
-    let n = length-map (take 16 keys) f in
-    let t = length-take 16 keys in
+    let n = length-map (take maxDependencyKeys keys) f in
+    let t = length-take maxDependencyKeys keys in
     (omega (arith, n, t), sym (at .loop .inv .2 ∙ stored-end f keys (at .loop .ports) (at .loop .i) (omega (arith, t))))
 
 pub declared-spec : {M : Type 1} → statement M

@@ -5,6 +5,7 @@ use mathlib.Core.Path.{_≡_, sym, _∙_}
 use mathlib.Core.Logic.{⊎-elim}
 use Rattle.rules.specs.Phases.{inUse}
 use Rattle.memory.specs.View.{pluginAt, view}
+use Rattle.memory.specs.Layout.{places}
 use Rattle.memory_places.specs.Any.{anyFrom, any-plugins, any-end, any-free, any-here, any-not}
 use Rattle.registry_needs.specs.Users.{userAt}
 use Rattle.registry_needs.proofs.Laws.{own-place}
@@ -13,13 +14,13 @@ use Rattle.registry_needs.proofs.in_use.Statement.{statement}
 use Rattle.registry_needs.proofs.in_use.Tie as tie
 
 abbrev Inv-loop : tie.InvT-loop
-Inv-loop m place i₀ i = (i ≤ 32) × (inUse (view m) (pluginAt m (place % 32)) ≡ anyFrom (userAt m (place % 32)) (32 - i) m i)
+Inv-loop m place i₀ i = (i ≤ places) × (inUse (view m) (pluginAt m (place % places)) ≡ anyFrom (userAt m (place % places)) (places - i) m i)
 
 abbrev μ-loop : tie.MeasureT-loop
-μ-loop m place i₀ i = 32 - i
+μ-loop m place i₀ i = places - i
 
 loop-holds : tie.Need-loop-holds Inv-loop μ-loop
-loop-holds c = let a = c .args in (omega arith, any-plugins (userAt (a .m .now) (a .place % 32)) (a .m .now))
+loop-holds c = let a = c .args in (omega arith, any-plugins (userAt (a .m .now) (a .place % places)) (a .m .now))
 
 is-taken-requires : tie.Need-is-taken-requires Inv-loop μ-loop
 is-taken-requires c κs = search needs
@@ -32,7 +33,7 @@ returns c =
     let t = c .before .before in
     let l = t .before .before .before in
     let a = l .before .args in
-    let p = a .place % 32 in
+    let p = a .place % places in
     let i = l .loop .i in
     let h = t .before .before .loop-test .taken in
     sym (l .loop .inv .1 ∙ any-here (userAt (a .m .now) p) (a .m .now) i h _ (sym (t .before .is-taken .ensures) ∙ t .if1 .taken) (own-place (a .m .now) p i h _ (c .before .is-user .ensures)) (c .if2 .taken))
@@ -48,20 +49,20 @@ loop-again c =
     let l = c .before .before .before in
     let a = l .before .args in
     let m = a .m .now in
-    let p = a .place % 32 in
+    let p = a .place % places in
     let i = l .loop .i in
     let h = c .before .before .loop-test .taken in
     let t = sym (c .before .is-taken .ensures) in (
       omega arith,
       l .loop .inv .1
-          ∙ ⊎-elim {C = anyFrom (userAt m p) (32 - i) m i ≡ anyFrom (userAt m p) (32 - (i + 1)) m (i + 1)} (λ w. any-not (userAt m p) m i h _ (t ∙ w .0 .taken) (own-place m p i h _ (w .1 .ensures)) (w .2 .left)) (λ w. any-free (userAt m p) m i h (t ∙ w .left)) (c .if1 .came),
+          ∙ ⊎-elim {C = anyFrom (userAt m p) (places - i) m i ≡ anyFrom (userAt m p) (places - (i + 1)) m (i + 1)} (λ w. any-not (userAt m p) m i h _ (t ∙ w .0 .taken) (own-place m p i h _ (w .1 .ensures)) (w .2 .left)) (λ w. any-free (userAt m p) m i h (t ∙ w .left)) (c .if1 .came),
     )
 
 returns-2 : tie.Need-returns-2 Inv-loop μ-loop
 returns-2 c =
     let l = c .before in
     let a = l .before .args in
-    sym (l .loop .inv .1 ∙ any-end (userAt (a .m .now) (a .place % 32)) (a .m .now) (l .loop .i) (c .loop-test .left))
+    sym (l .loop .inv .1 ∙ any-end (userAt (a .m .now) (a .place % places)) (a .m .now) (l .loop .i) (c .loop-test .left))
 
 pub in-use-spec : {M : Type 1} → statement M
 in-use-spec =

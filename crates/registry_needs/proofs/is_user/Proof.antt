@@ -1,5 +1,6 @@
 -- `is_user` meets its contract.
 use Prim.Native.Nat.{_%_}
+use Rattle.memory.specs.Layout.{places}
 use Rattle.registry_needs.proofs.Laws.{user-runs, user-rests}
 use borrow.Author.Needs.{needs}
 use Rattle.registry_needs.proofs.is_user.Statement.{statement}
@@ -21,12 +22,12 @@ returns : tie.Need-returns
 returns c =
     let r = c .before .before in
     let a = r .before .before .before .args in
-    user-runs (a .m .now) (a .user % 32) (a .place % 32) _ (r .before .before .load .ensures) _ (r .before .is-running .ensures) (r .if1 .taken) _ (c .before .dependency-words .ensures) _ (c .provides-one .ensures)
+    user-runs (a .m .now) (a .user % places) (a .place % places) _ (r .before .before .load .ensures) _ (r .before .is-running .ensures) (r .if1 .taken) _ (c .before .dependency-words .ensures) _ (c .provides-one .ensures)
 
 returns-2 : tie.Need-returns-2
 returns-2 c =
     let a = c .before .before .before .args in
-    user-rests (a .m .now) (a .user % 32) (a .place % 32) _ (c .before .before .load .ensures) _ (c .before .is-running .ensures) (c .if1 .left)
+    user-rests (a .m .now) (a .user % places) (a .place % places) _ (c .before .before .load .ensures) _ (c .before .is-running .ensures) (c .if1 .left)
 
 pub is-user-spec : {M : Type 1} → statement M
 is-user-spec =

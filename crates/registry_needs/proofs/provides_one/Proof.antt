@@ -9,6 +9,7 @@ use Rattle.rules.specs.declared.Port.{Port}
 use Rattle.rules.specs.Holds.{provides}
 use Rattle.rules.specs.Ports.{pairs}
 use Rattle.memory.specs.View.{pluginAt}
+use Rattle.memory.specs.Layout.{places}
 use Rattle.ports.specs.Places.{pairs-behind, pairs-end}
 use Rattle.registry_needs.specs.Users.{depends}
 use Rattle.registry_needs.proofs.Laws.{any-hit, any-miss}
@@ -17,7 +18,7 @@ use Rattle.registry_needs.proofs.provides_one.Statement.{statement}
 use Rattle.registry_needs.proofs.provides_one.Tie as tie
 
 abbrev Inv-loop : tie.InvT-loop
-Inv-loop m place ports i₀ i = (1 ≤ i) × (depends m (place % 32) (pairs ports) ≡ depends m (place % 32) (pairs (drop (i - 1) ports)))
+Inv-loop m place ports i₀ i = (1 ≤ i) × (depends m (place % places) (pairs ports) ≡ depends m (place % places) (pairs (drop (i - 1) ports)))
 
 abbrev μ-loop : tie.MeasureT-loop
 μ-loop m place ports i₀ i = length ports - i
@@ -47,7 +48,7 @@ returns : tie.Need-returns Inv-loop μ-loop
 returns c =
     let at = c .before .before .before .before .before in
     let a = at .before .before .args in
-    let f : Port → Bool = provides (pluginAt (a .m .now) (a .place % 32)) in
+    let f : Port → Bool = provides (pluginAt (a .m .now) (a .place % places)) in
     let s = pairs-behind (a .ports .now) (at .loop .i) (at .loop .inv .0) (c .before .before .before .before .loop-test .taken) in
     sym (at .loop .inv .1 ∙ any-hit f s (sym (c .before .provides .ensures) ∙ c .if1 .taken))
 
@@ -61,7 +62,7 @@ loop-again : tie.Need-loop-again Inv-loop μ-loop
 loop-again c =
     let at = c .before .before .before .before .before in
     let a = at .before .before .args in
-    let f : Port → Bool = provides (pluginAt (a .m .now) (a .place % 32)) in
+    let f : Port → Bool = provides (pluginAt (a .m .now) (a .place % places)) in
     let s = pairs-behind (a .ports .now) (at .loop .i) (at .loop .inv .0) (c .before .before .before .before .loop-test .taken) in
     (omega arith, at .loop .inv .1 ∙ any-miss f s (sym (c .before .provides .ensures) ∙ c .if1 .left))
 
@@ -69,7 +70,7 @@ returns-2 : tie.Need-returns-2 Inv-loop μ-loop
 returns-2 c =
     let at = c .before in
     let a = at .before .before .args in
-    let f : Port → Bool = provides (pluginAt (a .m .now) (a .place % 32)) in
+    let f : Port → Bool = provides (pluginAt (a .m .now) (a .place % places)) in
     sym (at .loop .inv .1 ∙ ap (any f) (pairs-end (a .ports .now) (at .loop .i - 1) (omega arith)))
 
 pub provides-one-spec : {M : Type 1} → statement M

@@ -6,6 +6,7 @@ use Rattle.rules.specs.Basics.{any}
 use Rattle.rules.specs.Holds.{plugins}
 use Rattle.rules.specs.Retirement.{isChildOf}
 use Rattle.memory.specs.View.{view}
+use Rattle.memory.specs.Layout.{places}
 use Rattle.memory_places.specs.Any.{anyFrom, any-plugins, any-end, any-free, any-here, any-never}
 use Rattle.registry_remove.specs.Laws.{named}
 use native.Mathlib.Omega.{arith}
@@ -14,10 +15,10 @@ use Rattle.registry_remove.proofs.has_children.Statement.{statement}
 use Rattle.registry_remove.proofs.has_children.Tie as tie
 
 abbrev Inv-loop : tie.InvT-loop
-Inv-loop m id i₀ i = (i ≤ 32) × (any (isChildOf id) (plugins (view m)) ≡ anyFrom (isChildOf id) (32 - i) m i)
+Inv-loop m id i₀ i = (i ≤ places) × (any (isChildOf id) (plugins (view m)) ≡ anyFrom (isChildOf id) (places - i) m i)
 
 abbrev μ-loop : tie.MeasureT-loop
-μ-loop m id i₀ i = 32 - i
+μ-loop m id i₀ i = places - i
 
 loop-holds : tie.Need-loop-holds Inv-loop μ-loop
 loop-holds c = (omega arith, any-plugins _ _)
@@ -51,7 +52,7 @@ loop-again c =
     let n = named m id i h _ (c .before .is-child-of .ensures) in (
       omega arith,
       c .before .before .before .loop .inv .1
-          ∙ ⊎-elim {C = anyFrom (isChildOf id) (32 - i) m i ≡ anyFrom (isChildOf id) (32 - (i + 1)) m (i + 1)} (λ w. any-free (isChildOf id) m i h (sym (w .1 .ensures) ∙ w .2 .left)) (λ w. any-never (isChildOf id) m i h _ n (w .left)) (c .if1 .came),
+          ∙ ⊎-elim {C = anyFrom (isChildOf id) (places - i) m i ≡ anyFrom (isChildOf id) (places - (i + 1)) m (i + 1)} (λ w. any-free (isChildOf id) m i h (sym (w .1 .ensures) ∙ w .2 .left)) (λ w. any-never (isChildOf id) m i h _ n (w .left)) (c .if1 .came),
     )
 
 returns-2 : tie.Need-returns-2 Inv-loop μ-loop

@@ -18,6 +18,7 @@ use Rattle.rules.specs.Steps.{Op, Event, lent}
 use Rattle.rules.specs.History.{Told, registered, removed, replaced, settled, retired, admitted, called, of, told, noted, story, stored, isRegistered, isRetired, ends}
 use Rattle.rules.specs.Laws.Tests.{by-test}
 use Rattle.rules.specs.Laws.Lookups.{stored-same, stored-other, freed-same, freed-other, added-same, added-other, length-stored, length-freed, length-added}
+use Rattle.rules.specs.Limits.{maxPlugins}
 
 abbrev pub isAdmission : Invocation → Told → Bool
 isAdmission t (admitted vs) = sameNumbers vs (five t)
@@ -68,7 +69,7 @@ Agrees d t h (some p) = Present d t h p
 -- A registry r after the events es since the start s.
 pub record Linked (s : Registry) (es : List Event) (r : Registry) : Type 0 where
   pub domain : r .domain ≡ s .domain
-  pub room : length (r .places) ≡ 32
+  pub room : length (r .places) ≡ maxPlugins
   pub fresh : (x : ℕ) → r .next ≤ x → lookup r x ≡ none
   pub unborn : (x : ℕ) → r .next ≤ x → story s x es ≡ []
   pub agrees : (t : Invocation) → Agrees (s .domain) t (story s (t .id) es) (lookup r (t .id))
@@ -167,7 +168,7 @@ module _ (s : Registry) (es : List Event) (r : Registry) (w : Linked s es r) whe
       (λ x n. stored-other x (r .places) q (ne-eqb (q .id) x (λ h. eqb-false id x n (sym i ∙ h))))
       (λ t j a. f t _ j a)
 
-  pub added-one : (o : Op) (vs : List ℕ) (q : Plugin) (k : Told) → told o vs ≡ of (q .id) k → q .id ≡ r .next → count r < 32
+  pub added-one : (o : Op) (vs : List ℕ) (q : Plugin) (k : Told) → told o vs ≡ of (q .id) k → q .id ≡ r .next → count r < maxPlugins
       → ((t : Invocation) → Present (s .domain) t (k ∷ []) q) → Good s es r o (adds q vs)
   unfolding Good after lookup count
   added-one o vs q k n i l f =

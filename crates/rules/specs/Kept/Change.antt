@@ -15,6 +15,7 @@ use Rattle.rules.specs.Laws.Members.{In}
 use Rattle.rules.specs.Built.{idsOf, Member, Built}
 use Rattle.rules.specs.Kept.Places.{Only}
 use Rattle.rules.specs.Kept.Wiring.{IfSome, Rewired, rewired}
+use Rattle.rules.specs.Limits.{maxRows}
 
 -- a registered parent is still registered
 pub found-after : (r r′ : Registry) (id : ℕ) (u u′ : Option Plugin) → Only r r′ id u u′ → (x : ℕ) → (id ≡ x → isSome u′ ≡ true)
@@ -31,7 +32,7 @@ pub record Change (r r′ : Registry) (id : ℕ) (u u′ : Option Plugin) : Type
   pub first : r′ .first ≡ r .first
   pub next : r .next ≤ r′ .next
   pub ids : r′ .next ≤ last
-  pub rows : rowsInUse r′ ≤ 1024
+  pub rows : rowsInUse r′ ≤ maxRows
   pub once : twice (idsOf (plugins r′)) ≡ false
   pub member : IfSome (Member r′) u′
   -- it is still there if it is a parent

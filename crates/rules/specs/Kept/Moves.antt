@@ -26,6 +26,7 @@ use Rattle.rules.specs.Kept.Plugins.{Alike, alike-rows, alike-provides, 
 use Rattle.rules.specs.Kept.Providers.{available-served, not-in-use, unprovided}
 use Rattle.rules.specs.Kept.Wiring.{Rewired}
 use Rattle.rules.specs.Kept.Change.{found-after, built-after}
+use Rattle.rules.specs.Limits.{maxPlugins, maxRows}
 
 -- The plugin p, registered, becomes q.
 pub record Turn (r : Registry) (p q : Plugin) : Type 0 where
@@ -100,8 +101,8 @@ module _ (r : Registry) (b : Built r) (p q : Plugin) (e : lookup r (q .id) ≡ s
 pub record Join (r : Registry) (q : Plugin) : Type 0 where
   pub id : q .id ≡ r .next
   pub ids : r .next ≢ last
-  pub room : count r < 32
-  pub rows : rowsInUse r + rowsOf q ≤ 1024
+  pub room : count r < maxPlugins
+  pub rows : rowsInUse r + rowsOf q ≤ maxRows
   pub parent : (x : ℕ) → q .parent ≡ some x → isSome (lookup r x) ≡ true
   pub shaped : Shaped q
   pub lively : Lively q

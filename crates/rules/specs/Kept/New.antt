@@ -18,6 +18,7 @@ use Rattle.rules.specs.Laws.Members.{In, any-false, same-port, is-in}
 use Rattle.rules.specs.Built.{Shaped, Lively}
 use Rattle.rules.specs.Kept.Plugins.{unvalued}
 use Rattle.rules.specs.Kept.Moves.{Join}
+use Rattle.rules.specs.Limits.{maxRows, maxDependencyKeys, maxProvisionKeys, maxDependencies, maxRealmRows}
 
 -- a key's port has that key, so what a key resolved to resolves to itself
 key-in : (other k : ℕ) (rows : List Port) → resolveIn other rows k .key ≡ k
@@ -51,18 +52,18 @@ module _ (r : Registry) (d : Definition) where
       let ports = resolved d (d .provisions) in
       map-map (λ (v : Provision). v .port) unoffered ports ∙ map-id ports
 
-  new-shaped : badRealms (d .realms) ≡ false → ltb 15 (length (d .provisions)) ≡ false → repeats (claimed d) ≡ false
-      → ltb 48 (length (dependenciesOf r d)) ≡ false → Shaped (newPlugin r d)
+  new-shaped : badRealms (d .realms) ≡ false → ltb maxProvisionKeys (length (d .provisions)) ≡ false → repeats (claimed d) ≡ false
+      → ltb maxDependencies (length (dependenciesOf r d)) ≡ false → Shaped (newPlugin r d)
   unfolding newPlugin badRealms
   new-shaped bad many twice long =
       let rows = pairs (d .realms) in
-      let odd = neither (oddLength (d .realms) || ltb 16 (length rows)) (not (rising rows)) bad in
+      let odd = neither (oddLength (d .realms) || ltb maxRealmRows (length rows)) (not (rising rows)) bad in
       record {
-        realm-rows = ltb-false 16 (length rows) (neither (oddLength (d .realms)) (ltb 16 (length rows)) (odd .0) .1);
+        realm-rows = ltb-false maxRealmRows (length rows) (neither (oddLength (d .realms)) (ltb maxRealmRows (length rows)) (odd .0) .1);
         rise = not-false (rising rows) (odd .1);
         default = refl;
-        provisions = rw (length-map, length-map) (ltb-false 15 _ many);
-        dependencies = ltb-false 48 _ long;
+        provisions = rw (length-map, length-map) (ltb-false maxProvisionKeys _ many);
+        dependencies = ltb-false maxDependencies _ long;
         resolved = λ q m. resolved-in (realmsOf (d .realms)) (d .provisions) q (subst (In q) new-ports m);
         apart = rw new-ports twice;
       }
@@ -89,9 +90,9 @@ module _ (r : Registry) (d : Definition) where
         id = refl;
         ids = eqb-false (r .next) last (limits .0);
         room = leb-false _ _ (limits .1 .0);
-        rows = ltb-false 1024 _ (limits .1 .1 .1 .0);
+        rows = ltb-false maxRows _ (limits .1 .1 .1 .0);
         parent = parent-found r (d .parent) (c .1 .1 .0);
-        shaped = new-shaped (c .0) (neither (ltb 16 (length (d .dependencies))) (ltb 15 (length (d .provisions))) (c .1 .0) .1) (ports .0) (limits .1 .1 .0);
+        shaped = new-shaped (c .0) (neither (ltb maxDependencyKeys (length (d .dependencies))) (ltb maxProvisionKeys (length (d .provisions))) (c .1 .0) .1) (ports .0) (limits .1 .1 .0);
         lively = new-lively;
         rests = refl;
         untaken = λ k h. any-false (λ q. isSome (provider r q)) (claimed d) k (ports .1 .0)
