@@ -4,7 +4,7 @@ ghost use mathlib.Core.List.{[]};
 ghost use lib.ListN.{take};
 ghost use Rattle.rules.specs.Ports.{pairs, realmsWith};
 ghost use Rattle.rules.specs.Dependencies.{dependencyList};
-ghost use Rattle.ports_claimed.specs.Blocks.{filled};
+ghost use Rattle.ports_resolved.specs.Filled.{filled};
 ghost use Rattle.ports_inherited.specs.Blocks.{fitted};
 
 // A finished dependency list of at most 48 ports. A count of 49 says that it is longer.

@@ -12,8 +12,8 @@ use Rattle.rules.specs.Ports.{pairs, resolve, resolveIn, realmsWith}
 use Rattle.rules.specs.Dependencies.{candidates, inherit, dependencyList}
 use Rattle.ports.specs.Places.{in-hit, in-miss}
 use Rattle.ports_inherited.specs.Blocks.{fitted}
-use Rattle.ports_claimed.specs.Filled.{Lists, listed, lists-own, lists-at, lists-end, lists-more}
-use Rattle.ports_resolved.specs.Blocks.{declared-lists}
+use Rattle.ports_resolved.specs.Filled.{Lists, listed, lists-own, lists-at, lists-end, lists-more}
+use Rattle.ports_resolved.specs.Stored.{declared-lists}
 use Rattle.ports_inherited.specs.Answers.{fitted-lists, fitted-longer}
 use Rattle.ports_inherited.proofs.Turns.{candidate-at, candidates-end, skip-provision, skip-listed, append-new, grows}
 use Rattle.ports_inherited.proofs.dependency_list.Statement.{statement}

@@ -14,9 +14,9 @@ use Rattle.rules.specs.Ports.{pairs, resolveIn, resolve}
 use Rattle.rules.specs.Registration.{repeats}
 use Rattle.rules.specs.Laws.Tests.{by-test}
 use Rattle.ports.specs.Found.{resolve-key-law}
-use Rattle.ports_claimed.specs.declared.Claimed.{Claimed}
-use Rattle.ports_claimed.specs.Blocks.{keysRepeat, claimsOf}
-use Rattle.ports_claimed.specs.Filled.{Lists, listed, listed-behind}
+use Rattle.ports_resolved.specs.declared.Claimed.{Claimed}
+use Rattle.ports_resolved.specs.Keys.{keysRepeat, claimsOf}
+use Rattle.ports_resolved.specs.Filled.{Lists, listed, listed-behind}
 
 -- resolved ports are the same exactly if their keys are
 module _ (other : ℕ) (rows : List Port) where
