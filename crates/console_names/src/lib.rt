@@ -4,6 +4,7 @@ ghost use lib.ListN.{getD, drop};
 ghost use Rattle.console_words.specs.Sense.{words};
 ghost use Rattle.console_names.specs.Names.{placeAmong};
 ghost use Rattle.console_names.specs.Table.{names, rowAt, takes};
+ghost use Rattle.console_names.specs.Rows.{kindOf, rowOf};
 ghost use Rattle.console_names.specs.Behind.{Numbered};
 
 // How many numbers stand behind a name: so many, or so many and then as many as wished.
@@ -97,40 +98,82 @@ pub const NEXT: usize = 29;
 // How many operations there are.
 const OPERATIONS: usize = 32;
 
-// A row for each operation; a new one goes to the end, and its name to the end of the names below.
-const TABLE: [Row; OPERATIONS] = [
-    Row::Takes(Count::Exactly(2), Kind::Registry(Values::Nothing)), // open
-    Row::Register, // register
-    Row::Takes(Count::Exactly(1), Kind::Registry(Values::Numbers)), // begin
-    Row::Takes(Count::Exactly(1), Kind::Registry(Values::Nothing)), // ready
-    Row::Takes(Count::Exactly(1), Kind::Registry(Values::Nothing)), // fail
-    Row::Takes(Count::Exactly(1), Kind::Registry(Values::Nothing)), // unload
-    Row::Takes(Count::Exactly(1), Kind::Registry(Values::Nothing)), // finish
-    Row::Takes(Count::Exactly(2), Kind::Registry(Values::Numbers)), // replace
-    Row::Takes(Count::Exactly(2), Kind::Registry(Values::YesOrNo)), // fits
-    Row::Takes(Count::Exactly(5), Kind::Registry(Values::Numbers)), // admit
-    Row::Takes(Count::Exactly(5), Kind::Registry(Values::Numbers)), // call
-    Row::Takes(Count::Exactly(1), Kind::Registry(Values::Nothing)), // retire
-    Row::Takes(Count::Exactly(3), Kind::Registry(Values::Nothing)), // retire_child
-    Row::Takes(Count::Exactly(1), Kind::Registry(Values::Nothing)), // remove
-    Row::Takes(Count::Exactly(1), Kind::Registry(Values::NumbersOrNone)), // child
-    Row::Takes(Count::Exactly(4), Kind::Registry(Values::Nothing)), // offer
-    Row::Takes(Count::Exactly(3), Kind::Registry(Values::Numbers)), // read
-    Row::Takes(Count::Exactly(2), Kind::Registry(Values::NumbersOrNone)), // visible
-    Row::Takes(Count::Exactly(1), Kind::Registry(Values::NumbersOrNone)), // missing
-    Row::Takes(Count::AtLeast(1), Kind::Registry(Values::YesOrNo)), // matches
-    Row::Takes(Count::Exactly(3), Kind::Registry(Values::YesOrNo)), // declares
-    Row::Takes(Count::Exactly(2), Kind::Registry(Values::NumbersOrNone)), // lookup
-    Row::Takes(Count::AtLeast(1), Kind::Registry(Values::Numbers)), // resolve
-    Row::Takes(Count::Exactly(2), Kind::Lists(Held::Deps)), // deps
-    Row::Takes(Count::Exactly(2), Kind::Lists(Held::Provs)), // provs
-    Row::Takes(Count::Exactly(2), Kind::Lists(Held::Realms)), // realms
-    Row::Takes(Count::Exactly(2), Kind::Buffer), // buffer
-    Row::Takes(Count::Exactly(0), Kind::Registry(Values::Numbers)), // rows
-    Row::Takes(Count::Exactly(0), Kind::Registry(Values::Numbers)), // count
-    Row::Takes(Count::Exactly(0), Kind::Registry(Values::Numbers)), // next
-    Row::Takes(Count::Exactly(1), Kind::Show), // show
-    Row::Slot, // slot
+// What is done with the numbers, as the table says it; each has its place among these.
+const KINDS: [Kind; 9] = [
+    Kind::Show,
+    Kind::Buffer,
+    Kind::Lists(Held::Deps),
+    Kind::Lists(Held::Provs),
+    Kind::Lists(Held::Realms),
+    Kind::Registry(Values::Nothing),
+    Kind::Registry(Values::Numbers),
+    Kind::Registry(Values::NumbersOrNone),
+    Kind::Registry(Values::YesOrNo),
+];
+
+const SHOW: usize = 0;
+
+const BUFFER: usize = 1;
+
+const DEPS: usize = 2;
+
+const PROVS: usize = 3;
+
+const REALMS: usize = 4;
+
+const NOTHING: usize = 5;
+
+const NUMBERS: usize = 6;
+
+const NUMBERS_OR_NONE: usize = 7;
+
+const YES_OR_NO: usize = 8;
+
+// Words of its own stand behind the name.
+const SLOT: usize = 9;
+
+const REGISTER: usize = 10;
+
+// No more numbers than are due, or as many more as wished.
+const ONLY: usize = 0;
+
+const MORE: usize = 1;
+
+// A row for each operation: how many numbers are due, whether more may stand there, what is done with them. A new one goes to
+// the end, and its name to the end of the names below.
+const TABLE: [[usize; 3]; OPERATIONS] = [
+    [2, ONLY, NOTHING], // open
+    [0, ONLY, REGISTER], // register
+    [1, ONLY, NUMBERS], // begin
+    [1, ONLY, NOTHING], // ready
+    [1, ONLY, NOTHING], // fail
+    [1, ONLY, NOTHING], // unload
+    [1, ONLY, NOTHING], // finish
+    [2, ONLY, NUMBERS], // replace
+    [2, ONLY, YES_OR_NO], // fits
+    [5, ONLY, NUMBERS], // admit
+    [5, ONLY, NUMBERS], // call
+    [1, ONLY, NOTHING], // retire
+    [3, ONLY, NOTHING], // retire_child
+    [1, ONLY, NOTHING], // remove
+    [1, ONLY, NUMBERS_OR_NONE], // child
+    [4, ONLY, NOTHING], // offer
+    [3, ONLY, NUMBERS], // read
+    [2, ONLY, NUMBERS_OR_NONE], // visible
+    [1, ONLY, NUMBERS_OR_NONE], // missing
+    [1, MORE, YES_OR_NO], // matches
+    [3, ONLY, YES_OR_NO], // declares
+    [2, ONLY, NUMBERS_OR_NONE], // lookup
+    [1, MORE, NUMBERS], // resolve
+    [2, ONLY, DEPS], // deps
+    [2, ONLY, PROVS], // provs
+    [2, ONLY, REALMS], // realms
+    [2, ONLY, BUFFER], // buffer
+    [0, ONLY, NUMBERS], // rows
+    [0, ONLY, NUMBERS], // count
+    [0, ONLY, NUMBERS], // next
+    [1, ONLY, SHOW], // show
+    [0, ONLY, SLOT], // slot
 ];
 
 // How many numbers stand behind a name, and whether nothing else does.
@@ -177,12 +220,38 @@ pub fn operation(name: &[u8]) -> usize
     )
 }
 
+fn kind_of(kind: usize) -> Kind
+    ensures { λ r. ⌜ r ≡ kindOf kind ⌝ }
+{
+    if kind < 9 {
+        return KINDS[kind];
+    }
+    Kind::Show
+}
+
+fn row_of(due: usize, more: usize, kind: usize) -> Row
+    ensures { λ r. ⌜ r ≡ rowOf due more kind ⌝ }
+{
+    if kind == SLOT {
+        return Row::Slot;
+    }
+    if kind == REGISTER {
+        return Row::Register;
+    }
+    let done = kind_of(kind);
+    if more == MORE {
+        return Row::Takes(Count::AtLeast(due), done);
+    }
+    Row::Takes(Count::Exactly(due), done)
+}
+
 // An operation's row; a place that none has is unknown.
 pub fn row_at(place: usize) -> Row
     ensures { λ r. ⌜ r ≡ rowAt place ⌝ }
 {
     if place < OPERATIONS {
-        return TABLE[place];
+        let row = TABLE[place];
+        return row_of(row[0], row[1], row[2]);
     }
     Row::Unknown
 }

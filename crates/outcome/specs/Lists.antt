@@ -6,7 +6,6 @@ use Rattle.rules.proofs as rules
 use Rattle.slot.proofs as slot
 use Rattle.ports_listed.proofs as ports_listed
 use Rattle.ports.proofs as ports
-use Rattle.ports_claimed.proofs as ports_claimed
 use Rattle.ports_resolved.proofs as ports_resolved
 use Rattle.ports_inherited.proofs as ports_inherited
 use Rattle.outcome.specs.One.{One}
@@ -63,11 +62,11 @@ ports-same-ports κs a r s ms ns p q = by-equation p q
 pub ports-repeated : One ports.repeated.ended ports.repeated.Reads.Learnt
 ports-repeated κs a r s ms ns p q = by-equation p q
 
-pub ports-claimed-repeated-key : One ports_claimed.«repeated_key».ended ports_claimed.«repeated_key».Reads.Learnt
-ports-claimed-repeated-key κs a r s ms ns p q = by-equation p q
+pub ports-resolved-repeated-key : One ports_resolved.«repeated_key».ended ports_resolved.«repeated_key».Reads.Learnt
+ports-resolved-repeated-key κs a r s ms ns p q = by-equation p q
 
-pub ports-claimed-claims : One ports_claimed.claims.ended ports_claimed.claims.Reads.Learnt
-ports-claimed-claims κs a r s ms ns p q = by-equation p q
+pub ports-resolved-claims : One ports_resolved.claims.ended ports_resolved.claims.Reads.Learnt
+ports-resolved-claims κs a r s ms ns p q = by-equation p q
 
 pub ports-resolved-declared : One ports_resolved.declared.ended ports_resolved.declared.Reads.Learnt
 ports-resolved-declared κs a r s ms ns p q = by-two p q

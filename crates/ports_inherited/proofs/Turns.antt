@@ -12,7 +12,7 @@ use Rattle.rules.specs.Dependencies.{candidates, inherit, skipped}
 use Rattle.rules.specs.Laws.Tests.{by-test}
 use Rattle.ports.specs.Places.{length-pairs, pairs-get}
 use Rattle.ports.specs.Found.{resolve-key-law}
-use Rattle.ports_resolved.specs.Blocks.{candidateRealm}
+use Rattle.ports_resolved.specs.Keys.{candidateRealm}
 
 length-candidates : (z : Realms) (ps : List Port) → length (candidates z ps) ≡ 2 * length ps
 length-candidates z [] = refl

@@ -13,9 +13,8 @@ use Rattle.rules.specs.Ports.{pairs}
 use Rattle.rules.specs.Dependencies.{dependencyList}
 use Rattle.rules.specs.Laws.Tests.{by-test}
 use Rattle.rules.specs.Limits.{maxDependencyKeys, maxDependencies}
-use Rattle.ports_claimed.specs.Blocks.{filled}
-use Rattle.ports_claimed.specs.Filled.{Lists, listed}
-use Rattle.ports_resolved.specs.Blocks.{listRoom}
+use Rattle.ports_resolved.specs.Filled.{filled, Lists, listed}
+use Rattle.ports_resolved.specs.Keys.{listRoom}
 use Rattle.ports_inherited.specs.declared.Dependencies.{Dependencies}
 use Rattle.ports_inherited.specs.Blocks.{fitted}
 

@@ -7,8 +7,8 @@ use Rattle.rules.specs.Basics.{pick}
 use Rattle.rules.specs.declared.Port.{Port}
 use Rattle.rules.specs.Ports.{flat}
 use Rattle.rules.specs.Limits.{maxDependencies}
-use Rattle.ports_claimed.specs.Blocks.{filled}
-use Rattle.ports_resolved.specs.Blocks.{listRoom}
+use Rattle.ports_resolved.specs.Filled.{filled}
+use Rattle.ports_resolved.specs.Keys.{listRoom}
 use Rattle.ports_inherited.specs.declared.Dependencies.{Dependencies}
 
 -- a list of at most 48 ports with its count; of a longer one only that it is longer

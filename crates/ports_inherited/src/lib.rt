@@ -6,10 +6,10 @@ ghost use lib.ListN.{take};
 ghost use Rattle.rules.specs.Ports.{pairs, realmsWith};
 ghost use Rattle.rules.specs.Dependencies.{dependencyList};
 ghost use Rattle.rules.specs.Limits.{maxDependencyKeys, maxDependencies};
-ghost use Rattle.ports_claimed.specs.Blocks.{filled};
-ghost use Rattle.ports_resolved.specs.Blocks.{listRoom};
+ghost use Rattle.ports_resolved.specs.Filled.{filled};
+ghost use Rattle.ports_resolved.specs.Keys.{listRoom};
 ghost use Rattle.ports_inherited.specs.Blocks.{fitted};
-use ports_resolved::ROOM;
+use ports_resolved::LIST_ROOM;
 use rules::limits;
 
 // The count that says that a list is too long.
@@ -18,7 +18,7 @@ pub const LONGER: usize = limits::DEPENDENCIES + 1;
 // A finished dependency list of at most 48 ports, or that it is longer.
 pub struct Dependencies {
     pub count: usize,
-    pub ports: [u64; ROOM],
+    pub ports: [u64; LIST_ROOM],
 }
 
 // The list of a new plugin: the first 16 declared keys resolved, then for each port of the parent's list itself and its
@@ -33,7 +33,7 @@ pub fn dependency_list(
     ensures { λ r. ⌜ r ≡ fitted (dependencyList (realmsWith other (now (realms .entry))) (pairs (now (provisions .entry)))
         (take maxDependencyKeys (now (keys .entry))) (pairs (now (parents .entry)))) ⌝ }
 {
-    let mut ports = [0u64; ROOM];
+    let mut ports = [0u64; LIST_ROOM];
     let mut n = ports_resolved::declared(realms, other, keys, &mut ports);
     let mut c: usize = 0;
     'next: while c / 2 < parents.len() / 2 {
@@ -69,6 +69,6 @@ fn longer() -> Dependencies
 {
     Dependencies {
         count: LONGER,
-        ports: [0u64; ROOM],
+        ports: [0u64; LIST_ROOM],
     }
 }

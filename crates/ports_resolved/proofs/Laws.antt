@@ -8,7 +8,8 @@ use lib.ListN.{length, getD, set, take, drop, length-take, drop-of-length-le}
 use lib.Seq.{getD-take, drop-cons}
 use Rattle.rules.specs.declared.Port.{Port}
 use Rattle.rules.specs.Limits.{maxDependencyKeys}
-use Rattle.ports_resolved.specs.Blocks.{stored}
+use Rattle.ports_resolved.specs.Stored.{stored}
+use Rattle.ports_resolved.specs.Stored.{stored}
 
 module _ (f : ℕ → Port) (keys array : List ℕ) (i : ℕ) where
   pub stored-next : (q : Port) → i < length keys → i < maxDependencyKeys → q ≡ f (getD keys i 0)

@@ -1,1 +1,4 @@
-pub mod Blocks
+pub mod Filled
+pub mod Keys
+pub mod Stored
+pub mod Answers

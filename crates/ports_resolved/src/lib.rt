@@ -1,15 +1,72 @@
-// Document 01, "Dependency list": what its keys resolve to, the declared ones and those of the parent's list.
+// What keys resolve to: the ports that a registration claims, and those of document 01's "Dependency list", the declared ones and
+// the candidates of the parent's list.
 ghost use mathlib.Core.Path.{_≡_};
 ghost use Rattle.rules.specs.Ports.{pairs};
-ghost use Rattle.ports_resolved.specs.Blocks.{declaredOf, Stores, candidateRealm};
+ghost use Rattle.ports_resolved.specs.Keys.{keysRepeat, claimsOf, declaredOf, candidateRealm};
+ghost use Rattle.ports_resolved.specs.Stored.{Stores};
 use rules::Port;
 use rules::limits;
 
+// The anchor and the provisions.
+const CLAIMS: usize = limits::PROVISION_KEYS + 1;
+
+// Room for them, as key and realm.
+pub const CLAIM_ROOM: usize = CLAIMS * 2;
+
 // Room for a finished dependency list, as key and realm.
-pub const ROOM: usize = limits::DEPENDENCIES * 2;
+pub const LIST_ROOM: usize = limits::DEPENDENCIES * 2;
+
+// The anchor, then the resolved provisions.
+pub struct Claimed {
+    pub count: usize,
+    pub ports: [u64; CLAIM_ROOM],
+}
+
+// Whether a key stands twice among declared keys.
+pub fn repeated_key(keys: &[u64]) -> bool
+    ensures { λ r. ⌜ r ≡ keysRepeat (now (keys .entry)) ⌝ }
+{
+    let mut i: usize = 0;
+    while i < keys.len() {
+        let key = keys[i];
+        let mut j = i + 1;
+        while j < keys.len() {
+            if keys[j] == key {
+                return true;
+            }
+            j += 1;
+        }
+        i += 1;
+    }
+    false
+}
+
+// The anchor and the ports of the first 15 provision keys.
+pub fn claims(realms: &[u64], other: u64, anchor: Port, keys: &[u64]) -> Claimed
+    ensures { λ r. ⌜ r ≡ claimsOf other (pairs (now (realms .entry))) anchor (now (keys .entry)) ⌝ }
+{
+    let mut ports = [0u64; CLAIM_ROOM];
+    ports[0] = anchor.key;
+    ports[1] = anchor.realm;
+    let mut i: usize = 0;
+    while i < keys.len() {
+        if i == limits::PROVISION_KEYS {
+            return Claimed {
+                count: CLAIMS,
+                ports,
+            };
+        }
+        let q = ports::resolve(realms, Port::new(keys[i], other));
+        ports[i * 2 + 2] = q.key;
+        ports[i * 2 + 3] = q.realm;
+        i += 1;
+    }
+    let count = i + 1;
+    Claimed { count, ports }
+}
 
 // The first 16 declared keys, resolved, in the front of an array that a finished list fits into; their count.
-pub fn declared(realms: &[u64], other: u64, keys: &[u64], ports: &mut [u64; ROOM]) -> usize
+pub fn declared(realms: &[u64], other: u64, keys: &[u64], ports: &mut [u64; LIST_ROOM]) -> usize
     ensures { λ r. ⌜ Stores (declaredOf other (pairs (now (realms .entry))) (now (keys .entry))) (now (ports .entry)) r (now (ports .exit)) ⌝ }
 {
     let mut i: usize = 0;

@@ -23,8 +23,8 @@ use Rattle.memory.specs.declared.Parent.{Parent}
 use Rattle.memory.specs.declared.Parent.the-variants.{Of, Nobody}
 use Rattle.memory.specs.declared.Place.{Place}
 use Rattle.memory.specs.declared.Place.the-variants.{At, Nowhere}
-use Rattle.ports_claimed.specs.Blocks.{keysRepeat}
-use Rattle.ports_claimed.specs.Answers.{keys-repeat-in}
+use Rattle.ports_resolved.specs.Keys.{keysRepeat}
+use Rattle.ports_resolved.specs.Answers.{keys-repeat-in}
 use Rattle.registry_checks.specs.declared.Checked.{Checked}
 use Rattle.registry_checks.specs.declared.Checked.the-variants.{Passed, Refused}
 use Rattle.registry_checks.specs.declared.Early.{Early}

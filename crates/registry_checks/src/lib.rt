@@ -72,7 +72,7 @@ pub fn early_verdict(
     let Early::Passed(_) = of_parent else {
         return of_parent;
     };
-    if ports_claimed::repeated_key(dependencies) {
+    if ports_resolved::repeated_key(dependencies) {
         return Early::Refused(refusal::DUPLICATE_DEPENDENCY);
     }
     of_parent

@@ -28,10 +28,10 @@ use Rattle.memory.specs.declared.Place.{Place}
 use Rattle.memory.specs.declared.Place.the-variants.{At, Nowhere}
 use Rattle.memory_places.specs.Changes.{freeAt}
 use Rattle.ports.specs.Places.{length-pairs, length-flat, pairs-flat, flat-pairs-even, good-realms}
-use Rattle.ports_claimed.specs.declared.Claimed.{Claimed}
-use Rattle.ports_claimed.specs.Blocks.{claimsOf}
-use Rattle.ports_claimed.specs.Filled.{listed-words}
-use Rattle.ports_claimed.specs.Answers.{map-resolve, claims-law}
+use Rattle.ports_resolved.specs.declared.Claimed.{Claimed}
+use Rattle.ports_resolved.specs.Keys.{claimsOf}
+use Rattle.ports_resolved.specs.Filled.{listed-words}
+use Rattle.ports_resolved.specs.Answers.{map-resolve, claims-law}
 use Rattle.ports_inherited.specs.declared.Dependencies.{Dependencies}
 use Rattle.ports_inherited.specs.Blocks.{fitted}
 use Rattle.ports_inherited.specs.Answers.{dependency-law, fitted-law, fitted-long}

@@ -103,7 +103,7 @@ pub fn register(
         Early::Passed(place) => place,
         Early::Refused(n) => return Registered::Refused(n),
     };
-    let claimed = ports_claimed::claims(realms, Port::DEFAULT_REALM, anchor, provisions);
+    let claimed = ports_resolved::claims(realms, Port::DEFAULT_REALM, anchor, provisions);
     let claims = registry_prepare::first_rows(&claimed.ports, claimed.count);
     if let Checked::Refused(n) = registry_checks::claim_verdict(m, claims) {
         return Registered::Refused(n);

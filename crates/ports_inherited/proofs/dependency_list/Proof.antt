@@ -13,8 +13,9 @@ use Rattle.rules.specs.Dependencies.{candidates, inherit, dependencyList}
 use Rattle.rules.specs.Limits.{maxDependencyKeys, maxDependencies}
 use Rattle.ports.specs.Places.{in-hit, in-miss}
 use Rattle.ports_inherited.specs.Blocks.{fitted}
-use Rattle.ports_claimed.specs.Filled.{Lists, listed, lists-own, lists-at, lists-end, lists-more}
-use Rattle.ports_resolved.specs.Blocks.{declared-lists, listRoom}
+use Rattle.ports_resolved.specs.Filled.{Lists, listed, lists-own, lists-at, lists-end, lists-more}
+use Rattle.ports_resolved.specs.Stored.{declared-lists}
+use Rattle.ports_resolved.specs.Keys.{listRoom}
 use Rattle.ports_inherited.specs.Answers.{fitted-lists, fitted-longer}
 use Rattle.ports_inherited.proofs.Turns.{candidate-at, candidates-end, skip-provision, skip-listed, append-new, grows}
 use Rattle.ports_inherited.proofs.dependency_list.Statement.{statement}

@@ -8,7 +8,8 @@ use borrow.Author.Needs.{needs}
 use Rattle.rules.specs.Ports.{pairs, resolveIn}
 use Rattle.rules.specs.Limits.{maxDependencyKeys}
 use Rattle.ports.specs.Found.{resolve-with}
-use Rattle.ports_resolved.specs.Blocks.{declaredOf, stored}
+use Rattle.ports_resolved.specs.Keys.{declaredOf}
+use Rattle.ports_resolved.specs.Stored.{stored}
 use Rattle.ports_resolved.proofs.Laws.{stored-next, stored-end}
 use Rattle.ports_resolved.proofs.declared.Statement.{statement}
 use Rattle.ports_resolved.proofs.declared.Tie as tie

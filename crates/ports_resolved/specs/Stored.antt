@@ -1,24 +1,14 @@
--- The declared keys' ports stored in a lent array, and a candidate of the parent's list.
+-- Ports stored in a lent array, from its front on.
 use Prim.Native.Nat.{ℕ, _+_, _*_, _≤_}
 use native.Mathlib.Omega.{arith}
 use mathlib.Core.Path.{_≡_, refl, sym, ap, _∙_}
 use mathlib.Core.List.{List, [], _∷_, _++_, map, append-assoc, append-nil}
-use lib.Dec.{eqb}
 use lib.ListN.{length, set, take, length-append, length-map, length-take}
-use Rattle.rules.specs.Basics.{pick}
 use Rattle.rules.specs.declared.Port.{Port}
 use Rattle.rules.specs.Ports.{resolveIn, flat}
-use Rattle.rules.specs.Limits.{maxDependencyKeys, maxDependencies}
-use Rattle.ports_claimed.specs.Blocks.{filled}
-use Rattle.ports_claimed.specs.Filled.{Lists, lists-more}
-
--- room for a finished list, as key and realm
-abbrev pub listRoom : ℕ
-listRoom = maxDependencies * 2
-
--- the resolved keys, at most 16
-abbrev pub declaredOf : ℕ → List Port → List ℕ → List Port
-declaredOf other rows keys = map (resolveIn other rows) (take maxDependencyKeys keys)
+use Rattle.rules.specs.Limits.{maxDependencyKeys}
+use Rattle.ports_resolved.specs.Filled.{filled, Lists, lists-more}
+use Rattle.ports_resolved.specs.Keys.{declaredOf, listRoom}
 
 -- Ports stored in an array, as key and realm, from place k on; the rest stays.
 unfoldable pub stored : List ℕ → ℕ → List Port → List ℕ
@@ -52,7 +42,3 @@ declared-lists other rows keys e f =
     let h : (0 + length ps) * 2 ≤ listRoom = omega (arith, length-map (take maxDependencyKeys keys) (resolveIn other rows), length-take maxDependencyKeys keys) in
     let none : Lists listRoom 0 (filled listRoom []) [] = record { counted = refl; numbers = refl } in
     record { counted = e; numbers = f ∙ stored-lists ps none h .numbers }
-
--- the realm of a candidate: its own at turn 0, else that of its key resolved again
-abbrev pub candidateRealm : ℕ → List Port → ℕ → ℕ → ℕ → ℕ
-candidateRealm other rows turn key realm = pick (eqb turn 0) realm (resolveIn other rows key .realm)

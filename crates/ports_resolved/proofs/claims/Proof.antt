@@ -9,10 +9,13 @@ use borrow.Author.Needs.{needs}
 use Rattle.rules.specs.Ports.{pairs, resolveIn}
 use Rattle.rules.specs.Limits.{maxProvisionKeys}
 use Rattle.ports.specs.Found.{resolve-with}
-use Rattle.ports_claimed.specs.Blocks.{claimRoom}
-use Rattle.ports_claimed.specs.Filled.{Lists, lists-key}
-use Rattle.ports_claimed.proofs.claims.Statement.{statement}
-use Rattle.ports_claimed.proofs.claims.Tie as tie
+use Rattle.ports_resolved.specs.Keys.{claimRoom}
+use Rattle.ports_resolved.specs.Filled.{Lists, lists-key}
+use Rattle.ports_resolved.proofs.claims.Statement.{statement}
+use Rattle.ports_resolved.proofs.claims.Tie as tie
+use Rattle.ports_resolved.specs.Filled.{Lists, lists-key}
+use Rattle.ports_resolved.proofs.claims.Statement.{statement}
+use Rattle.ports_resolved.proofs.claims.Tie as tie
 
 abbrev Inv-loop : tie.InvT-loop
 Inv-loop realms other keys ports₀ i₀ ports i =

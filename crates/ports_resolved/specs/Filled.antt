@@ -10,7 +10,10 @@ use Rattle.rules.specs.declared.Port.{Port}
 use Rattle.rules.specs.Holds.{port}
 use Rattle.rules.specs.Ports.{pairs, flat}
 use Rattle.ports.specs.Places.{length-flat, pairs-flat, flat-append, flat-get}
-use Rattle.ports_claimed.specs.Blocks.{filled}
+
+-- these numbers, and then zeros up to a size
+abbrev pub filled : ℕ → List ℕ → List ℕ
+filled n l = l ++ replicate (n - length l) 0
 
 pub filled-length : (n : ℕ) (l : List ℕ) → length l ≤ n → length (filled n l) ≡ n
 filled-length n l h = simp (length-append, length-replicate) (omega arith)

@@ -10,9 +10,9 @@ use lib.Seq.{drop-cons}
 use borrow.Author.Needs.{needs}
 use borrow.Author.Tests.{eq-eqb, ne-eqb}
 use Rattle.rules.specs.Basics.{any}
-use Rattle.ports_claimed.specs.Blocks.{keysRepeat}
-use Rattle.ports_claimed.proofs.repeated_key.Statement.{statement}
-use Rattle.ports_claimed.proofs.repeated_key.Tie as tie
+use Rattle.ports_resolved.specs.Keys.{keysRepeat}
+use Rattle.ports_resolved.proofs.repeated_key.Statement.{statement}
+use Rattle.ports_resolved.proofs.repeated_key.Tie as tie
 
 module _ (keys : List ℕ) (i : ℕ) where
   any-hit : (k : ℕ) → i < length keys → getD keys i 0 ≡ k → any (eqb k) (drop i keys) ≡ true

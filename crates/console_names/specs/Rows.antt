@@ -1,0 +1,37 @@
+-- How the code writes a row in numbers.
+use Prim.Native.Nat.{ℕ}
+use mathlib.Core.List.{List, [], _∷_}
+use lib.Dec.{eqb}
+use lib.ListN.{getD}
+use Rattle.rules.specs.Basics.{pick}
+use Rattle.console_names.specs.declared.Count.the-variants.{Exactly, AtLeast}
+use Rattle.console_names.specs.declared.Values.the-variants.{Nothing, Numbers, NumbersOrNone, YesOrNo}
+use Rattle.console_names.specs.declared.Held.the-variants.{Deps, Provs, Realms}
+use Rattle.console_names.specs.declared.Kind.{Kind}
+use Rattle.console_names.specs.declared.Kind.the-variants.{Show, Buffer, Lists, Registry}
+use Rattle.console_names.specs.declared.Row.{Row}
+use Rattle.console_names.specs.declared.Row.the-variants.{Slot, Register, Takes}
+
+abbrev pub kinds : List Kind
+kinds =
+    Show
+    ∷ Buffer
+    ∷ Lists Deps
+    ∷ Lists Provs
+    ∷ Lists Realms
+    ∷ Registry Nothing
+    ∷ Registry Numbers
+    ∷ Registry NumbersOrNone
+    ∷ Registry YesOrNo
+    ∷ []
+
+-- What is done with the numbers: the kind at a place among all.
+unfoldable pub kindOf : ℕ → Kind
+kindOf kind = getD kinds kind Show
+
+-- The row of three numbers: how many are due, 1 if more may stand there, and what is done with them.
+unfoldable pub rowOf : ℕ → ℕ → ℕ → Row
+rowOf due more kind =
+    pick (eqb kind 9) Slot
+    (pick (eqb kind 10) Register
+    (pick (eqb more 1) (Takes (AtLeast due) (kindOf kind)) (Takes (Exactly due) (kindOf kind))))
