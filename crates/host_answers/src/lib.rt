@@ -8,7 +8,7 @@ ghost use Rattle.ports.specs.Answers.{resolvedAnswer};
 ghost use Rattle.ports_listed.specs.Answers.{listedAnswer};
 ghost use Rattle.memory_places.specs.Changes.{aboveAnswer};
 ghost use Rattle.registry_register.specs.Written.{registeredAnswer};
-ghost use Rattle.registry_steps.specs.Lives.{begunAnswer};
+ghost use Rattle.registry_steps.specs.Answers.{begunAnswer};
 ghost use Rattle.registry_replace.specs.Answers.{replacedAnswer};
 ghost use Rattle.registry_admit.specs.Answers.{admittedAnswer, admitsAnswer, calledAnswer};
 ghost use Rattle.registry_retire.specs.Answers.{childAnswer};

@@ -21,7 +21,8 @@ use Rattle.rules.specs.Queries.{phaseNumber}
 use Rattle.rules.specs.Limits.{maxProvisionKeys}
 use Rattle.memory.specs.Layout.{word, part, anchorWord, depPart, provPart, realmPart, memoryWords, placeWords, places, idWord, tagWord, parentWord, revisionWord, payloadWord, phaseWord, retiredWord, generationWord, rootWord, rootRevisionWord, rootArgumentWord, firstRowWord, maskWord, valuesWord}
 use Rattle.memory.specs.View.{phaseOf, rootOf, wordsAt, decoded, lifeAt, valueAt, valued, pluginAt}
-use Rattle.memory.specs.Writes.{puts, rootTag, rootRevision, rootArgument, lifeWords, encoded, putLife, renewedAt, renewedLife}
+use Rattle.memory.specs.Writes.{puts, rootTag, rootRevision, rootArgument, lifeWords, encoded, putLife, renewedAt}
+use Rattle.memory.specs.Lives.{renewedLife}
 use Rattle.memory.specs.declared.Life.{Life}
 
 -- A part is read word by word.

@@ -1,5 +1,6 @@
 pub mod Layout
 pub mod View
+pub mod Lives
 pub mod Writes
 pub mod Ways
 pub mod Frames

@@ -14,7 +14,8 @@ use Rattle.rules.specs.Laws.Tests.{by-test}
 use Rattle.rules.specs.Limits.{maxRows, maxProvisionKeys, maxDependencies, maxRealmRows}
 use Rattle.memory.specs.Layout.{word, part, taken, idAt, startAt, depsAt, provsAt, realmsAt, rowWord, anchorWord, memoryWords, placeWords, places, idWord, tagWord, parentWord, revisionWord, firstRowWord, dependenciesWord, provisionsWord, realmsWord, maskWord, valuesWord, realmRowsWord, placeEnd, rowWords, domainWord, firstWord, nextWord, occupancyWord}
 use Rattle.memory.specs.View.{lifeAt, pluginAt, placeAt, placesFrom, view}
-use Rattle.memory.specs.Writes.{putLife, renewedAt, renewedLife}
+use Rattle.memory.specs.Writes.{putLife, renewedAt}
+use Rattle.memory.specs.Lives.{renewedLife}
 use Rattle.memory.specs.Frames.{part-same, Kept, withLife, plugin-kept, OnlyLife, life-other, life-only, life-put, renewed-only, life-renewed}
 use Rattle.memory.specs.declared.Life.{Life}
 

@@ -79,13 +79,3 @@ putLife m i l = putWords m i (encoded l)
 -- revision and payload alone, which a replacement changes
 unfoldable pub renewedAt : List ℕ → ℕ → ℕ → ℕ → List ℕ
 renewedAt m i revision payload = puts m (i * placeWords) revisionWord (revision ∷ payload ∷ [])
-
-abbrev pub renewedLife : Life → ℕ → ℕ → Life
-renewedLife l revision payload = record {
-  revision = revision;
-  payload = payload;
-  phase = l .phase;
-  retired = l .retired;
-  generation = l .generation;
-  root = l .root;
-}

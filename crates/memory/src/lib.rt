@@ -4,6 +4,7 @@ ghost use Prim.Native.Nat.{_%_, _<_};
 ghost use lib.Dec.{eqb};
 ghost use Rattle.rules.specs.Basics.{holds};
 ghost use Rattle.memory.specs.Layout.{word, occupancy, taken, idAt, places, domainWord, firstWord, nextWord};
+ghost use Rattle.memory.specs.Lives.{changedLife, movedLife, begunLife, finishedLife, rootedLife, markedLife};
 ghost use Rattle.memory.specs.View.{parentAt};
 ghost use Rattle.memory.specs.Writes.{parentId, namesAt, findAt};
 use layout::LOW_HALF;
@@ -38,6 +39,62 @@ pub struct Life {
     pub retired: bool,
     pub generation: Generation,
     pub root: Root,
+}
+
+impl Life {
+    fn changed(self, phase: Phase, retired: bool, generation: Generation, root: Root) -> Life
+        ensures { λ r. ⌜ r ≡ changedLife self phase retired generation root ⌝ }
+    {
+        Life {
+            revision: self.revision,
+            payload: self.payload,
+            phase: phase,
+            retired: retired,
+            generation: generation,
+            root: root,
+        }
+    }
+
+    pub fn with_phase(self, phase: Phase) -> Life
+        ensures { λ r. ⌜ r ≡ movedLife self phase ⌝ }
+    {
+        let generation = self.generation;
+        let root = self.root;
+        self.changed(phase, self.retired, generation, root)
+    }
+
+    // Generation + 1, root Unissued.
+    pub fn begun(self, phase: Phase) -> Life
+        ensures { λ r. ⌜ r ≡ begunLife self phase ⌝ }
+    {
+        self.changed(phase, self.retired, self.generation.next(), Root::Unissued)
+    }
+
+    // Root Unissued.
+    pub fn finished(self, phase: Phase) -> Life
+        ensures { λ r. ⌜ r ≡ finishedLife self phase ⌝ }
+    {
+        let generation = self.generation;
+        self.changed(phase, self.retired, generation, Root::Unissued)
+    }
+
+    pub fn with_root(self, root: Root) -> Life
+        ensures { λ r. ⌜ r ≡ rootedLife self root ⌝ }
+    {
+        let phase = self.phase;
+        let generation = self.generation;
+        self.changed(phase, self.retired, generation, root)
+    }
+
+    // With the retired mark.
+    pub fn marked(self) -> Life
+        ensures { λ r. ⌜ r ≡ markedLife self ⌝ }
+    {
+        let phase = self.phase;
+        let generation = self.generation;
+        let root = self.root;
+        self.changed(phase, true, generation, root)
+    }
 }
 
 // A plugin's life as it stands in the words.

@@ -17,7 +17,7 @@ use Rattle.memory_places.specs.declared.Above.the-variants as above
 use Rattle.registry_retire.specs.Answers.{childAnswer}
 use Rattle.registry_retire.specs.declared.Child.{Child}
 use Rattle.registry_retire.specs.declared.Child.the-variants as child
-use Rattle.registry_steps.specs.Lives.{begunAnswer}
+use Rattle.registry_steps.specs.Answers.{begunAnswer}
 use Rattle.registry_steps.specs.declared.Begun.{Begun}
 use Rattle.registry_steps.specs.declared.Begun.the-variants as begun
 use Rattle.memory_values.specs.Values.{valueOf}

@@ -93,9 +93,6 @@ registry-needs-all-available κs a r s ms ns p q = by-equation p q
 pub registry-needs-in-use : One registry_needs.«in_use».ended registry_needs.«in_use».Reads.Learnt
 registry-needs-in-use κs a r s ms ns p q = by-equation p q
 
-pub registry-steps-with-phase : One registry_steps.«with_phase».ended registry_steps.«with_phase».Reads.Learnt
-registry-steps-with-phase κs a r s ms ns p q = by-equation p q
-
 pub registry-steps-begin : One registry_steps.begin.ended registry_steps.begin.Reads.Learnt
 registry-steps-begin κs a r s ms ns p q = one-with-memory begun-exact p q
 

@@ -14,6 +14,21 @@ use Rattle.outcome.specs.One.{One, OneSeen}
 use Rattle.outcome.specs.Equations.{by-equation, memory-alone, one-outcome, one-with-memory}
 use Rattle.outcome.specs.Answers.{above-exact, parent-exact}
 
+pub memory-Life-with-phase : One memory.Life.«with_phase».ended memory.Life.«with_phase».Reads.Learnt
+memory-Life-with-phase κs a r s ms ns p q = by-equation p q
+
+pub memory-Life-begun : One memory.Life.begun.ended memory.Life.begun.Reads.Learnt
+memory-Life-begun κs a r s ms ns p q = by-equation p q
+
+pub memory-Life-finished : One memory.Life.finished.ended memory.Life.finished.Reads.Learnt
+memory-Life-finished κs a r s ms ns p q = by-equation p q
+
+pub memory-Life-with-root : One memory.Life.«with_root».ended memory.Life.«with_root».Reads.Learnt
+memory-Life-with-root κs a r s ms ns p q = by-equation p q
+
+pub memory-Life-marked : One memory.Life.marked.ended memory.Life.marked.Reads.Learnt
+memory-Life-marked κs a r s ms ns p q = by-equation p q
+
 pub memory-domain : One memory.domain.ended memory.domain.Reads.Learnt
 memory-domain κs a r s ms ns p q = by-equation p q
 

@@ -25,21 +25,21 @@ use Rattle.memory.specs.declared.Place.the-variants.{At, Nowhere}
 use Rattle.memory_life.specs.Told.{told-stored, life-found}
 use Rattle.registry_admit.specs.Answers.{admitsAnswer}
 use Rattle.registry_live.specs.Lives.{verdict, verdictOf, liveOf}
-use Rattle.registry_admit.specs.Lives.{rootedLife}
+use Rattle.memory.specs.Lives.{rootedLife}
 
 -- a found plugin and its life as it was loaded
 module _ (m : List ℕ) (id i : ℕ) (life : Life) (e : findAt m id ≡ At i) (l : life ≡ lifeAt m (i % places)) where
   loaded : lifeOf (pluginAt m i) ≡ life
   loaded = life-of m i ∙ sym (life-found m id i e life l)
 
-  rooted-plugin : (r : Root) → withRoot r (pluginAt m i) ≡ withLife (pluginAt m i) (rootedLife r life)
-  rooted-plugin r = ap (λ x. withLife (pluginAt m i) (rootedLife r x)) loaded
+  rooted-plugin : (r : Root) → withRoot r (pluginAt m i) ≡ withLife (pluginAt m i) (rootedLife life r)
+  rooted-plugin r = ap (λ x. withLife (pluginAt m i) (rootedLife x r)) loaded
 
   -- its life was stored with another root
   told-rooted : (o : Outcome) (r : Root) (vs : List ℕ) (l′ : Life) (m′ : List ℕ) → o ≡ stores (withRoot r (pluginAt m i)) vs
-      → l′ ≡ rootedLife r life → m′ ≡ putLife m (i % places) l′ → Meets storedLife o m (Accepted vs) m′
+      → l′ ≡ rootedLife life r → m′ ≡ putLife m (i % places) l′ → Meets storedLife o m (Accepted vs) m′
   told-rooted o r vs l′ m′ k s p =
-      told-stored o m id i vs (rootedLife r life) m′ e (k ∙ ap (λ x. stores x vs) (rooted-plugin r)) (p ∙ ap (putLife m (i % places)) s)
+      told-stored o m id i vs (rootedLife life r) m′ e (k ∙ ap (λ x. stores x vs) (rooted-plugin r)) (p ∙ ap (putLife m (i % places)) s)
 
 -- What a verdict says of what they come to, with the outcome where they all pass.
 record Says (m : List ℕ) (same : Bool) (v : ℕ) (comes o : Outcome) : Type 0 where
@@ -119,7 +119,7 @@ module _ (m : List ℕ) (t : Ticket) (a d : ℕ) (domain : d ≡ word m domainWo
           argument = a;
         }
 
-        pub told-admitted : (l′ : Life) (m′ : List ℕ) → v ≡ 0 → l′ ≡ rootedLife (Queued (life .revision) a) life → m′ ≡ putLife m (i % places) l′
+        pub told-admitted : (l′ : Life) (m′ : List ℕ) → v ≡ 0 → l′ ≡ rootedLife life (Queued (life .revision) a) → m′ ≡ putLife m (i % places) l′
             → Meets storedLife (admit (view m) t a) m (Accepted (five given)) m′
         told-admitted l′ m′ z s p =
             told-rooted m (t .id) i life e l (admit (view m) t a) (Queued (life .revision) a) (five given) l′ m′
@@ -169,7 +169,7 @@ module _ (m : List ℕ) (t : Invocation) (d : ℕ) (domain : d ≡ word m domain
         unfolding call checked view
         call-spends y = rw ours (at-known m (t .id) i e _ ∙ rw (live ∙ y, marked ∙ f))
 
-        pub told-called : (l′ : Life) (m′ : List ℕ) → b ≡ true → l′ ≡ rootedLife Spent life → m′ ≡ putLife m (i % places) l′
+        pub told-called : (l′ : Life) (m′ : List ℕ) → b ≡ true → l′ ≡ rootedLife life Spent → m′ ≡ putLife m (i % places) l′
             → Meets storedLife (call (view m) t) m (Accepted (receipt t (life .payload))) m′
         told-called l′ m′ y s p =
             told-rooted m (t .id) i life e l (call (view m) t) Spent (receipt t (life .payload)) l′ m′

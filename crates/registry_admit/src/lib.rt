@@ -5,8 +5,6 @@ ghost use Rattle.rules.specs.Admission.{admit, admits, call};
 ghost use Rattle.memory.specs.View.{view};
 ghost use Rattle.memory.specs.Known.{storedLife};
 ghost use Rattle.registry_admit.specs.Answers.{ticket, invocation, admittedAnswer, admitsAnswer, calledAnswer};
-ghost use Rattle.registry_admit.specs.Lives.{rootedLife};
-use memory::Life;
 use memory::Place;
 use memory::WORDS;
 use rules::Root;
@@ -25,22 +23,6 @@ pub enum Admitted {
 pub enum Called {
     Receipt(u64, u64, u64, u64, u64, u64),
     Refused(u64),
-}
-
-// The life with this root; nothing else of it changes.
-fn rooted(life: Life, root: Root) -> Life
-    ensures { λ r. ⌜ r ≡ rootedLife root life ⌝ }
-{
-    let phase = life.phase;
-    let generation = life.generation;
-    Life {
-        revision: life.revision,
-        payload: life.payload,
-        phase: phase,
-        retired: life.retired,
-        generation: generation,
-        root: root,
-    }
 }
 
 // Admission: domain or kind 3, then 1, 2, then 13 if not Loading or another generation, then 3 if root isn't Unissued.
@@ -70,7 +52,7 @@ pub fn admit(
         return Admitted::Refused(said);
     }
     let revision = life.revision;
-    memory_life::store(m, at, rooted(life, Root::Queued(revision, argument)));
+    memory_life::store(m, at, life.with_root(Root::Queued(revision, argument)));
     Admitted::Is(domain, id, generation, revision, argument)
 }
 
@@ -113,7 +95,7 @@ pub fn call(
         return Called::Refused(refusal::RETIRED);
     }
     if registry_live::is_live(life, generation, revision, argument) {
-        memory_life::store(m, at, rooted(life, Root::Spent));
+        memory_life::store(m, at, life.with_root(Root::Spent));
         return Called::Receipt(domain, id, generation, ROOT_REQUEST, life.payload, argument);
     }
     Called::Refused(refusal::STALE)

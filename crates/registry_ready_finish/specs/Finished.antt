@@ -1,4 +1,4 @@
--- A plugin at rest, and the words after a finish.
+-- The words after a finish.
 use Prim.Native.Nat.{ℕ, _+_, _*_}
 use mathlib.Core.Path.{_≡_, refl, _∙_}
 use mathlib.Core.List.{List}
@@ -6,7 +6,7 @@ use lib.ListN.{length, set, length-set}
 use Rattle.rules.specs.Holds.{Plugin}
 use Rattle.rules.specs.declared.Phase.{Phase}
 use Rattle.rules.specs.declared.Root.the-variants.{Unissued}
-use Rattle.rules.specs.Outcomes.{Outcome}
+use Rattle.rules.specs.Outcomes.{Outcome, refuses, answers, writes, stores, adds, removes}
 use Rattle.memory.specs.Writes.{findAt, putLife}
 use Rattle.memory.specs.Ways.{Way, leftBy, byStoring, Sized, storing-sized}
 use Rattle.memory.specs.Frames.{life-length}
@@ -15,17 +15,6 @@ use Rattle.memory.specs.declared.Life.{Life}
 use Rattle.memory.specs.declared.Place.{Place}
 use Rattle.memory.specs.declared.Place.the-variants.{At, Nowhere}
 use Rattle.memory.specs.Layout.{placeWords, maskWord}
-
--- root Unissued
-abbrev pub restedLife : Life → Phase → Life
-restedLife l p = record {
-  revision = l .revision;
-  payload = l .payload;
-  phase = p;
-  retired = l .retired;
-  generation = l .generation;
-  root = Unissued;
-}
 
 -- a life stored and no value left
 abbrev pub emptied : List ℕ → Place → Life → List ℕ

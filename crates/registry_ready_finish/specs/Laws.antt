@@ -22,13 +22,13 @@ use Rattle.memory.specs.Known.{at-place, at-id, at-known}
 use Rattle.memory.specs.declared.Life.{Life}
 use Rattle.memory.specs.declared.Place.the-variants.{At}
 use Rattle.memory_life.specs.Told.{life-found, generation-found}
-use Rattle.registry_steps.specs.Lives.{movedLife}
+use Rattle.memory.specs.Lives.{movedLife, finishedLife}
 use Rattle.ports.specs.declared.Found.{Found}
 use Rattle.ports.specs.declared.Found.the-variants as found
 use Rattle.ports.specs.declared.Found.the-variants.{Nothing}
 use Rattle.memory_values.specs.Values.{lackFrom}
 use Rattle.memory_values.specs.Firsts.{provisions-at, lack-nothing, lack-test}
-use Rattle.registry_ready_finish.specs.Finished.{restedLife, finishedTo}
+use Rattle.registry_ready_finish.specs.Finished.{finishedTo}
 
 -- whether a provision has no value
 abbrev pub lacks : Plugin → Bool
@@ -89,11 +89,11 @@ module _ (m : List ℕ) (id i : ℕ) (e : findAt m id ≡ At i) (l : Life) (h : 
     unfolding rules.finish checked pluginAt
     finish-rests = at-known m id i e _ ∙ rw (← same) (rw f)
 
-    pub finish-told : (l′ : Life) → l′ ≡ restedLife l p → (m′ : List ℕ) → m′ ≡ putLife m (i % places) l′ → (m″ : List ℕ) → m″ ≡ set m′ (i % places * placeWords + maskWord) 0
+    pub finish-told : (l′ : Life) → l′ ≡ finishedLife l p → (m′ : List ℕ) → m′ ≡ putLife m (i % places) l′ → (m″ : List ℕ) → m″ ≡ set m′ (i % places * placeWords + maskWord) 0
         → (Accepted [] ≡ answerOf (rules.finish (view m) id)) × (m″ ≡ finishedTo m (rules.finish (view m) id))
     unfolding leftBy pluginAt
     finish-told l′ k m′ s m″ t =
         let a : i % places ≡ i = at-place m id i e in
-        let w : l′ ≡ restedLife (lifeAt m i) p = k ∙ ap (λ (x : Life). restedLife x p) same in
+        let w : l′ ≡ finishedLife (lifeAt m i) p = k ∙ ap (λ (x : Life). finishedLife x p) same in
         let c : rules.cell (lifeAt m i .phase) rules.Finish ≡ some p = sym (ap (λ (x : Life). rules.cell (x .phase) rules.Finish) same) ∙ f in
         (rw finish-rests, rw (finish-rests, at-id m id i e, e) (t ∙ rw (s, a, w) (rw c)))

@@ -24,7 +24,8 @@ use Rattle.memory.specs.declared.Place.the-variants.{At}
 use Rattle.memory_rows.specs.Dense.{Dense, Refines}
 use Rattle.memory_rows.specs.Stored.{same-dense, life-dense, changed-view, known-elim}
 use Rattle.memory_values.specs.After.{drop-taken, drop-elsewhere, drop-plugin}
-use Rattle.registry_ready_finish.specs.Finished.{restedLife, finishedTo}
+use Rattle.registry_ready_finish.specs.Finished.{finishedTo}
+use Rattle.memory.specs.Lives.{finishedLife}
 use Rattle.registry_ready_finish.specs.Laws.{rested}
 
 module _ (m : List ℕ) (d : Dense m) where
@@ -34,7 +35,7 @@ module _ (m : List ℕ) (d : Dense m) where
   -- a life stored, and then no value
   module _ (id i : ℕ) (e : findAt m id ≡ At i) where
     abbrev l : Life
-    l = restedLife (lifeAt m i) (orElse (rules.cell (lifeAt m i .phase) rules.Finish) (lifeAt m i .phase))
+    l = finishedLife (lifeAt m i) (orElse (rules.cell (lifeAt m i .phase) rules.Finish) (lifeAt m i .phase))
 
     abbrev m₁ : List ℕ
     m₁ = putLife m i l

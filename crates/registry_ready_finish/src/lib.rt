@@ -4,7 +4,7 @@ ghost use Rattle.rules.specs.Outcomes.{Meets};
 ghost use Rattle.rules.specs.Phases.{isSpent, ready, finish};
 ghost use Rattle.memory.specs.View.{view};
 ghost use Rattle.memory.specs.Known.{storedLife};
-ghost use Rattle.memory_life.specs.Told.{doneAnswer};
+ghost use Rattle.memory_life.specs.Told.{doneAnswer, Meets};
 ghost use Rattle.registry_ready_finish.specs.Finished.{restedLife, finishedTo};
 use memory::Life;
 use memory::Place;
@@ -13,7 +13,6 @@ use memory_life::Done;
 use ports::Found;
 use registry_table::Cell;
 use registry_table::Step;
-use rules::Phase;
 use rules::Root;
 use rules::refusal;
 
@@ -25,21 +24,6 @@ fn is_spent(life: Life) -> bool
         Root::Unissued => false,
         Root::Queued(_, _) => false,
         Root::Spent => true,
-    }
-}
-
-// The life of a plugin at rest: root Unissued.
-fn at_rest(life: Life, phase: Phase) -> Life
-    ensures { λ r. ⌜ r ≡ restedLife life phase ⌝ }
-{
-    let generation = life.generation;
-    Life {
-        revision: life.revision,
-        payload: life.payload,
-        phase: phase,
-        retired: life.retired,
-        generation: generation,
-        root: Root::Unissued,
     }
 }
 
@@ -60,7 +44,7 @@ pub fn ready(m: &mut [u64; WORDS], id: u64) -> Done
     };
     if is_spent(life) {
         let Found::At(_) = memory_values::first_lacking(m, at) else {
-            memory_life::store(m, at, registry_steps::with_phase(life, next));
+            memory_life::store(m, at, life.with_phase(next));
             return Done::Accepted;
         };
         return Done::Refused(refusal::MISSING);
@@ -80,7 +64,7 @@ pub fn finish(m: &mut [u64; WORDS], id: u64) -> Done
     let Cell::To(next) = registry_table::next(phase, Step::Finish) else {
         return Done::Refused(refusal::INVALID_STATE);
     };
-    memory_life::store(m, at, at_rest(life, next));
+    memory_life::store(m, at, life.finished(next));
     memory_values::drop_values(m, at);
     Done::Accepted
 }

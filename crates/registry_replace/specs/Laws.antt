@@ -11,7 +11,8 @@ use Rattle.rules.specs.Outcomes.{Outcome, refuses, answers, stores, _⇒_, chec
 use Rattle.rules.specs.Replacement.{replace, fits}
 use Rattle.memory.specs.Ways.{meets-refused}
 use Rattle.memory.specs.View.{lifeAt, pluginAt, view}
-use Rattle.memory.specs.Writes.{findAt, renewedAt, renewedLife}
+use Rattle.memory.specs.Writes.{findAt, renewedAt}
+use Rattle.memory.specs.Lives.{renewedLife}
 use Rattle.memory.specs.Frames.{withLife}
 use Rattle.memory.specs.Known.{at-place, at-known, none-known}
 use Rattle.memory.specs.declared.Life.{Life}

@@ -23,7 +23,7 @@ use Rattle.memory.specs.declared.Parent.the-variants.{Of, Nobody}
 use Rattle.memory.specs.declared.Place.the-variants.{At, Nowhere}
 use Rattle.memory_life.specs.Told.{told-refused, told-stored, life-found}
 use Rattle.registry_retire.specs.Answers.{childAnswer}
-use Rattle.registry_retire.specs.Marks.{markedLife}
+use Rattle.memory.specs.Lives.{markedLife}
 use Rattle.registry_retire.specs.declared.Child.the-variants as child
 
 -- A plugin found, its life loaded, and perhaps a marked one stored: retired by id, or by what comes to the same.

@@ -6,8 +6,6 @@ ghost use Rattle.memory.specs.View.{view};
 ghost use Rattle.memory.specs.Known.{storedLife};
 ghost use Rattle.memory_life.specs.Told.{doneAnswer};
 ghost use Rattle.registry_retire.specs.Answers.{identified, childAnswer};
-ghost use Rattle.registry_retire.specs.Marks.{markedLife};
-use memory::Life;
 use memory::Place;
 use memory::WORDS;
 use memory_life::Done;
@@ -31,24 +29,8 @@ pub fn retire(m: &mut [u64; WORDS], id: u64) -> Done
     if life.retired {
         return Done::Refused(refusal::RETIRED);
     }
-    memory_life::store(m, at, marked(life));
+    memory_life::store(m, at, life.marked());
     Done::Accepted
-}
-
-fn marked(life: Life) -> Life
-    ensures { λ r. ⌜ r ≡ markedLife life ⌝ }
-{
-    let phase = life.phase;
-    let generation = life.generation;
-    let root = life.root;
-    Life {
-        revision: life.revision,
-        payload: life.payload,
-        phase: phase,
-        retired: true,
-        generation: generation,
-        root: root,
-    }
 }
 
 // By child identity: domain 3; never issued 1; not registered: accepted, nothing changes; parent differs or none 3; then 2; else the mark.
@@ -73,7 +55,7 @@ pub fn retire_child(m: &mut [u64; WORDS], domain: u64, parent: u64, id: u64) -> 
         if life.retired {
             return Done::Refused(refusal::RETIRED);
         }
-        memory_life::store(m, child, marked(life));
+        memory_life::store(m, child, life.marked());
         return Done::Accepted;
     }
     Done::Refused(refusal::INVALID_STATE)

@@ -1,2 +1,2 @@
-pub mod Lives
+pub mod Answers
 pub mod Laws

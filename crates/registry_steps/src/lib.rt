@@ -4,51 +4,22 @@ ghost use Rattle.rules.specs.Outcomes.{Meets};
 ghost use Rattle.rules.specs.Phases.{begin, fail, unload};
 ghost use Rattle.memory.specs.View.{view};
 ghost use Rattle.memory.specs.Known.{storedLife};
-ghost use Rattle.memory_life.specs.Told.{doneAnswer};
+ghost use Rattle.memory_life.specs.Told.{doneAnswer, Meets};
 ghost use Rattle.registry_steps.specs.Lives.{begunAnswer, movedLife, begunLife};
 use memory::Life;
+ghost use Rattle.registry_steps.specs.Answers.{begunAnswer};
 use memory::Place;
 use memory::WORDS;
 use memory_life::Done;
 use registry_table::Cell;
 use registry_table::Step;
 use rules::Generation;
-use rules::Phase;
-use rules::Root;
 use rules::refusal;
 
 // A ticket: domain, id, generation, kind.
 pub enum Begun {
     Ticket(u64, u64, u64, u64),
     Refused(u64),
-}
-
-pub fn with_phase(life: Life, phase: Phase) -> Life
-    ensures { λ r. ⌜ r ≡ movedLife life phase ⌝ }
-{
-    let generation = life.generation;
-    let root = life.root;
-    Life {
-        revision: life.revision,
-        payload: life.payload,
-        phase: phase,
-        retired: life.retired,
-        generation: generation,
-        root: root,
-    }
-}
-
-fn with_begun(life: Life, phase: Phase) -> Life
-    ensures { λ r. ⌜ r ≡ begunLife life phase ⌝ }
-{
-    Life {
-        revision: life.revision,
-        payload: life.payload,
-        phase: phase,
-        retired: life.retired,
-        generation: life.generation.next(),
-        root: Root::Unissued,
-    }
 }
 
 // 1, 2, phase, 16, 14; generation + 1, root Unissued; it answers a ticket.
@@ -71,7 +42,7 @@ pub fn begin(m: &mut [u64; WORDS], id: u64) -> Begun
     }
     if registry_needs::all_available(m, memory_lists::dependency_words(m, at)) {
         let domain = memory::domain(m);
-        let new = with_begun(life, next);
+        let new = life.begun(next);
         memory_life::store(m, at, new);
         return Begun::Ticket(domain, id, new.generation.0, registry_table::SETUP);
     }
@@ -90,7 +61,7 @@ pub fn fail(m: &mut [u64; WORDS], id: u64) -> Done
     let Cell::To(next) = registry_table::next(phase, Step::Fail) else {
         return Done::Refused(refusal::INVALID_STATE);
     };
-    memory_life::store(m, at, with_phase(life, next));
+    memory_life::store(m, at, life.with_phase(next));
     Done::Accepted
 }
 
@@ -109,6 +80,6 @@ pub fn unload(m: &mut [u64; WORDS], id: u64) -> Done
     if registry_needs::in_use(m, at) {
         return Done::Refused(refusal::IN_USE);
     }
-    memory_life::store(m, at, with_phase(life, next));
+    memory_life::store(m, at, life.with_phase(next));
     Done::Accepted
 }

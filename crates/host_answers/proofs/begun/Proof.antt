@@ -1,7 +1,7 @@
 -- `begun` meets its contract: the ticket's numbers are told by `four`, and a refusal leaves the words as they are.
 use mathlib.Core.Path.{refl, ap}
 use Rattle.host_answers.specs.Told.{statusOf, wordsOf, told}
-use Rattle.registry_steps.specs.Lives.{begunAnswer}
+use Rattle.registry_steps.specs.Answers.{begunAnswer}
 use borrow.Author.Needs.{needs}
 use Rattle.host_answers.proofs.begun.Statement.{statement}
 use Rattle.host_answers.proofs.begun.Tie as tie

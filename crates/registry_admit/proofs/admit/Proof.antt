@@ -51,8 +51,8 @@ returns-4 c =
     let s = k .before in
     told-verdict _ _ _ _ (s .before .domain .ensures) (s .if1 .left) (k .if2 .left) _ _ _ (sym (f .find .ensures) ∙ a .at .given .1) (l .load .ensures) (v .verdict .ensures) (c .if3 .taken)
 
-rooted-requires : tie.Need-rooted-requires
-rooted-requires c κs = search needs
+with-root-requires : tie.Need-with-root-requires
+with-root-requires c κs = search needs
 
 store-requires : tie.Need-store-requires
 store-requires c κs = search needs
@@ -66,7 +66,7 @@ returns-5 c =
     let f = a .before .before in
     let k = f .before .before in
     let s = k .before in
-    told-admitted _ _ _ _ (s .before .domain .ensures) (s .if1 .left) (k .if2 .left) _ _ _ (sym (f .find .ensures) ∙ a .at .given .1) (l .load .ensures) (v .verdict .ensures) _ _ (w .if3 .left) (c .before .rooted .ensures) (c .store .ensures)
+    told-admitted _ _ _ _ (s .before .domain .ensures) (s .if1 .left) (k .if2 .left) _ _ _ (sym (f .find .ensures) ∙ a .at .given .1) (l .load .ensures) (v .verdict .ensures) _ _ (w .if3 .left) (c .before .with-root .ensures) (c .store .ensures)
 
 pub admit-spec : {M : Type 1} → statement M
 admit-spec =
@@ -82,6 +82,6 @@ admit-spec =
     load-requires
     verdict-requires
     returns-4
-    rooted-requires
+    with-root-requires
     store-requires
     returns-5)

@@ -43,8 +43,8 @@ returns-3 c =
 is-live-requires : tie.Need-is-live-requires
 is-live-requires c κs = search needs
 
-rooted-requires : tie.Need-rooted-requires
-rooted-requires c κs = search needs
+with-root-requires : tie.Need-with-root-requires
+with-root-requires c κs = search needs
 
 store-requires : tie.Need-store-requires
 store-requires c κs = search needs
@@ -57,7 +57,7 @@ returns-4 c =
     let a = l .before .before .before in
     let f = a .before .before in
     let s = f .before .before in
-    told-called _ _ _ (s .before .domain .ensures) (s .if1 .left) _ _ (sym (f .find .ensures) ∙ a .at .given .1) (l .load .ensures) _ (b .before .if2 .left) (b .is-live .ensures) _ _ (w .if3 .taken) (c .before .rooted .ensures) (c .store .ensures)
+    told-called _ _ _ (s .before .domain .ensures) (s .if1 .left) _ _ (sym (f .find .ensures) ∙ a .at .given .1) (l .load .ensures) _ (b .before .if2 .left) (b .is-live .ensures) _ _ (w .if3 .taken) (c .before .with-root .ensures) (c .store .ensures)
 
 returns-5 : tie.Need-returns-5
 returns-5 c =
@@ -81,7 +81,7 @@ call-spec =
     load-requires
     returns-3
     is-live-requires
-    rooted-requires
+    with-root-requires
     store-requires
     returns-4
     returns-5)

@@ -42,8 +42,8 @@ returns-2 c =
     let e = sym (a .before .before .find .ensures) ∙ a .at .given .1 in
     finished-refused _ _ InvalidState (finish-stuck _ _ _ e _ (l .load .ensures) (cell-empty (rules.cell (l .load .result .phase) rules.Finish) _ (n .next .ensures) (c .enum-told2 .given .1)))
 
-at-rest-requires : tie.Need-at-rest-requires
-at-rest-requires c κs = search needs
+finished-requires : tie.Need-finished-requires
+finished-requires c κs = search needs
 
 store-requires : tie.Need-store-requires
 store-requires c κs = search needs
@@ -60,7 +60,7 @@ returns-3 c =
     let a = l .before .before .before in
     let e = sym (a .before .before .find .ensures) ∙ a .at .given .1 in
     let f = cell-to (rules.cell (l .load .result .phase) rules.Finish) _ _ (n .next .ensures) (k .next2 .given .1) in
-    finish-told _ _ _ e _ (l .load .ensures) _ f _ (s .before .at-rest .ensures) _ (s .store .ensures) _ (c .drop-values .ensures)
+    finish-told _ _ _ e _ (l .load .ensures) _ f _ (s .before .finished .ensures) _ (s .store .ensures) _ (c .drop-values .ensures)
 
 pub finish-spec : {M : Type 1} → statement M
 finish-spec =
@@ -75,7 +75,7 @@ finish-spec =
     enum-known-next
     enum-told-2
     returns-2
-    at-rest-requires
+    finished-requires
     store-requires
     drop-values-requires
     returns-3)

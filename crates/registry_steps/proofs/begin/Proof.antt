@@ -72,8 +72,8 @@ all-available-requires c κs = search needs
 domain-requires : tie.Need-domain-requires
 domain-requires c κs = search needs
 
-with-begun-requires : tie.Need-with-begun-requires
-with-begun-requires c κs = search needs
+begun-requires : tie.Need-begun-requires
+begun-requires c κs = search needs
 
 store-requires : tie.Need-store-requires
 store-requires c κs = search needs
@@ -93,7 +93,7 @@ returns-5 c =
     let a = l .before .before .before in
     let e = sym (a .before .before .find .ensures) ∙ a .at .given .1 in
     let f = cell-to (rules.cell (l .load .result .phase) rules.Begin) _ _ (n .next .ensures) (k .next2 .given .1) in
-    begin-told _ _ _ e _ (l .load .ensures) (r .if1 .left) _ f (g .if2 .left) _ (d .dependency-words .ensures) _ (v .all-available .ensures) (y .if3 .taken) _ (o .domain .ensures) _ (w .with-begun .ensures) _ (c .store .ensures)
+    begin-told _ _ _ e _ (l .load .ensures) (r .if1 .left) _ f (g .if2 .left) _ (d .dependency-words .ensures) _ (v .all-available .ensures) (y .if3 .taken) _ (o .domain .ensures) _ (w .begun .ensures) _ (c .store .ensures)
 
 returns-6 : tie.Need-returns-6
 returns-6 c =
@@ -127,7 +127,7 @@ begin-spec =
     dependency-words-requires
     all-available-requires
     domain-requires
-    with-begun-requires
+    begun-requires
     store-requires
     returns-5
     returns-6)

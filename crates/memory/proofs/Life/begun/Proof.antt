@@ -1,0 +1,21 @@
+-- `begun` meets its contract: the next generation's promise goes into the life's.
+use mathlib.Core.Path.{ap, _∙_}
+use borrow.Author.Needs.{needs}
+use Rattle.rules.specs.declared.Root.the-variants.{Unissued}
+use Rattle.memory.specs.Lives.{changedLife}
+use Rattle.memory.proofs.Life.begun.Statement.{statement}
+use Rattle.memory.proofs.Life.begun.Tie as tie
+
+next-requires : tie.Need-next-requires
+next-requires c κs = search needs
+
+changed-requires : tie.Need-changed-requires
+changed-requires c κs = search needs
+
+returns : tie.Need-returns
+returns c =
+    let a = c .before .before .args in
+    c .changed .ensures ∙ ap (λ g. changedLife (a .self) (a .phase) (a .self .retired) g Unissued) (c .before .next .ensures)
+
+pub begun-spec : {M : Type 1} → statement M
+begun-spec = tie.close (tie.spec next-requires changed-requires returns)
