@@ -4,9 +4,7 @@ use mathlib.Core.Path.{_≡_, refl, _∙_}
 use mathlib.Core.List.{List}
 use lib.ListN.{length, set, length-set}
 use Rattle.rules.specs.Holds.{Plugin}
-use Rattle.rules.specs.declared.Phase.{Phase}
-use Rattle.rules.specs.declared.Root.the-variants.{Unissued}
-use Rattle.rules.specs.Outcomes.{Outcome, refuses, answers, writes, stores, adds, removes}
+use Rattle.rules.specs.Outcomes.{Outcome}
 use Rattle.memory.specs.Writes.{findAt, putLife}
 use Rattle.memory.specs.Ways.{Way, leftBy, byStoring, Sized, storing-sized}
 use Rattle.memory.specs.Frames.{life-length}

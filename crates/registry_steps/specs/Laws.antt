@@ -21,8 +21,7 @@ use Rattle.memory.specs.Frames.{withLife}
 use Rattle.memory.specs.Known.{at-place, at-known, storedLife}
 use Rattle.memory.specs.declared.Life.{Life}
 use Rattle.memory.specs.declared.Place.the-variants.{At}
-use Rattle.memory_life.specs.Told.{life-found, generation-found, told-stored, Meets}
-use Rattle.registry_steps.specs.Lives.{movedLife, begunLife}
+use Rattle.memory_life.specs.Told.{life-found, generation-found, told-stored}
 use Rattle.memory.specs.Lives.{movedLife, begunLife}
 
 module _ (m : List ℕ) (id i : ℕ) (e : findAt m id ≡ At i) (l : Life) (h : l ≡ lifeAt m (i % places)) where
