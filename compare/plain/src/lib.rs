@@ -21,6 +21,7 @@ mod registry;
 mod replacement;
 mod retirement;
 mod slot;
+mod text;
 mod values;
 
 pub mod console;
@@ -39,3 +40,4 @@ pub use registry::{MAX_PLUGINS, Registry, Shown};
 pub use replacement::{Record, RefusedPayload};
 pub use retirement::Child;
 pub use slot::{ChildSlot, Decision};
+pub use text::{MAX_DIGITS, decimal};
