@@ -26,6 +26,7 @@ mod values;
 
 pub mod console;
 pub mod coverage;
+pub mod difference;
 pub mod script;
 
 pub use admission::{Invocation, Receipt, Root, SETUP, Ticket};
