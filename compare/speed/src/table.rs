@@ -67,7 +67,7 @@ pub fn write(
         // Bytes by nanoseconds are thousands of megabytes by seconds.
         let [plain, ours] = [plain, ours].map(|time| 1000.0 * case.bytes as f64 / time);
         line(format!(
-            "- {}, {} bytes: {plain:.0} MB/s, ours {ours:.0} MB/s",
+            "- {}, {} bytes: plain {plain:.0} MB/s, ours {ours:.0} MB/s",
             case.name, case.bytes
         ));
     }
