@@ -55,5 +55,9 @@ int main(void) {
     accepted(vaskelbi_ready(&registry, id));
     accepted(vaskelbi_visible(&registry, ANGLE, 0, &out));
     printf("the driver is ready, its angle is %" PRIu64 " h\n", out.number[0]);
+
+    static uint8_t text[1024];
+    accepted(vaskelbi_write_text(&registry, text, sizeof text, &out));
+    printf("the registry as text:\n%.*s", (int)out.number[0], (const char *)text);
     return 0;
 }

@@ -2,11 +2,12 @@
 // between; after each call the whole struct is held to what it must be. Each call is written with its answer.
 #include "vaskelbi.h"
 #include <inttypes.h>
+#include <stdarg.h>
 #include <stdio.h>
 #include <stdlib.h>
 #include <string.h>
 
-enum { GUARD = 64 };
+enum { GUARD = 64, TEXT = 32768 };
 static const uint64_t CANARY = 0xC0FFEE11DEADBEEF;
 static const uint64_t LAST = UINT64_MAX;
 
@@ -19,6 +20,8 @@ static struct {
     uint64_t buffer[VASKELBI_ROOM];
     uint64_t further[GUARD];
     vaskelbi_slot slot;
+    uint64_t beyond[GUARD];
+    uint8_t text[TEXT];
     uint64_t after[GUARD];
 } all, was;
 
@@ -26,6 +29,7 @@ static vaskelbi_registry *const m = &all.registry;
 static vaskelbi_answer *const out = &all.out;
 static uint64_t *const buffer = all.buffer;
 static vaskelbi_slot *const slot = &all.slot;
+static uint8_t *const text = all.text;
 
 static unsigned calls;
 
@@ -40,10 +44,11 @@ static void fill(void *words, size_t size) {
     for (size_t i = 0; i < size; i += sizeof CANARY) memcpy((char *)words + i, &CANARY, sizeof CANARY);
 }
 
-// Answer and buffer hold canaries before a call, so that each number it writes is seen.
+// Answer, buffer and text hold canaries before a call, so that all it writes is seen.
 static void before(void) {
     fill(out, sizeof *out);
     fill(buffer, sizeof all.buffer);
+    fill(text, sizeof all.text);
     was = all;
 }
 
@@ -80,6 +85,12 @@ static void hold_listed(const char *call, uint64_t status, size_t place, const u
     hold(call, status, 0, NOTHING, &pairs, 1);
 }
 
+static void hold_written(const char *call, uint64_t status, size_t place, const char *lines) {
+    const uint64_t length = strlen(lines);
+    memcpy(was.text + place, lines, length);
+    hold(call, status, 0, NOTHING, &length, 1);
+}
+
 static const uint64_t none[1];
 #define NONE none, 0
 #define IS(...) ((uint64_t[]){__VA_ARGS__}), sizeof((uint64_t[]){__VA_ARGS__}) / sizeof(uint64_t)
@@ -96,6 +107,8 @@ static const uint64_t none[1];
 #define NUMBER(call, number) CALL(call, number, NOTHING, NULL, 0)
 // Pairs are listed from a place in the buffer.
 #define LISTED(call, place, ...) do { before(); uint64_t s_ = (call); hold_listed(#call, s_, place, __VA_ARGS__); } while (0)
+// Lines are written from a place in the text.
+#define WRITTEN(call, place, lines) do { before(); uint64_t s_ = (call); hold_written(#call, s_, place, lines); } while (0)
 // The slot afterwards.
 #define SLOT(call, ...) do { \
         before(); uint64_t s_ = (call); was.slot = (vaskelbi_slot){__VA_ARGS__}; hold(#call, s_, 0, NOTHING, NULL, 0); \
@@ -113,6 +126,76 @@ static uint64_t bare(uint64_t n) {
     return out->number[0];
 }
 
+static char lines[TEXT];
+static size_t length;
+
+static void put(const char *format, ...) {
+    va_list values;
+    va_start(values, format);
+    length += (size_t)vsnprintf(lines + length, sizeof lines - length, format, values);
+    va_end(values);
+}
+
+// The number that an accepted question answers, and in words where it may be none.
+static uint64_t of(uint64_t status, const vaskelbi_answer *answer) {
+    expect(status == 0 && answer->count > 0, "no number", "of");
+    return answer->number[0];
+}
+
+static void put_or_none(uint64_t status, const vaskelbi_answer *answer) {
+    expect(status == 0, "refused", "put_or_none");
+    if (answer->count) put("%" PRIu64 "\n", answer->number[0]);
+    else put("none\n");
+}
+
+static void put_pairs(const char *name, const uint64_t *pairs, uint64_t count) {
+    put("%ss=%" PRIu64 "\n", name, count);
+    for (uint64_t i = 0; i < count; i++) put("%s=%" PRIu64 ",%" PRIu64 "\n", name, pairs[2 * i], pairs[2 * i + 1]);
+}
+
+static void put_plugin(uint64_t id) {
+    uint64_t pairs[VASKELBI_ROOM], count;
+    vaskelbi_answer a;
+    put("id=%" PRIu64 "\nparent=", id);
+    put_or_none(vaskelbi_parent(m, id, &a), &a);
+    put("phase=%" PRIu64 "\n", of(vaskelbi_phase(m, id, &a), &a));
+    put("retired=%" PRIu64 "\n", of(vaskelbi_retired(m, id, &a), &a));
+    put("generation=%" PRIu64 "\n", of(vaskelbi_generation(m, id, &a), &a));
+    put("revision=%" PRIu64 "\n", of(vaskelbi_revision(m, id, &a), &a));
+    put("payload=%" PRIu64 "\n", of(vaskelbi_payload(m, id, &a), &a));
+    put("root=%" PRIu64 "\n", of(vaskelbi_root(m, id, &a), &a));
+    if (a.root.state == VASKELBI_QUEUED) put("queued=%" PRIu64 ",%" PRIu64 "\n", a.root.revision, a.root.argument);
+    else put("queued=none\n");
+    of(vaskelbi_anchor(m, id, &a), &a);
+    put("anchor=%" PRIu64 ",%" PRIu64 "\n", a.port.key, a.port.realm);
+    count = of(vaskelbi_list_realms(m, id, 0, pairs, VASKELBI_ROOM, &a), &a);
+    put_pairs("realm", pairs, count);
+    count = of(vaskelbi_list_dependencies(m, id, 0, pairs, VASKELBI_ROOM, &a), &a);
+    put_pairs("dep", pairs, count);
+    count = of(vaskelbi_list_provisions(m, id, 0, pairs, VASKELBI_ROOM, &a), &a);
+    put("provs=%" PRIu64 "\n", count);
+    for (uint64_t i = 0; i < count; i++) {
+        put("prov=%" PRIu64 ",%" PRIu64 ",", pairs[2 * i], pairs[2 * i + 1]);
+        put_or_none(vaskelbi_own(m, id, pairs[2 * i], pairs[2 * i + 1], &a), &a);
+    }
+}
+
+// The registry as text must be what the other functions answer: into just enough room, into more from an odd place, and not
+// into a byte less.
+static void writing(void) {
+    vaskelbi_answer a;
+    length = 0;
+    put("domain=%" PRIu64 "\nfirst=%" PRIu64 "\nnext=%" PRIu64 "\n", vaskelbi_domain(m), vaskelbi_first(m), vaskelbi_next(m));
+    put("plugins=%" PRIu64 "\n", vaskelbi_count(m));
+    for (uint64_t from = 0; vaskelbi_id_from(m, from, &a) == 0 && a.count; from = a.number[0] + 1) put_plugin(a.number[0]);
+    expect(length < sizeof lines - 3, "too long a text", "writing");
+    WRITTEN(vaskelbi_write_text(m, text, length, out), 0, lines);
+    WRITTEN(vaskelbi_write_text(m, text + 3, TEXT - 3, out), 3, lines);
+    REFUSED(vaskelbi_write_text(m, text, length - 1, out), 23);
+    REFUSED(vaskelbi_write_text(m, text + 1, length - 1, out), 23);
+    REFUSED(vaskelbi_write_text(m, text, 0, out), 23);
+}
+
 static void opening(void) {
     OPENED(vaskelbi_open(m, 7, 40));
     NUMBER(vaskelbi_domain(m), 7);
@@ -121,6 +204,7 @@ static void opening(void) {
     NUMBER(vaskelbi_count(m), 0);
     NUMBER(vaskelbi_rows(m), 0);
     ASKED(vaskelbi_id_from(m, 0, out), NONE);
+    writing();
 }
 
 static void resolving(void) { // E1, E8
@@ -160,6 +244,7 @@ static void registering(void) {
     NUMBER(vaskelbi_next(m), 42);
     NUMBER(vaskelbi_count(m), 2);
     NUMBER(vaskelbi_rows(m), 6);
+    writing();
 }
 
 static void listing(void) {
@@ -239,6 +324,7 @@ static void calling(void) {
     REFUSED(vaskelbi_admit(m, 7, 40, 1, 1, 600, out), 3);
     ASKED(vaskelbi_admits(m, 7, 40, 1, 1, out), IS(0));
     ASKED(vaskelbi_root(m, 40, out), IS(VASKELBI_QUEUED, 0, 600));
+    writing();
 
     REFUSED(vaskelbi_call(m, 8, 42, 1, 0, 600, out), 3);
     REFUSED(vaskelbi_call(m, 7, 42, 1, 0, 600, out), 1);
@@ -252,6 +338,7 @@ static void calling(void) {
 
     REFUSED(vaskelbi_fail(m, 42), 1);
     DONE(vaskelbi_fail(m, 40));
+    writing();
     REFUSED(vaskelbi_fail(m, 40), 3);
     REFUSED(vaskelbi_register_child(m, 40, 92, 0, 1, none, 0, none, 0, none, 0, out), 3);
     REFUSED(vaskelbi_finish(m, 42), 1);
@@ -283,6 +370,7 @@ static void offering(void) {
     ASKED(vaskelbi_own(m, 40, 3, 0, out), NONE);
     REFUSED(vaskelbi_own(m, 42, 2, 5, out), 1);
     ASKED(vaskelbi_visible(m, 2, 5, out), NONE);
+    writing();
     DONE(vaskelbi_offer(m, 40, 3, 0, 702));
     ASKED(vaskelbi_missing(m, 40, out), NONE);
     DONE(vaskelbi_ready(m, 40));
@@ -301,6 +389,7 @@ static void offering(void) {
     REFUSED(vaskelbi_unload(m, 42), 1);
     REFUSED(vaskelbi_unload(m, 41), 3);
     REFUSED(vaskelbi_unload(m, 40), 15);
+    writing();
 }
 
 // Both retired and removed; 41 while Loading.
@@ -354,6 +443,7 @@ static void full(void) {
     TOLD(vaskelbi_register(m, 1005, 77, 0, none, 0, none, 0, none, 0, out), IS(32));
     ASKED(vaskelbi_id_from(m, 0, out), IS(0));
     ASKED(vaskelbi_id_from(m, 5, out), IS(6));
+    writing();
 }
 
 static void last_id(void) {
@@ -362,6 +452,7 @@ static void last_id(void) {
     REFUSED(vaskelbi_register(m, 2, 0, 0, none, 0, none, 0, none, 0, out), 9);
     REFUSED(vaskelbi_register_child(m, LAST - 1, 2, 0, 0, none, 0, none, 0, none, 0, out), 9);
     NUMBER(vaskelbi_next(m), LAST);
+    writing();
 }
 
 // 48 dependencies are inherited over three plugins, 16 keys in three realms; then the rows are filled.
@@ -392,6 +483,7 @@ static void long_lists(void) {
     REFUSED(vaskelbi_register(m, 1022, 77, 0, none, 0, keys, 11, none, 0, out), 12);
     TOLD(vaskelbi_register(m, 1022, 77, 0, none, 0, keys, 10, none, 0, out), IS(22));
     NUMBER(vaskelbi_rows(m), 1024);
+    writing();
     REFUSED(vaskelbi_register(m, 1023, 77, 0, none, 0, none, 0, none, 0, out), 12);
     DONE(vaskelbi_retire(m, 22));
     DONE(vaskelbi_remove(m, 22));
@@ -435,6 +527,21 @@ static void exhausted(void) {
     REFUSED(vaskelbi_begin(m, id, out), 16);
     *generation = LAST - 1;
     TOLD(vaskelbi_begin(m, id, out), IS(7, id, LAST, 1));
+    writing();
+}
+
+// Document 02's example, byte for byte.
+static void example(void) {
+    const uint64_t realms[] = {2, 5}, provisions[] = {2};
+    static const char expected[] =
+        "domain=7\nfirst=0\nnext=1\nplugins=1\nid=0\nparent=none\nphase=0\nretired=0\ngeneration=0\nrevision=0\npayload=40\n"
+        "root=0\nqueued=none\nanchor=9,0\nrealms=1\nrealm=2,5\ndeps=0\nprovs=1\nprov=2,5,none\n";
+    OPENED(vaskelbi_open(m, 7, 0));
+    TOLD(vaskelbi_register(m, 9, 0, 40, realms, 2, none, 0, provisions, 1, out), IS(0));
+    WRITTEN(vaskelbi_write_text(m, text, 182, out), 0, expected);
+    WRITTEN(vaskelbi_write_text(m, text + TEXT - 182, 182, out), TEXT - 182, expected);
+    REFUSED(vaskelbi_write_text(m, text, 181, out), 23);
+    writing();
 }
 
 // Assigned's identity is 0 where there is none, and so is a generation.
@@ -480,6 +587,7 @@ int main(void) {
     last_id();
     long_lists();
     exhausted();
+    example();
     slots();
     printf("%u calls answered as they must, and wrote nowhere else\n", calls);
     return 0;

@@ -9,7 +9,7 @@
  *
  * What the caller owes, and nothing checks:
  *   - no pointer is null, not even that of a list of length 0;
- *   - each is aligned to 8 bytes and has the room that its type or length says;
+ *   - each is aligned to 8 bytes, but for that of a text's bytes, and has the room that its type or length says;
  *   - what a call may write overlaps nothing else that the call is given;
  *   - while a call runs, no other thread writes what it may read, or reads what it may write;
  *   - a registry is opened before its first use, a slot is made Pending or Assigned, and only these functions write to them;
@@ -33,7 +33,8 @@ enum {
     VASKELBI_DEPENDENCY_KEYS = 16, /* declared by one plugin */
     VASKELBI_PROVISION_KEYS = 15,  /* declared by one plugin */
     VASKELBI_DEPENDENCIES = 48,    /* of a finished dependency list */
-    VASKELBI_ROOM = 96             /* numbers, room for any list of a plugin */
+    VASKELBI_ROOM = 96,            /* numbers, room for any list of a plugin */
+    VASKELBI_TEXT_ROOM = 131072    /* bytes, more than any registry's text has */
 };
 
 enum vaskelbi_refusal {
@@ -229,6 +230,13 @@ uint64_t vaskelbi_list_provisions(const vaskelbi_registry *registry, uint64_t id
                                   size_t buffer_len, vaskelbi_answer *out);
 uint64_t vaskelbi_list_realms(const vaskelbi_registry *registry, uint64_t id, size_t place, uint64_t *buffer,
                               size_t buffer_len, vaskelbi_answer *out);
+
+/* Text. */
+
+/* The registry as text: a line of bytes `name=value` for each thing it holds, ended by byte 10, numbers decimal, plugins by rising
+ * id. The text fills the front of the lent bytes, and every byte behind it stays; no byte 0 ends it. Refuses 23 if there are fewer
+ * bytes than the text has, and then writes none. Answers the text's length. */
+uint64_t vaskelbi_write_text(const vaskelbi_registry *registry, uint8_t *text, size_t text_len, vaskelbi_answer *out);
 
 /* What a plugin holds. Each refuses 1. */
 

@@ -1,4 +1,4 @@
-//! The console: one operation a line, one answer line for each.
+//! The console: one operation a line, one answer for each.
 
 mod answer;
 mod lines;
@@ -18,11 +18,16 @@ use crate::slot::{ChildSlot, Decision};
 /// How many numbers the buffer has.
 pub const BUFFER: usize = 100;
 
+/// How many bytes can be lent for a text; every text is shorter.
+pub const TEXT: usize = 131_072;
+
 /// What the console keeps from line to line.
 pub struct Console {
     registry: Box<Registry>,
     slot: ChildSlot,
     buffer: [u64; BUFFER],
+    /// What is lent for a text.
+    text: Box<[u8]>,
     /// Room for a line's lists, kept to be used again.
     numbers: Vec<u64>,
 }
@@ -39,6 +44,7 @@ impl Console {
             registry: Box::new(Registry::open(0, 0)),
             slot: ChildSlot::pending(0, 0, 0),
             buffer: [0; BUFFER],
+            text: vec![0; TEXT].into_boxed_slice(),
             numbers: Vec::with_capacity(MAX_LINE / 2),
         }
     }
@@ -150,6 +156,12 @@ impl Console {
             Operation::Count => out.ok_numbers(&[registry.count()]),
             Operation::Next => out.ok_numbers(&[registry.next()]),
             Operation::Show(id) => write_shown(&registry.show(id)?, out),
+            Operation::Write { size } => {
+                let lent = &mut self.text[..size.min(TEXT as u64) as usize];
+                let length = registry.write(lent)?;
+                out.ok_numbers(&[length as u64]);
+                out.text(&lent[..length]);
+            }
             Operation::SlotPending { domain, parent, generation } => {
                 self.take_slot(ChildSlot::pending(domain, parent, generation), out);
             }

@@ -8,16 +8,21 @@
 mod checks;
 mod expected;
 mod report;
+mod told;
 
 use std::collections::BTreeMap;
 
+use crate::admission::Root;
 use crate::console::{Console, Operation, is_passed_over, parse};
+use crate::phases::Phase;
+use crate::plugin::Plugin;
 use crate::ports::{MAX_REALM_ROWS, Port};
 use crate::registration::{MAX_DEPENDENCIES, MAX_DEPENDENCY_KEYS, MAX_PROVISION_KEYS, MAX_ROWS};
 use crate::registry::{MAX_PLUGINS, Registry};
 
 pub use checks::{Check, holding};
 pub use expected::{EXPECTED, Expected};
+pub use told::told;
 
 /// What became of one operation's lines.
 #[derive(Default)]
@@ -107,9 +112,10 @@ impl Coverage {
     fn operation(&mut self, asked: &Operation<'_>, line: &[u8]) {
         let holding = holding(&self.console, asked);
         let kind = accepted_kind(self.console.registry(), asked);
+        let text = matches!(asked, Operation::Write { .. }).then(|| told(self.console.registry()));
         self.answer.clear();
         self.console.answer(line, &mut self.answer);
-        let answer = self.answer.trim_ascii_end();
+        let answer = first_line(&self.answer);
 
         let tally = self.tallies.entry(name(asked)).or_default();
         match holding.split_first() {
@@ -125,9 +131,13 @@ impl Coverage {
                 }
             }
         }
-        let answered = self.answer.trim_ascii_end();
+        let answered = first_line(&self.answer);
         let wanted = holding.first().map(|check| check.number);
-        if wanted != refused_number(answered) {
+        let same_text = text.is_none_or(|text| match wanted {
+            None => self.answer == format!("ok {}\n{text}", text.len()).as_bytes(),
+            Some(_) => answered.len() + 1 == self.answer.len(),
+        });
+        if wanted != refused_number(answered) || !same_text {
             self.disagreements.push(format!(
                 "line {}: {} answered {}",
                 self.lines,
@@ -172,6 +182,21 @@ impl Coverage {
                 let plugin = registry.plugin(id).expect("it was listed");
                 reached(plugin.dependencies().is_empty() && place == 100, LIST_AT_END);
             }
+            Operation::Write { size } => {
+                let plugins = || registry.registered();
+                reached(size == registry.text_length() as u64, WRITE_EXACT);
+                reached(registry.rows() == MAX_ROWS, WRITE_ROWS);
+                reached(registry.count() == MAX_PLUGINS as u64, WRITE_PLUGINS);
+                reached(!plugins().is_sorted_by_key(|(id, _)| id), WRITE_UNSORTED);
+                let queued = |p: &Plugin| matches!(p.root(), Root::Queued { .. });
+                reached(plugins().any(|(_, p)| queued(p)), WRITE_QUEUED);
+                let stale = |p: &Plugin| queued(p) && p.phase() == Phase::Unloading;
+                reached(plugins().any(|(_, p)| stale(p)), WRITE_UNLOADING);
+                let valued =
+                    |p: &Plugin| p.provisions().iter().any(|&port| p.value(port).is_some());
+                let lacks = |p: &Plugin| p.provisions().iter().any(|&port| p.value(port).is_none());
+                reached(plugins().any(|(_, p)| valued(p) && lacks(p)), WRITE_VALUES);
+            }
             _ => {}
         }
     }
@@ -190,7 +215,15 @@ const BEGIN_AGAIN: &str = "begun again";
 const BEGIN_BY_ANCHOR: &str = "begun on another's anchor";
 const LIST_AT_END: &str = "nothing listed at the buffer's end";
 
-const BOUNDARIES: [&str; 12] = [
+const WRITE_EXACT: &str = "written into just enough room";
+const WRITE_ROWS: &str = "written with 1,024 rows in use";
+const WRITE_PLUGINS: &str = "written with 32 plugins";
+const WRITE_UNSORTED: &str = "written with places not by rising id";
+const WRITE_QUEUED: &str = "written with a Queued root";
+const WRITE_UNLOADING: &str = "written while Unloading and Queued";
+const WRITE_VALUES: &str = "written with some of a plugin's values";
+
+const BOUNDARIES: [&str; 19] = [
     KEYS_16,
     KEYS_15,
     REALMS_16,
@@ -203,6 +236,13 @@ const BOUNDARIES: [&str; 12] = [
     BEGIN_AGAIN,
     BEGIN_BY_ANCHOR,
     LIST_AT_END,
+    WRITE_EXACT,
+    WRITE_ROWS,
+    WRITE_PLUGINS,
+    WRITE_UNSORTED,
+    WRITE_QUEUED,
+    WRITE_UNLOADING,
+    WRITE_VALUES,
 ];
 
 /// A kind that has to be told before the operation is carried out.
@@ -225,6 +265,11 @@ fn answered_kind(answer: &[u8]) -> &'static str {
         b"ok no" => "no",
         _ => "",
     }
+}
+
+/// An answer without its byte 10, and without the text that may follow.
+fn first_line(answer: &[u8]) -> &[u8] {
+    answer.split(|&byte| byte == b'\n').next().unwrap_or_default()
 }
 
 fn refused_number(answer: &[u8]) -> Option<u8> {
@@ -266,6 +311,7 @@ pub fn name(operation: &Operation<'_>) -> &'static str {
         Operation::Count => "count",
         Operation::Next => "next",
         Operation::Show(_) => "show",
+        Operation::Write { .. } => "write",
         Operation::SlotPending { .. } => "slot pending",
         Operation::SlotAssigned(_) => "slot assigned",
         Operation::SlotAssign(_) => "slot assign",

@@ -21,10 +21,12 @@ mod registry;
 mod replacement;
 mod retirement;
 mod slot;
+mod text;
 mod values;
 
 pub mod console;
 pub mod coverage;
+pub mod difference;
 pub mod script;
 
 pub use admission::{Invocation, Receipt, Root, SETUP, Ticket};
@@ -39,3 +41,4 @@ pub use registry::{MAX_PLUGINS, Registry, Shown};
 pub use replacement::{Record, RefusedPayload};
 pub use retirement::Child;
 pub use slot::{ChildSlot, Decision};
+pub use text::{MAX_DIGITS, decimal};

@@ -1,15 +1,20 @@
 //! The console's example, and its lines that are bad or only look so.
 
-use plain::console::{Console, Lines};
+use plain::console::{Console, Lines, TEXT};
 
-fn answers(script: &[u8]) -> Vec<String> {
+/// All that a fresh console answers to a script.
+fn said(script: &[u8]) -> String {
     let mut console = Console::new();
     let mut lines = Lines::new(script);
     let mut out = Vec::new();
     while let Some(line) = lines.next_line().unwrap() {
         console.answer(line, &mut out);
     }
-    String::from_utf8(out).unwrap().lines().map(str::to_string).collect()
+    String::from_utf8(out).unwrap()
+}
+
+fn answers(script: &[u8]) -> Vec<String> {
+    said(script).lines().map(str::to_string).collect()
 }
 
 /// Asks one line of a fresh console.
@@ -146,6 +151,12 @@ fn bad_lines() {
         "register no 1 0 5 realms deps provs",
         "matches",
         "resolve",
+        "write",
+        "write none",
+        "write 01",
+        "write 1 2",
+        "write 18446744073709551616",
+        "Write 0",
     ] {
         assert_eq!(answer(line), ["bad"], "{line}");
     }
@@ -164,4 +175,28 @@ fn a_line_has_4096_bytes_at_most() {
         assert_eq!(answer(line(4097)).len(), if end.len() > 1 { 2 } else { 1 });
     }
     assert_eq!(answer(format!(" #{}", "x".repeat(5000))), ["bad"]);
+}
+
+const EXAMPLE: &str = "domain=7\nfirst=0\nnext=1\nplugins=1\nid=0\nparent=none\nphase=0\nretired=0\ngeneration=0\nrevision=0\npayload=40\nroot=0\nqueued=none\nanchor=9,0\nrealms=1\nrealm=2,5\ndeps=0\nprovs=1\nprov=2,5,none\n";
+
+/// The bytes that are answered, not only their lines.
+#[test]
+fn a_text_is_answered_as_it_is() {
+    let start = "open 7 0\nregister none 9 0 40 realms 2 5 deps provs 2\n";
+    let length = EXAMPLE.len();
+    for (size, wanted) in [
+        ("0".to_string(), "no 23\n".to_string()),
+        ((length - 1).to_string(), "no 23\n".to_string()),
+        (length.to_string(), format!("ok {length}\n{EXAMPLE}")),
+        ((length + 1).to_string(), format!("ok {length}\n{EXAMPLE}")),
+        (TEXT.to_string(), format!("ok {length}\n{EXAMPLE}")),
+        ((TEXT + 1).to_string(), format!("ok {length}\n{EXAMPLE}")),
+        (u64::MAX.to_string(), format!("ok {length}\n{EXAMPLE}")),
+    ] {
+        let script = format!("{start}write {size}\nnext");
+        let said = said(script.as_bytes());
+        assert_eq!(said, format!("ok\nok 0\n{wanted}ok 1\n"), "{size}");
+    }
+    assert_eq!(said(b"write 33"), "no 23\n");
+    assert_eq!(said(b"write 34"), "ok 34\ndomain=0\nfirst=0\nnext=0\nplugins=0\n");
 }

@@ -2,7 +2,7 @@
 
 use std::collections::{BTreeMap, BTreeSet};
 
-use plain::console::{BUFFER, Operation, is_passed_over, parse};
+use plain::console::{BUFFER, Operation, TEXT, is_passed_over, parse};
 
 use crate::sides::{OURS, Out, PLAIN, Side};
 use crate::slots;
@@ -15,7 +15,7 @@ const LINES: u64 = 50_000;
 const BEFORE: Out = [u64::MAX - 9, 11, 12, 13, 14, 15, 16];
 
 /// The functions that have refusals.
-const REFUSING: [&str; 37] = [
+const REFUSING: [&str; 38] = [
     "register",
     "register_child",
     "begin",
@@ -41,6 +41,7 @@ const REFUSING: [&str; 37] = [
     "list_dependencies",
     "list_provisions",
     "list_realms",
+    "write_text",
     "parent",
     "anchor",
     "phase",
@@ -78,11 +79,13 @@ struct Told {
     out: Out,
 }
 
-/// A registry on one side, with a buffer beside it.
+/// A registry on one side, with buffers beside it.
 struct Desk {
     side: &'static Side,
     words: Vec<u64>,
     buffer: [u64; BUFFER],
+    /// What is lent for a text, and the last one in it.
+    text: Vec<u8>,
     told: Vec<Told>,
 }
 
@@ -168,6 +171,9 @@ fn script(seed: u64, operations: u64, tally: &mut Tally) -> Result<(), String> {
         if plain.buffer != ours.buffer {
             return Err(format!("seed {seed}, {line}: the buffers differ"));
         }
+        if matches!(operation, Operation::Write { .. }) && plain.text != ours.text {
+            return Err(format!("seed {seed}, {line}: the texts differ"));
+        }
         tally.operations += 1;
         if tally.operations == operations {
             break;
@@ -181,7 +187,7 @@ impl Desk {
         let mut words = World::new(side).words().to_vec();
         // The registry that is there before the first opening.
         unsafe { (side.open)(words.as_mut_ptr(), 0, 0) };
-        Self { side, words, buffer: [0; BUFFER], told: Vec::new() }
+        Self { side, words, buffer: [0; BUFFER], text: vec![0; TEXT], told: Vec::new() }
     }
 
     fn ask(
@@ -305,6 +311,12 @@ impl Desk {
             Operation::Deps { id, place } => ask!(self, list_dependencies(id, place) -> buffer),
             Operation::Provs { id, place } => ask!(self, list_provisions(id, place) -> buffer),
             Operation::Realms { id, place } => ask!(self, list_realms(id, place) -> buffer),
+            Operation::Write { size } => {
+                // The same bytes before on both sides, to see what it leaves alone.
+                self.text.fill(b'#');
+                let (text, length) = (self.text.as_mut_ptr(), size.min(TEXT as u64) as usize);
+                ask!(self, write_text(text, length) -> out);
+            }
             Operation::Rows => self.number("rows", self.side.rows),
             Operation::Count => self.number("count", self.side.count),
             Operation::Next => self.number("next", self.side.next),

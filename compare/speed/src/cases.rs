@@ -1,17 +1,21 @@
 //! What is timed: an operation on registries made ready for it.
 
+use plain::console::TEXT;
+
 use crate::sides::{Out, SLOT, Side};
 use crate::worlds::{self, *};
 
 /// What the operations write to, beside the registry.
-pub struct Room {
+pub struct Room<'a> {
     pub out: Out,
     pub buffer: [u64; 100],
+    /// Lent to each run, for it would cost more than most runs to make.
+    pub text: &'a mut [u8],
 }
 
-impl Room {
-    pub const fn new() -> Self {
-        Self { out: [0; 7], buffer: [0; 100] }
+impl<'a> Room<'a> {
+    pub const fn new(text: &'a mut [u8]) -> Self {
+        Self { out: [0; 7], buffer: [0; 100], text }
     }
 }
 
@@ -25,9 +29,11 @@ pub struct Case {
     pub returns: u64,
     /// How many slots its world has in the registry's place.
     pub slots: usize,
+    /// The length of the text that each operation writes, if it does.
+    pub bytes: u64,
     /// Makes them, and answers the sum of what they return. No step depends on an
     /// answer, so that the driver does the same on every side.
-    pub run: unsafe fn(&Side, *mut u64, &mut Room) -> u64,
+    pub run: unsafe fn(&Side, *mut u64, &mut Room<'_>) -> u64,
 }
 
 /// All ids of a full registry, not in order.
@@ -35,7 +41,7 @@ fn ids() -> impl Iterator<Item = u64> {
     (0..32).map(|n| FIRST + (13 * n + 5) % 32)
 }
 
-unsafe fn register(side: &Side, m: *mut u64, new: &Stranger, room: &mut Room) -> u64 {
+unsafe fn register(side: &Side, m: *mut u64, new: &Stranger, room: &mut Room<'_>) -> u64 {
     unsafe {
         (side.register)(
             m,
@@ -58,7 +64,7 @@ unsafe fn register_child(
     m: *mut u64,
     parent: u64,
     new: &Stranger,
-    room: &mut Room,
+    room: &mut Room<'_>,
 ) -> u64 {
     unsafe {
         (side.register_child)(
@@ -78,15 +84,20 @@ unsafe fn register_child(
     }
 }
 
+unsafe fn write_text(side: &Side, m: *mut u64, length: usize, room: &mut Room<'_>) -> u64 {
+    unsafe { (side.write_text)(m, room.text[..length].as_mut_ptr(), length, &mut room.out) }
+}
+
 /// The slots of a world, not in order.
 unsafe fn slots(m: *mut u64) -> impl Iterator<Item = *mut u64> {
     (0..SLOTS).map(move |n| unsafe { m.add(SLOT * ((13 * n + 5) % SLOTS)) })
 }
 
-/// A case: name; world; operations, what each returns, the world's slots if it has any;
-/// the operations themselves.
+/// A case: name; world; operations, what each returns, the world's slots if it has any,
+/// the bytes that each writes if it does; the operations themselves.
 macro_rules! cases {
-    ($( $name:literal, $world:expr, $operations:expr => $returns:expr $(, $slots:expr)?;
+    ($( $name:literal, $world:expr, $operations:expr => $returns:expr
+            $(, $slots:expr)? $(=> $bytes:expr)?;
         |$side:ident, $m:ident, $room:ident| $turn:expr; )*) => {
         pub const CASES: &[Case] = &[$(
             Case {
@@ -95,8 +106,9 @@ macro_rules! cases {
                 operations: $operations,
                 returns: $returns,
                 slots: 0 $(+ $slots)?,
+                bytes: 0 $(+ $bytes)?,
                 run: {
-                    unsafe fn run($side: &Side, $m: *mut u64, $room: &mut Room) -> u64 {
+                    unsafe fn run($side: &Side, $m: *mut u64, $room: &mut Room<'_>) -> u64 {
                         #[allow(unused_unsafe)]
                         unsafe { $turn.fold(0, u64::wrapping_add) }
                     }
@@ -242,6 +254,16 @@ cases! {
         |s, m, room| (0..32).map(|_| {
             (s.list_dependencies)(m, DEEP, 5, room.buffer.as_mut_ptr(), 100, &mut room.out)
         });
+    "write the text of one plugin", one, 32 => 0 => ONE_TEXT;
+        |s, m, room| (0..32).map(|_| write_text(s, m, TEXT, room));
+    "write the text of 32 Active plugins", worlds::active, 1 => 0 => ACTIVE_TEXT;
+        |s, m, room| (0..1).map(|_| write_text(s, m, TEXT, room));
+    "write the text of 32 plugins and 1,024 rows", full, 1 => 0 => FULL_TEXT;
+        |s, m, room| (0..1).map(|_| write_text(s, m, TEXT, room));
+    "write the text of 32 plugins and 1,024 rows, long numbers", long, 1 => 0 => LONG_TEXT;
+        |s, m, room| (0..1).map(|_| write_text(s, m, TEXT, room));
+    "write refused: a byte too little for 32 plugins and 1,024 rows", full, 1 => 23;
+        |s, m, room| (0..1).map(|_| write_text(s, m, FULL_TEXT as usize - 1, room));
     "parent", family, 32 => 0;
         |s, m, room| ids().map(|id| (s.parent)(m, id, &mut room.out));
     "anchor", strangers, 32 => 0;

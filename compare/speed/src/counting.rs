@@ -7,7 +7,7 @@ use std::thread;
 
 use crate::cases::CASES;
 use crate::sides::{EMPTY, OURS, PLAIN, Side};
-use crate::timing::{copies, prepared, run};
+use crate::timing::{copies, prepared, run, text};
 
 /// Worlds that lie ready in either run. Now and then the start of a program takes a
 /// few instructions more or less: with so many worlds that doesn't show.
@@ -23,7 +23,7 @@ pub struct Counts {
 pub fn inner(side: &str, case: usize, worlds: usize) -> u64 {
     let side = side_named(side);
     let case = &CASES[case];
-    run(side, case, &mut copies(&prepared(side, case), WORLDS), worlds)
+    run(side, case, &mut copies(&prepared(side, case), WORLDS), worlds, &mut text())
 }
 
 fn side_named(name: &str) -> &'static Side {

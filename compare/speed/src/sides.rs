@@ -176,6 +176,7 @@ sides! {
     fn list_realms(
         m: *mut u64, id: u64, place: usize, buffer: *mut u64, count: usize, out: &mut Out
     ) -> u64;
+    fn write_text(m: *mut u64, text: *mut u8, length: usize, out: &mut Out) -> u64;
     fn parent(m: *mut u64, id: u64, out: &mut Out) -> u64;
     fn anchor(m: *mut u64, id: u64, out: &mut Out) -> u64;
     fn phase(m: *mut u64, id: u64, out: &mut Out) -> u64;

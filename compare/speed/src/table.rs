@@ -59,6 +59,18 @@ pub fn write(
         };
         line(format!("| {} | {plain:.1} | {ours:.1} | {ratio} | {counted} |", CASES[case].name));
     }
+    let texts = cases.iter().zip(times).map(|(&case, time)| (&CASES[case], time));
+    for (n, (case, Times { plain, ours })) in texts.filter(|(case, _)| case.bytes > 0).enumerate() {
+        if n == 0 {
+            line(String::new());
+        }
+        // Bytes by nanoseconds are thousands of megabytes by seconds.
+        let [plain, ours] = [plain, ours].map(|time| 1000.0 * case.bytes as f64 / time);
+        line(format!(
+            "- {}, {} bytes: plain {plain:.0} MB/s, ours {ours:.0} MB/s",
+            case.name, case.bytes
+        ));
+    }
     text
 }
 

@@ -4,6 +4,8 @@ use std::fs;
 use std::hint::black_box;
 use std::time::Instant;
 
+use plain::console::TEXT;
+
 use crate::cases::{Case, Room};
 use crate::sides::{EMPTY, OURS, PLAIN, SLOT, Side, WORLD};
 use crate::slots;
@@ -34,33 +36,49 @@ pub fn copies(of: &[u64], count: usize) -> Vec<u64> {
     of.repeat(count)
 }
 
+/// Room for a text, its pages touched.
+pub fn text() -> Vec<u8> {
+    vec![b'#'; TEXT]
+}
+
 /// Runs a case on so many of the worlds.
 #[inline(never)]
-pub fn run(side: &'static Side, case: &Case, worlds: &mut [u64], count: usize) -> u64 {
-    let (side, mut room) = (black_box(side), Room::new());
+pub fn run(
+    side: &'static Side,
+    case: &Case,
+    worlds: &mut [u64],
+    count: usize,
+    text: &mut [u8],
+) -> u64 {
+    let (side, mut room) = (black_box(side), Room::new(text));
     let mut sum = 0u64;
     for world in worlds.chunks_exact_mut(WORLD).take(count) {
         sum = sum.wrapping_add(unsafe { (case.run)(side, world.as_mut_ptr(), &mut room) });
     }
-    black_box(&room);
+    black_box(&mut room);
     sum
 }
 
 /// Says if a case doesn't do what its name says, or the sides don't do the same.
 pub fn check(case: &Case) -> Result<(), String> {
     let [plain, ours] = [&PLAIN, &OURS].map(|side| {
-        let (mut world, mut room) = (prepared(side, case), Room::new());
+        let (mut world, mut text) = (prepared(side, case), text());
+        let mut room = Room::new(&mut text);
         let sum = unsafe { (case.run)(side, world.as_mut_ptr(), &mut room) };
         let slots = slots::told(side, &world[..case.slots * SLOT]);
-        (side.name, sum, room, slots)
+        let (out, buffer) = (room.out, room.buffer);
+        (side.name, sum, (out, buffer, text), slots)
     });
     for (name, sum, ..) in [&plain, &ours] {
         if *sum != case.operations * case.returns {
             return Err(format!("{}: the {name} side returns {sum} in all", case.name));
         }
     }
-    if (plain.2.out, plain.2.buffer) != (ours.2.out, ours.2.buffer) {
-        return Err(format!("{}: {:?} and {:?}", case.name, plain.2.out, ours.2.out));
+    if plain.2 != ours.2 {
+        return Err(format!("{}: {:?} and {:?}", case.name, plain.2.0, ours.2.0));
+    }
+    if case.bytes > 0 && plain.2.0[..2] != [1, case.bytes] {
+        return Err(format!("{}: {:?} for {} bytes", case.name, plain.2.0, case.bytes));
     }
     if plain.3 != ours.3 {
         return Err(format!("{}: the slots differ", case.name));
@@ -77,7 +95,7 @@ pub fn time(case: &Case) -> Times {
     let sides = [&PLAIN, &OURS, &EMPTY];
     let ready = sides.map(|side| prepared(side, case));
     let mut times = [const { Vec::new() }; 3];
-    let mut worlds = vec![0; WORLDS * WORLD];
+    let (mut worlds, mut text) = (vec![0; WORLDS * WORLD], text());
     for round in 0..ROUNDS {
         for turn in 0..3 {
             let n = (round + turn) % 3;
@@ -85,7 +103,7 @@ pub fn time(case: &Case) -> Times {
                 world.copy_from_slice(&ready[n]);
             }
             let start = Instant::now();
-            black_box(run(sides[n], case, &mut worlds, WORLDS));
+            black_box(run(sides[n], case, &mut worlds, WORLDS, &mut text));
             times[n].push(start.elapsed().as_nanos() as f64);
         }
     }

@@ -474,6 +474,29 @@ pub fn full(world: &mut World) {
     }
 }
 
+/// The same, with numbers of 20 digits wherever they can be.
+pub fn long(world: &mut World) {
+    const KEYS: [u64; 16] = run(u64::MAX - 15);
+    for n in 0..32 {
+        let mut realms = [u64::MAX - n; 32];
+        for (row, key) in KEYS.iter().enumerate() {
+            realms[2 * row] = *key;
+        }
+        world.register(Lists { dependencies: &KEYS, provisions: &KEYS[..15], realms: &realms });
+    }
+}
+
+/// One plugin, with two provisions.
+pub fn one(world: &mut World) {
+    independent(world, 0);
+}
+
+/// The lengths of the texts of `one`, `active`, `full` and `long`.
+pub const ONE_TEXT: u64 = 206;
+pub const ACTIVE_TEXT: u64 = 5811;
+pub const FULL_TEXT: u64 = 19697;
+pub const LONG_TEXT: u64 = 77663;
+
 /// The same, with the newest retired.
 pub fn newest_retired(world: &mut World) {
     full(world);

@@ -42,5 +42,8 @@ fn main() -> Result<(), Box<dyn Error>> {
     registry.ready(id)?;
     let angle = registry.visible(ANGLE).expect("the driver is Active");
     println!("the driver is ready, its angle is {angle} h");
+
+    let mut buffer = [0; 1024];
+    print!("the registry as text:\n{}", registry.text(&mut buffer)?);
     Ok(())
 }

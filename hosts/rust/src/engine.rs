@@ -183,6 +183,13 @@ unsafe extern "C" {
         out: &mut [u64; ANSWER],
     ) -> u64;
 
+    pub unsafe fn vaskelbi_write_text(
+        m: &[u64; WORDS],
+        text: *mut u8,
+        text_len: usize,
+        out: &mut [u64; ANSWER],
+    ) -> u64;
+
     pub safe fn vaskelbi_parent(m: &[u64; WORDS], id: u64, out: &mut [u64; ANSWER]) -> u64;
     pub safe fn vaskelbi_anchor(m: &[u64; WORDS], id: u64, out: &mut [u64; ANSWER]) -> u64;
     pub safe fn vaskelbi_phase(m: &[u64; WORDS], id: u64, out: &mut [u64; ANSWER]) -> u64;

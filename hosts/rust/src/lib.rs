@@ -15,5 +15,5 @@ mod slot;
 pub use engine::WORDS;
 pub use numbers::{Definition, Identity, Invocation, Phase, Port, Reading, Receipt, Root, Ticket};
 pub use refusal::{Refusal, Refused};
-pub use registry::{Ids, Registry, resolve};
+pub use registry::{Ids, Registry, TEXT_ROOM, resolve};
 pub use slot::{Decision, Origin, Slot};

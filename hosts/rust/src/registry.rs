@@ -33,6 +33,9 @@ pub struct Registry {
     words: [u64; WORDS],
 }
 
+/// More bytes than any registry's text has.
+pub const TEXT_ROOM: usize = 131_072;
+
 const _: () = assert!(size_of::<Registry>() == 35_904 && align_of::<Registry>() == 8);
 
 type Answer = [u64; ANSWER];
@@ -389,6 +392,35 @@ impl Registry {
     pub fn lookup(&self, id: u64, key: u64) -> Result<Option<Port>, Refusal> {
         answer(|out| engine::vaskelbi_lookup(&self.words, id, key, out))
             .map(|found| perhaps(found, port))
+    }
+}
+
+/// Text: a line `name=value` for each thing that the registry holds, ended by byte 10, plugins by rising id.
+impl Registry {
+    /// Writes the text to the front of the lent bytes, whose rest stays, and answers its length. Refuses 23, and then writes
+    /// nothing.
+    pub fn write_text(&self, text: &mut [u8]) -> Result<usize, Refusal> {
+        answer(|out| {
+            // SAFETY: pointer and length are one slice's, borrowed here alone.
+            unsafe { engine::vaskelbi_write_text(&self.words, text.as_mut_ptr(), text.len(), out) }
+        })
+        .map(|found| number(found) as usize)
+    }
+
+    /// Writes the text to the front of the lent bytes and answers it. Refuses 23.
+    ///
+    /// ```
+    /// use vaskelbi::{Refusal, Registry};
+    ///
+    /// let registry = Registry::open(7, 100);
+    /// let mut buffer = [0; 64];
+    /// assert_eq!(registry.text(&mut buffer)?, "domain=7\nfirst=100\nnext=100\nplugins=0\n");
+    /// assert_eq!(registry.text(&mut buffer[..8]), Err(Refusal::ShortBuffer));
+    /// # Ok::<(), Refusal>(())
+    /// ```
+    pub fn text<'t>(&self, buffer: &'t mut [u8]) -> Result<&'t str, Refusal> {
+        let length = self.write_text(buffer)?;
+        Ok(core::str::from_utf8(&buffer[..length]).expect("a text has bytes below 128 alone"))
     }
 }
 

@@ -1,16 +1,17 @@
-//! Writing an answer line.
+//! Writing an answer.
 
 use crate::refusal::Refusal;
 
 /// Appends one answer line, word by word. Every word but the first, which is
-/// `ok`, `no` or `bad`, comes after a space.
+/// `ok`, `no` or `bad`, comes after a space. A text may follow the line.
 pub struct Answer<'a> {
     out: &'a mut Vec<u8>,
+    ended: bool,
 }
 
 impl<'a> Answer<'a> {
     pub fn new(out: &'a mut Vec<u8>) -> Self {
-        Self { out }
+        Self { out, ended: false }
     }
 
     pub fn bad(&mut self) {
@@ -78,7 +79,16 @@ impl<'a> Answer<'a> {
         self.out.extend_from_slice(&digits[start..]);
     }
 
-    pub fn end(self) {
+    /// Ends the line and appends a text, just as it is.
+    pub fn text(&mut self, text: &[u8]) {
         self.out.push(b'\n');
+        self.out.extend_from_slice(text);
+        self.ended = true;
+    }
+
+    pub fn end(self) {
+        if !self.ended {
+            self.out.push(b'\n');
+        }
     }
 }

@@ -40,6 +40,7 @@ pub enum Operation<'a> {
     Count,
     Next,
     Show(u64),
+    Write { size: u64 },
     SlotPending { domain: u64, parent: u64, generation: u64 },
     SlotAssigned(Child),
     SlotAssign(Child),
@@ -134,6 +135,7 @@ pub fn parse<'a>(line: &[u8], numbers: &'a mut Vec<u64>) -> Option<Operation<'a>
         b"count" => words.end(Operation::Count)?,
         b"next" => words.end(Operation::Next)?,
         b"show" => Operation::Show(words.one()?),
+        b"write" => Operation::Write { size: words.one()? },
         b"slot" => slot(&mut words)?,
         _ => return None,
     })

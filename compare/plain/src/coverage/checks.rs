@@ -14,6 +14,8 @@ use crate::registration::Registration;
 use crate::registry::Registry;
 use crate::slot::Decision;
 
+use super::told;
+
 /// A refusal number and, where it has several, the reason.
 #[derive(Clone, Copy, Debug, PartialEq, Eq, PartialOrd, Ord)]
 pub struct Check {
@@ -188,6 +190,10 @@ fn look(console: &Console, asked: &Operation<'_>, found: &mut Found) -> Option<(
         }
         Operation::Realms { id, place } => {
             room(found.plugin(registry, id)?.realms(), place, found);
+        }
+        Operation::Write { size } => {
+            let length = told(registry).len() as u64;
+            found.when(size < length, 23, "");
         }
         Operation::SlotAssign(child) => {
             let slot = console.slot();

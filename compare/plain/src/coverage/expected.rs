@@ -144,6 +144,7 @@ pub const EXPECTED: &[Expected] = &[
     ("count", PLAIN, &[]),
     ("next", PLAIN, &[]),
     ("show", PLAIN, UNKNOWN),
+    ("write", PLAIN, &[check(23, "")]),
     ("slot pending", PLAIN, &[]),
     ("slot assigned", PLAIN, &[]),
     (

@@ -3,7 +3,7 @@
 use super::Script;
 use super::draft::Draft;
 use crate::admission::Root;
-use crate::console::BUFFER;
+use crate::console::{BUFFER, TEXT};
 use crate::phases::Phase;
 use crate::ports::Port;
 use crate::registry::MAX_PLUGINS;
@@ -64,7 +64,7 @@ impl Script {
         if self.life.left == 0 {
             self.open();
         }
-        match self.rng.below(200) {
+        match self.rng.below(206) {
             0..=69 => self.advance(),
             70..=99 => self.grow(),
             100..=169 => self.probe(),
@@ -75,7 +75,8 @@ impl Script {
             190..=195 => self.malformed(),
             196..=197 => self.passed_over(),
             198 => self.long_line(),
-            _ => self.register_bare(),
+            199 => self.register_bare(),
+            _ => self.write(),
         }
     }
 
@@ -521,5 +522,24 @@ impl Script {
                 self.ask("show", &[id])
             }
         };
+    }
+
+    /// Writes the registry as text. Long texts are mostly asked for with too
+    /// little room, so that the answers don't get too long.
+    fn write(&mut self) {
+        let length = self.registry().text_length() as u64;
+        let long = length > 3000 && !self.rng.one_in(1 + length / 3000);
+        let size = match self.rng.below(if long { 6 } else { 14 }) {
+            0 => 0,
+            1..=3 => length - 1,
+            4 => self.rng.below(length),
+            5 => self.rng.below(12),
+            6..=9 => length,
+            10 => length + 1 + self.rng.below(12),
+            11 => self.rng.one_of([TEXT - 1, TEXT, TEXT + 1]) as u64,
+            12 => u64::MAX - self.rng.below(2),
+            _ => self.rng.number(),
+        };
+        self.ask("write", &[size]);
     }
 }

@@ -4,7 +4,7 @@ use super::Script;
 use crate::console::MAX_LINE;
 
 /// One good line of every form, to be spoilt.
-const GOOD: [&str; 44] = [
+const GOOD: [&str; 46] = [
     "open 7 0",
     "register none 9 0 40 realms 2 5 deps provs 2",
     "register 0 9 0 40 realms 2 5 9 1 deps 4 provs 3",
@@ -49,6 +49,8 @@ const GOOD: [&str; 44] = [
     "slot cancel",
     "buffer 98 200",
     "visible 0 0",
+    "write 0",
+    "write 900",
 ];
 
 /// Words that are no numbers, or only just are.

@@ -29,7 +29,7 @@ unsafe fn list<'a>(first: *const u64, count: usize) -> &'a [u64] {
     unsafe { from_raw_parts(first, count) }
 }
 
-unsafe fn buffer<'a>(first: *mut u64, count: usize) -> &'a mut [u64] {
+unsafe fn buffer<'a, T>(first: *mut T, count: usize) -> &'a mut [T] {
     unsafe { from_raw_parts_mut(first, count) }
 }
 
@@ -262,6 +262,10 @@ border! {
         out: &mut Out,
     ) -> u64 {
         number(m.realms(id, unsafe { buffer(first, count) }, place as u64), out)
+    }
+
+    fn write_text(m: &Registry, first: *mut u8, length: usize, out: &mut Out) -> u64 {
+        number(m.write(unsafe { buffer(first, length) }).map(|length| length as u64), out)
     }
 
     fn parent(m: &Registry, id: u64, out: &mut Out) -> u64 {
