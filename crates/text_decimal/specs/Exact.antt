@@ -7,7 +7,7 @@ use mathlib.Core.Option.{none, some}
 use native.Mathlib.Omega.{arith}
 use lib.Dec.{eqb, ltb}
 use borrow.Author.Tests.{ltb-false, eqb-false, le-ltb, ne-eqb}
-use Rattle.rules.specs.Basics.{pick, last, any}
+use Rattle.rules.specs.Basics.{last, any}
 use Rattle.rules.specs.Laws.Tests.{by-test, neither}
 use Rattle.text_decimal.specs.Digits.{decimalOf}
 use Rattle.text_decimal.specs.Numbers.{noDigit, with, valueFrom, numberOf}
