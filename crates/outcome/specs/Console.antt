@@ -1,8 +1,6 @@
 -- Each promise of these crates allows one outcome: the console.
 use denote.Ref.{now}
-use Rattle.text_decimal.specs.Numbers.{read-exact}
 use Rattle.console_slot.specs.Exact.{turn-exact}
-use Rattle.text_decimal.proofs as text_decimal
 use Rattle.console_words.proofs as console_words
 use Rattle.console_answer.proofs as console_answer
 use Rattle.console_names.proofs as console_names
@@ -14,13 +12,7 @@ use Rattle.console_register.proofs as console_register
 use Rattle.console_line.proofs as console_line
 use Rattle.outcome.specs.One.{One, OneSeen}
 use Rattle.outcome.specs.Equations.{by-equation, by-three, one-outcome}
-use Rattle.outcome.specs.Records.{gathered-one, leaves-one, numbered-one, page-one, spanned-one, three-one, turns-one, written-one}
-
-pub text-decimal-write-decimal : One text_decimal.«write_decimal».ended text_decimal.«write_decimal».Reads.Learnt
-text-decimal-write-decimal κs a r s ms ns p q = written-one p q
-
-pub text-decimal-read-decimal : One text_decimal.«read_decimal».ended text_decimal.«read_decimal».Reads.Learnt
-text-decimal-read-decimal κs a r s ms ns p q = one-outcome read-exact p q
+use Rattle.outcome.specs.Records.{gathered-one, leaves-one, numbered-one, page-one, spanned-one, three-one, turns-one}
 
 pub console-words-next-word : One console_words.«next_word».ended console_words.«next_word».Reads.Learnt
 console-words-next-word κs a r s ms ns p q = spanned-one p q

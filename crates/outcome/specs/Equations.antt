@@ -12,6 +12,10 @@ by-equation e g = e ∙ sym g
 pub memory-alone : {A : Type 0} {y c d : A} {r s : Unit {0}} → c ≡ y → d ≡ y → (r ≡ s) × (c ≡ d)
 memory-alone e g = (refl, by-equation e g)
 
+-- r ≡ x, where the lent memory is handed back as r
+pub answer-alone : {A : Type 0} {x a b : A} {m n : Unit {0}} → a ≡ x → b ≡ x → (a ≡ b) × (m ≡ n)
+answer-alone e g = (by-equation e g, refl)
+
 -- r ≡ x, and memory ≡ y; `Tells` too: a status, and the words told
 pub by-two : {A B : Type 0} {x a b : A} {y c d : B} → (a ≡ x) × (c ≡ y) → (b ≡ x) × (d ≡ y) → (a ≡ b) × (c ≡ d)
 by-two p q = (by-equation (p .0) (q .0), by-equation (p .1) (q .1))

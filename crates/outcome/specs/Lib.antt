@@ -8,4 +8,5 @@ pub mod Words
 pub mod Operations
 pub mod Values
 pub mod Host
+pub mod Text
 pub mod Console

@@ -5,6 +5,8 @@ use mathlib.Core.List.{List}
 use Rattle.slot.specs.Slots.{slotOf}
 use Rattle.slot.specs.Exact.{slot-exact}
 use Rattle.text_form.specs.Digits.{Written}
+use Rattle.text_form.specs.Digits.{Written}
+use Rattle.text_lines.specs.Laid.{Laid}
 use Rattle.console_words.specs.Words.{Spanned}
 use Rattle.console_words.specs.Runs.{Gathered}
 use Rattle.console_words.specs.Fronts.{Front}
@@ -24,6 +26,10 @@ use Rattle.outcome.specs.Equations.{by-equation}
 -- Digits, and their count.
 pub written-one : {k r s : ℕ} {before o n : List ℕ} → Written k r before o → Written k s before n → (r ≡ s) × (o ≡ n)
 written-one p q = (by-equation (p .count) (q .count), by-equation (p .bytes) (q .bytes))
+
+-- Bytes at a place of a text, and the place behind them.
+pub laid-one : {l before o n : List ℕ} {at r s : ℕ} → Laid l at before o r → Laid l at before n s → (r ≡ s) × (o ≡ n)
+laid-one p q = (by-equation (p .place) (q .place), by-equation (p .text) (q .text))
 
 -- A word's place in a line.
 pub spanned-one : {line : List ℕ} {from : ℕ} {r s : Span} → Spanned line from r → Spanned line from s → r ≡ s

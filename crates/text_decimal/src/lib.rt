@@ -1,4 +1,4 @@
-// Numbers as the console writes and reads them: decimal, without leading zeros, at most 2^64 − 1.
+// Numbers as the console and the text write and read them: decimal, without leading zeros, at most 2^64 − 1.
 ghost use mathlib.Core.Path.{_≡_};
 ghost use Prim.Native.Nat.{_≤_};
 ghost use lib.ListN.{length};

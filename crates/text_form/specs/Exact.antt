@@ -12,6 +12,11 @@ use Rattle.rules_basics.specs.Tests.{by-test, neither}
 use Rattle.text_form.specs.Digits.{decimalOf}
 use Rattle.text_form.specs.Words.{noDigit, with, valueFrom, numberOf}
 use Rattle.text_form.specs.Writing.{digits-one, digits-more}
+use Rattle.rules_basics.specs.Basics.{last, any}
+use Rattle.rules_basics.specs.Tests.{by-test, neither}
+use Rattle.text_form.specs.Digits.{decimalOf}
+use Rattle.text_form.specs.Words.{noDigit, with, valueFrom, numberOf}
+use Rattle.text_form.specs.Writing.{digits-one, digits-more}
 
 -- A byte that was read behind a number is a digit, and the whole fits.
 pub record Digit (n b : ℕ) : Type 0 where

@@ -1,5 +1,5 @@
 -- The byte is stored, or there is no place for it.
-use mathlib.Core.Path.{_≡_, refl, sym, ap, _∙_}
+use mathlib.Core.Path.{refl, sym, ap, _∙_}
 use mathlib.Core.Logic.{⊎-elim}
 use lib.ListN.{length, length-set}
 use Rattle.text_lines.specs.Laid.{laid-byte, laid-past}
