@@ -5,7 +5,6 @@ use mathlib.Core.List.{List}
 use Rattle.slot.specs.Slots.{slotOf}
 use Rattle.slot.specs.Exact.{slot-exact}
 use Rattle.text_form.specs.Digits.{Written}
-use Rattle.text_form.specs.Digits.{Written}
 use Rattle.text_lines.specs.Laid.{Laid}
 use Rattle.console_words.specs.Words.{Spanned}
 use Rattle.console_words.specs.Runs.{Gathered}

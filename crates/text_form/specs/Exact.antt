@@ -7,11 +7,6 @@ use mathlib.Core.Option.{none, some}
 use native.Mathlib.Omega.{arith}
 use lib.Dec.{eqb, ltb}
 use borrow.Author.Tests.{ltb-false, eqb-false, le-ltb, ne-eqb}
-use Rattle.rules_basics.specs.Basics.{pick, last, any}
-use Rattle.rules_basics.specs.Tests.{by-test, neither}
-use Rattle.text_form.specs.Digits.{decimalOf}
-use Rattle.text_form.specs.Words.{noDigit, with, valueFrom, numberOf}
-use Rattle.text_form.specs.Writing.{digits-one, digits-more}
 use Rattle.rules_basics.specs.Basics.{last, any}
 use Rattle.rules_basics.specs.Tests.{by-test, neither}
 use Rattle.text_form.specs.Digits.{decimalOf}
