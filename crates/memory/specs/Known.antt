@@ -19,7 +19,7 @@ use Rattle.memory.specs.Lookups.{placed, lookup-view, find-found}
 use Rattle.memory.specs.Stores.{Alone, store-view}
 use Rattle.memory.specs.declared.Life.{Life}
 use Rattle.memory.specs.declared.Place.{Place}
-use Rattle.memory.specs.declared.Place.the-variants.{At, Nowhere}
+use Rattle.memory.specs.declared.Place.the-variants.{At, None}
 
 -- Where the id is found.
 module _ (m : List ℕ) (id i : ℕ) (e : findAt m id ≡ At i) where
@@ -43,10 +43,10 @@ module _ (m : List ℕ) (id i : ℕ) (e : findAt m id ≡ At i) where
   at-known f = rw at-lookup
 
 -- Where it is not.
-pub none-lookup : (m : List ℕ) (id : ℕ) → findAt m id ≡ Nowhere → lookup (view m) id ≡ none
+pub none-lookup : (m : List ℕ) (id : ℕ) → findAt m id ≡ None → lookup (view m) id ≡ none
 none-lookup m id e = lookup-view m id ∙ ap (placed m) e
 
-pub none-known : (m : List ℕ) (id : ℕ) → findAt m id ≡ Nowhere → (f : Plugin → Outcome) → known (view m) id f ≡ refuses Unknown []
+pub none-known : (m : List ℕ) (id : ℕ) → findAt m id ≡ None → (f : Plugin → Outcome) → known (view m) id f ≡ refuses Unknown []
 unfolding found
 none-known m id e f = rw (none-lookup m id e)
 
@@ -68,7 +68,7 @@ life-of m i = refl
 -- The words after an operation that stores a life; any other outcome leaves them.
 abbrev pub putLifeAt : List ℕ → Place → Life → List ℕ
 putLifeAt m (At i) l = putLife m i l
-putLifeAt m Nowhere l = m
+putLifeAt m None l = m
 
 unfoldable pub storedLife : List ℕ → Outcome → List ℕ
 storedLife m (refuses x vs) = m
@@ -98,7 +98,7 @@ stored-size m (writes place l vs) = refl
 stored-size m (stores q vs) = at (findAt m (q .id))
   where
     at : (p : Place) → length (putLifeAt m p (lifeOf q)) ≡ length m
-    at Nowhere = refl
+    at None = refl
     at (At i) = life-length m i (lifeOf q)
 stored-size m (adds q vs) = refl
 stored-size m (removes id vs) = refl

@@ -11,7 +11,7 @@ use Rattle.memory.specs.Layout.{provPart}
 use Rattle.memory.specs.View.{view}
 use Rattle.memory.specs.Writes.{findAt}
 use Rattle.memory.specs.declared.Place.{Place}
-use Rattle.memory.specs.declared.Place.the-variants.{At, Nowhere}
+use Rattle.memory.specs.declared.Place.the-variants.{At, None}
 use Rattle.memory_life.specs.Told.{Meets}
 use Rattle.ports.specs.declared.Found.{Found}
 use Rattle.ports.specs.declared.Found.the-variants as found
@@ -21,12 +21,12 @@ use Rattle.memory_values.specs.After.{set-length}
 -- at a provision of place i
 abbrev pub valuePut : List ℕ → ℕ → ℕ → Found → List ℕ
 valuePut m i v (found.At j) = withValue m i j v
-valuePut m i v found.Nothing = m
+valuePut m i v found.None = m
 
 -- at the provision that the port is
 abbrev pub portPut : List ℕ → Port → ℕ → Place → List ℕ
 portPut m q v (At i) = valuePut m i v (portFrom 0 q (pairs (provPart m i)))
-portPut m q v Nowhere = m
+portPut m q v None = m
 
 -- Only an outcome that stores a plugin changes them.
 unfoldable pub offeredTo : List ℕ → ℕ → Port → ℕ → Outcome → List ℕ
@@ -43,7 +43,7 @@ Offers m id q v a m′ = Meets (λ w o. offeredTo w id q v o) (offer (view m) id
 
 put-size : (m : List ℕ) (i v : ℕ) (f : Found) → length (valuePut m i v f) ≡ length m
 put-size m i v (found.At j) = set-length m i j v
-put-size m i v found.Nothing = refl
+put-size m i v found.None = refl
 
 -- On any words, there are as many afterwards.
 pub offered-size : (m : List ℕ) (id : ℕ) (q : Port) (v : ℕ) (o : Outcome) → length (offeredTo m id q v o) ≡ length m
@@ -55,6 +55,6 @@ offered-size m id q v (stores p vs) = at (findAt m id)
   where
     at : (x : Place) → length (portPut m q v x) ≡ length m
     at (At i) = put-size m i v (portFrom 0 q (pairs (provPart m i)))
-    at Nowhere = refl
+    at None = refl
 offered-size m id q v (adds p vs) = refl
 offered-size m id q v (removes n vs) = refl

@@ -9,13 +9,13 @@ use Rattle.memory.specs.Frames.{life-length}
 use Rattle.memory.specs.Known.{lifeOf}
 use Rattle.memory.specs.declared.Life.{Life}
 use Rattle.memory.specs.declared.Place.{Place}
-use Rattle.memory.specs.declared.Place.the-variants.{At, Nowhere}
+use Rattle.memory.specs.declared.Place.the-variants.{At, None}
 use Rattle.memory.specs.Layout.{placeWords, maskWord}
 
 -- a life stored and no value left
 abbrev pub emptied : List ℕ → Place → Life → List ℕ
 emptied m (At i) l = set (putLife m i l) (i * placeWords + maskWord) 0
-emptied m Nowhere l = m
+emptied m None l = m
 
 -- The words after a finish; any other outcome leaves them.
 unfoldable pub finishedTo : List ℕ → Outcome → List ℕ
@@ -35,7 +35,7 @@ finished-size m (writes place l vs) = refl
 finished-size m (stores q vs) = at (findAt m (q .id))
   where
     at : (p : Place) → length (emptied m p (lifeOf q)) ≡ length m
-    at Nowhere = refl
+    at None = refl
     at (At i) = length-set (putLife m i (lifeOf q)) (i * placeWords + maskWord) 0 ∙ life-length m i (lifeOf q)
 finished-size m (adds q vs) = refl
 finished-size m (removes id vs) = refl

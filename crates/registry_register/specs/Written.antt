@@ -14,7 +14,7 @@ use Rattle.memory.specs.View.{view}
 use Rattle.memory.specs.Writes.{parentId}
 use Rattle.memory.specs.declared.Parent.{Parent}
 use Rattle.memory.specs.declared.Place.{Place}
-use Rattle.memory.specs.declared.Place.the-variants.{At, Nowhere}
+use Rattle.memory.specs.declared.Place.the-variants.{At, None}
 use Rattle.memory_places.specs.Changes.{freeAt}
 use Rattle.memory_entry.specs.Entries.{filledPlace}
 use Rattle.memory_entry.specs.Filled.{filled-size}
@@ -58,7 +58,7 @@ newEntry m parent payload dependencies provisions realms = record {
 -- Written to a place; no place leaves the words.
 abbrev pub writtenAt : List ℕ → Place → Entry → List ℕ → List ℕ → List ℕ → List ℕ
 writtenAt m (At p) e dependencies claims realms = filledPlace m p e dependencies claims realms
-writtenAt m Nowhere e dependencies claims realms = m
+writtenAt m None e dependencies claims realms = m
 
 -- The words after a registration: the new plugin stands at the lowest free place. Any other outcome leaves them.
 unfoldable pub addedTo : List ℕ → Outcome → List ℕ
@@ -108,7 +108,7 @@ added-size m (adds q vs) = at (freeAt m)
     at : (free : Place)
         → length (writtenAt m free (newEntry m (q .parent) (q .payload) (length (q .dependencies)) (length (q .provisions)) (length (q .realms .rows)))
         (flat (q .dependencies)) (flat (q .anchor ∷ provided q)) (flat (q .realms .rows))) ≡ length m
-    at Nowhere = refl
+    at None = refl
     at (At p) = filled-size m p _ _ _ _
 added-size m (removes id vs) = refl
 

@@ -6,13 +6,13 @@ use lib.ListN.{length}
 use Rattle.rules.specs.Outcomes.{Outcome, refuses, answers, writes, stores, adds, removes}
 use Rattle.memory.specs.Writes.{findAt}
 use Rattle.memory.specs.declared.Place.{Place}
-use Rattle.memory.specs.declared.Place.the-variants.{At, Nowhere}
+use Rattle.memory.specs.declared.Place.the-variants.{At, None}
 use Rattle.memory_rows.specs.Moves.{freedPlace}
 use Rattle.memory_rows.specs.Laws.{freed-size}
 
 abbrev pub freedAtPlace : List ℕ → Place → List ℕ
 freedAtPlace m (At i) = freedPlace m i
-freedAtPlace m Nowhere = m
+freedAtPlace m None = m
 
 -- The words after a removal; any other outcome leaves them.
 unfoldable pub removedFrom : List ℕ → Outcome → List ℕ
@@ -34,5 +34,5 @@ removed-size m (adds q vs) = refl
 removed-size m (removes id vs) = at (findAt m id)
   where
     at : (p : Place) → length (freedAtPlace m p) ≡ length m
-    at Nowhere = refl
+    at None = refl
     at (At i) = freed-size m i

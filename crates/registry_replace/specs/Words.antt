@@ -12,12 +12,12 @@ use Rattle.memory.specs.Frames.{withLife, renewed-only}
 use Rattle.memory.specs.Known.{at-id}
 use Rattle.memory.specs.declared.Life.{Life}
 use Rattle.memory.specs.declared.Place.{Place}
-use Rattle.memory.specs.declared.Place.the-variants.{At, Nowhere}
+use Rattle.memory.specs.declared.Place.the-variants.{At, None}
 
 -- the revision and the payload of a place, and no other word
 abbrev pub renewedTo : List ℕ → Place → Plugin → List ℕ
 renewedTo m (At i) q = renewedAt m i (q .revision) (q .payload)
-renewedTo m Nowhere q = m
+renewedTo m None q = m
 
 -- Only an outcome that stores a plugin changes them.
 unfoldable pub replacedIn : List ℕ → Outcome → List ℕ
@@ -37,7 +37,7 @@ replaced-size m (writes place l vs) = refl
 replaced-size m (stores q vs) = at (findAt m (q .id))
   where
     at : (p : Place) → length (renewedTo m p q) ≡ length m
-    at Nowhere = refl
+    at None = refl
     at (At i) = renewed-only m i (q .revision) (q .payload) .size
 replaced-size m (adds q vs) = refl
 replaced-size m (removes id vs) = refl
