@@ -175,7 +175,7 @@ fn episode(text: &mut [u8; ROOM], from: usize, generation: Episode) -> usize
 {
     match generation {
         Episode::Of(n) => number(text, from, n),
-        Episode::Nowhere => put(text, from, b" none"),
+        Episode::None => put(text, from, b" none"),
     }
 }
 

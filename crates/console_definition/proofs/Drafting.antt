@@ -13,7 +13,7 @@ use Rattle.console_words.specs.Words.{nextWord, bytesOf}
 use Rattle.console_words.specs.Runs.{numberAt, runFrom, Gathered}
 use Rattle.console_words.specs.declared.Span.{Span}
 use Rattle.console_words.specs.declared.Run.{Run}
-use Rattle.console_definition.specs.declared.Parent.the-variants.{Of, Nobody, Bad}
+use Rattle.console_definition.specs.declared.Parent.the-variants.{Of, None, Bad}
 use Rattle.console_definition.specs.declared.Number.{Number}
 use Rattle.console_definition.specs.declared.Counted.{Counted}
 use Rattle.console_definition.specs.Draft.{wordFrom, parentIn, underIn, numberIn, headIn, Listed, listed, listBehind, three, listsIn}
@@ -33,7 +33,7 @@ module _ (line : List ℕ) (from : ℕ) (w : Span) (e : w ≡ nextWord line from
       let f : numberAt line from ≡ none = rw e at d in
       rw (e, f)
 
-  pub nobody : sameNumbers (bytesOf line w) (bytes "none") ≡ true → record { parent = Nobody; stop = w .stop } ≡ underIn line from
+  pub nobody : sameNumbers (bytesOf line w) (bytes "none") ≡ true → record { parent = None; stop = w .stop } ≡ underIn line from
   unfolding parentIn
   nobody d =
       let f : sameNumbers (wordFrom line from) (bytes "none") ≡ true = rw e at d in

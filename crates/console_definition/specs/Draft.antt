@@ -12,7 +12,7 @@ use Rattle.text_form.specs.Bytes.{bytes}
 use Rattle.console_words.specs.Words.{nextWord, bytesOf}
 use Rattle.console_words.specs.Runs.{Numbers, numberAt, runFrom}
 use Rattle.console_definition.specs.declared.Parent.{Parent}
-use Rattle.console_definition.specs.declared.Parent.the-variants.{Of, Nobody, Bad}
+use Rattle.console_definition.specs.declared.Parent.the-variants.{Of, None, Bad}
 use Rattle.console_definition.specs.declared.Under.{Under}
 use Rattle.console_definition.specs.declared.Number.{Number}
 use Rattle.console_definition.specs.declared.Head.{Head}
@@ -30,7 +30,7 @@ orBad (some id) = Of id
 
 -- PARENT is an id or `none`.
 unfoldable pub parentIn : List ℕ → ℕ → Parent
-parentIn line from = pick (sameNumbers (wordFrom line from) (bytes "none")) Nobody (orBad (numberAt line from))
+parentIn line from = pick (sameNumbers (wordFrom line from) (bytes "none")) None (orBad (numberAt line from))
 
 abbrev pub underIn : List ℕ → ℕ → Under
 underIn line from = record { parent = parentIn line from; stop = past line from }
@@ -104,7 +104,7 @@ given parent h l = record {
 
 abbrev pub drafted : Parent → Head → ThreeLists → Option Definition
 drafted (Of id) h l = pick (h .found && l .found) (some (given (some id) h l)) none
-drafted Nobody h l = pick (h .found && l .found) (some (given none h l)) none
+drafted None h l = pick (h .found && l .found) (some (given none h l)) none
 drafted Bad h l = none
 
 -- The registration that stands in a line from a place on; none where the line is no registration.

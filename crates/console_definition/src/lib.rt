@@ -9,7 +9,7 @@ use text_decimal::Decimal;
 // A parent's id, the word `none`, or a word that is neither.
 pub enum Parent {
     Of(u64),
-    Nobody,
+    None,
     Bad,
 }
 
@@ -59,7 +59,7 @@ pub fn read_parent(bytes: &[u8], from: usize) -> Under
     let stop = word.stop;
     if console_words::is_word(&bytes[start..stop], b"none") {
         return Under {
-            parent: Parent::Nobody,
+            parent: Parent::None,
             stop,
         };
     }

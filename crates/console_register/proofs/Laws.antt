@@ -5,7 +5,7 @@ use mathlib.Core.Bool.{Bool, true, false, not, and-false}
 use mathlib.Core.List.{List}
 use Rattle.rules.specs.Holds.{port}
 use Rattle.console_definition.specs.declared.Parent.{Parent}
-use Rattle.console_definition.specs.declared.Parent.the-variants.{Of, Nobody, Bad}
+use Rattle.console_definition.specs.declared.Parent.the-variants.{Of, None, Bad}
 use Rattle.console_definition.specs.declared.Head.{Head}
 use Rattle.console_definition.specs.Draft.{ThreeLists, drafted}
 use Rattle.console_names.specs.Table as asked
@@ -25,7 +25,7 @@ module _ (u : Parent) (h : Head) (l : ThreeLists) where
     where
       go : (u : Parent) → h .found ≡ false → enrolment (drafted u h l) ≡ asked.Bad
       go (Of id) f = rw f
-      go Nobody f = rw f
+      go None f = rw f
       go Bad f = refl
 
   pub no-lists : (found : Bool) → found ≡ l .found → not found ≡ true → enrolment (drafted u h l) ≡ asked.Bad
@@ -33,7 +33,7 @@ module _ (u : Parent) (h : Head) (l : ThreeLists) where
     where
       go : (u : Parent) → l .found ≡ false → enrolment (drafted u h l) ≡ asked.Bad
       go (Of id) f = rw (f, and-false)
-      go Nobody f = rw (f, and-false)
+      go None f = rw (f, and-false)
       go Bad f = refl
 
   pub all-there : (realms deps provs : List ℕ) → h .found ≡ true → l .found ≡ true → realms ≡ l .realms → deps ≡ l .deps → provs ≡ l .provs → enrolment (drafted u h l) ≡ underParent u (port (h .key) (h .realm)) realms deps provs (h .payload)
@@ -41,5 +41,5 @@ module _ (u : Parent) (h : Head) (l : ThreeLists) where
     where
       go : (u : Parent) → enrolment (drafted u h l) ≡ underParent u (port (h .key) (h .realm)) realms deps provs (h .payload)
       go (Of id) = rw (hf, lf, a, b, c)
-      go Nobody = rw (hf, lf, a, b, c)
+      go None = rw (hf, lf, a, b, c)
       go Bad = refl

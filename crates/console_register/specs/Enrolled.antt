@@ -8,7 +8,7 @@ use Rattle.rules.specs.Steps.{Register}
 use Rattle.memory.specs.declared.Parent.the-variants as memory
 use Rattle.registry_register.specs.Written.{definition}
 use Rattle.console_definition.specs.declared.Parent.{Parent}
-use Rattle.console_definition.specs.declared.Parent.the-variants.{Of, Nobody, Bad}
+use Rattle.console_definition.specs.declared.Parent.the-variants.{Of, None, Bad}
 use Rattle.console_names.specs.Table as asked
 use Rattle.console_names.specs.Table.{Asked, Told}
 
@@ -19,5 +19,5 @@ enrolment (some d) = Told (Register d)
 -- The same by the parent's word.
 abbrev pub underParent : Parent → Port → List ℕ → List ℕ → List ℕ → ℕ → Asked
 underParent (Of id) anchor realms deps provs payload = Told (Register (definition (memory.Of id) anchor realms deps provs payload))
-underParent Nobody anchor realms deps provs payload = Told (Register (definition memory.Nobody anchor realms deps provs payload))
+underParent None anchor realms deps provs payload = Told (Register (definition memory.None anchor realms deps provs payload))
 underParent Bad anchor realms deps provs payload = asked.Bad

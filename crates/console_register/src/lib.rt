@@ -34,7 +34,7 @@ fn register(
             provs,
             out,
         ),
-        Parent::Nobody => host::vaskelbi_register(m, key, realm, payload, realms, deps, provs, out),
+        Parent::None => host::vaskelbi_register(m, key, realm, payload, realms, deps, provs, out),
         Parent::Bad => BAD,
     }
 }

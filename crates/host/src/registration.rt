@@ -1,7 +1,7 @@
 // Registration, without a parent and under one.
 ghost use Rattle.rules.specs.Holds.{port};
 ghost use Rattle.rules.specs.Steps.{Register};
-ghost use Rattle.memory.specs.declared.Parent.the-variants.{Of, Nobody};
+ghost use Rattle.memory.specs.declared.Parent.the-variants.{Of, None};
 ghost use Rattle.registry_register.specs.Written.{definition};
 ghost use Rattle.host.specs.Tells.{DoesAndTells};
 use host_answers::ANSWER;
@@ -21,13 +21,13 @@ pub extern "C" fn vaskelbi_register(
     out: &mut [u64; ANSWER],
 ) -> u64
     ensures { λ r. ⌜ DoesAndTells (now (m .entry)) (Register
-        (definition Nobody (port key realm) (now (realms .entry)) (now (dependencies .entry)) (now (provisions .entry)) payload))
+        (definition None (port key realm) (now (realms .entry)) (now (dependencies .entry)) (now (provisions .entry)) payload))
         (now (out .entry)) r (now (out .exit)) (now (m .exit)) ⌝ }
 {
     host_answers::registered(
         registry_register::register(
             m,
-            memory::Parent::Nobody,
+            memory::Parent::None,
             Port {
                 key: key,
                 realm: realm,

@@ -133,7 +133,7 @@ pub fn perhaps(a: registry_queries::Perhaps, out: &mut [u64; ANSWER]) -> u64
 {
     match a {
         registry_queries::Perhaps::Is(n) => one(n, out),
-        registry_queries::Perhaps::Nothing => none(out),
+        registry_queries::Perhaps::None => none(out),
         registry_queries::Perhaps::Refused(why) => why,
     }
 }
@@ -143,7 +143,7 @@ pub fn port(a: registry_queries::APort, out: &mut [u64; ANSWER]) -> u64
 {
     match a {
         registry_queries::APort::Is(q) => two(q.key, q.realm, out),
-        registry_queries::APort::Nothing => none(out),
+        registry_queries::APort::None => none(out),
         registry_queries::APort::Refused(why) => why,
     }
 }
@@ -180,7 +180,7 @@ pub fn above(a: memory_places::Above, out: &mut [u64; ANSWER]) -> u64
 {
     match a {
         memory_places::Above::Id(n) => one(n, out),
-        memory_places::Above::Nothing => none(out),
+        memory_places::Above::None => none(out),
     }
 }
 
@@ -259,7 +259,7 @@ pub fn child(a: registry_retire::Child, out: &mut [u64; ANSWER]) -> u64
 {
     match a {
         registry_retire::Child::Of(domain, parent, id) => three(domain, parent, id, out),
-        registry_retire::Child::Orphan => none(out),
+        registry_retire::Child::None => none(out),
         registry_retire::Child::Refused(why) => why,
     }
 }
@@ -278,7 +278,7 @@ pub fn value(a: memory_values::Value, out: &mut [u64; ANSWER]) -> u64
 {
     match a {
         memory_values::Value::Is(v) => one(v, out),
-        memory_values::Value::Nothing => none(out),
+        memory_values::Value::None => none(out),
     }
 }
 

@@ -7,7 +7,7 @@ use native.Mathlib.Omega.{arith}
 use borrow.Author.Tests.{eq-eqb, ne-eqb}
 use Rattle.memory.specs.Layout.{taken, idAt, places}
 use Rattle.memory.specs.Writes.{namesAt, findFrom}
-use Rattle.memory.specs.declared.Place.the-variants.{At, Nowhere}
+use Rattle.memory.specs.declared.Place.the-variants.{At, None}
 
 -- A place names the id where it is taken and the id is its own, whichever is asked first.
 and-true : (b : Bool) → (b && true) ≡ b
@@ -41,6 +41,6 @@ module _ (m : List ℕ) (id i : ℕ) where
   unfolding findFrom
   find-next h e = rw (one-less i h) (rw e)
 
-  pub find-end : places ≤ i → findFrom (places - i) m id i ≡ Nowhere
+  pub find-end : places ≤ i → findFrom (places - i) m id i ≡ None
   unfolding findFrom
   find-end h = rw (none-left i h)

@@ -20,7 +20,7 @@ use Rattle.memory.specs.Lookups.{placed, lookup-view, find-found}
 use Rattle.memory.specs.Stores.{Alone, store-view}
 use Rattle.memory.specs.declared.Life.{Life}
 use Rattle.memory.specs.declared.Place.{Place}
-use Rattle.memory.specs.declared.Place.the-variants.{At, Nowhere}
+use Rattle.memory.specs.declared.Place.the-variants.{At, None}
 
 -- Where the id is found.
 module _ (m : List ℕ) (id i : ℕ) (e : findAt m id ≡ At i) where
@@ -44,10 +44,10 @@ module _ (m : List ℕ) (id i : ℕ) (e : findAt m id ≡ At i) where
   at-known f = rw at-lookup
 
 -- Where it is not.
-pub none-lookup : (m : List ℕ) (id : ℕ) → findAt m id ≡ Nowhere → lookup (view m) id ≡ none
+pub none-lookup : (m : List ℕ) (id : ℕ) → findAt m id ≡ None → lookup (view m) id ≡ none
 none-lookup m id e = lookup-view m id ∙ ap (placed m) e
 
-pub none-known : (m : List ℕ) (id : ℕ) → findAt m id ≡ Nowhere → (f : Plugin → Outcome) → known (view m) id f ≡ refuses Unknown []
+pub none-known : (m : List ℕ) (id : ℕ) → findAt m id ≡ None → (f : Plugin → Outcome) → known (view m) id f ≡ refuses Unknown []
 unfolding found
 none-known m id e f = rw (none-lookup m id e)
 
@@ -69,7 +69,7 @@ life-of m i = refl
 -- The words after an operation that stores a life; any other outcome leaves them.
 abbrev pub putLifeAt : List ℕ → Place → Life → List ℕ
 putLifeAt m (At i) l = putLife m i l
-putLifeAt m Nowhere l = m
+putLifeAt m None l = m
 
 abbrev pub storing : Way
 storing = byStoring (λ m q. putLifeAt m (findAt m (q .id)) (lifeOf q))
@@ -93,5 +93,5 @@ pub stored-sized : Sized storing
 stored-sized = storing-sized _ λ m q. at m q (findAt m (q .id))
   where
     at : (m : List ℕ) (q : Plugin) (p : Place) → length (putLifeAt m p (lifeOf q)) ≡ length m
-    at m q Nowhere = refl
+    at m q None = refl
     at m q (At i) = life-length m i (lifeOf q)

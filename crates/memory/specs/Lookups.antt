@@ -13,16 +13,16 @@ use Rattle.memory.specs.Layout.{taken, places}
 use Rattle.memory.specs.View.{pluginAt, placeAt, placesFrom, view}
 use Rattle.memory.specs.Writes.{namesAt, findFrom, findAt}
 use Rattle.memory.specs.declared.Place.{Place}
-use Rattle.memory.specs.declared.Place.the-variants.{At, Nowhere}
+use Rattle.memory.specs.declared.Place.the-variants.{At, None}
 
 -- the plugin of a place
 abbrev pub placed : List ℕ → Place → Option Plugin
 placed m (At i) = some (pluginAt m i)
-placed m Nowhere = none
+placed m None = none
 
 -- the first of n places from i on whose plugin passes
 unfoldable pub searchFrom : (Plugin → Bool) → ℕ → List ℕ → ℕ → Place
-searchFrom f zero m i = Nowhere
+searchFrom f zero m i = None
 searchFrom f (suc n) m i = pick (taken m i && f (pluginAt m i)) (At i) (searchFrom f n m (i + 1))
 
 pub search-first : (f : Plugin → Bool) (n : ℕ) (m : List ℕ) (i : ℕ) → first f (held (placesFrom n m i)) ≡ placed m (searchFrom f n m i)

@@ -11,16 +11,16 @@ use Rattle.rules.specs.Queries.{phaseNumber}
 use Rattle.rules.specs.declared.Root.{Root}
 use Rattle.rules.specs.declared.Root.the-variants.{Unissued, Queued, Spent}
 use Rattle.memory.specs.declared.Parent.{Parent}
-use Rattle.memory.specs.declared.Parent.the-variants.{Of, Nobody}
+use Rattle.memory.specs.declared.Parent.the-variants as parent
 use Rattle.memory.specs.declared.Place.{Place}
-use Rattle.memory.specs.declared.Place.the-variants.{At, Nowhere}
+use Rattle.memory.specs.declared.Place.the-variants.{At, None}
 use Rattle.memory.specs.Layout.{taken, idAt, placeWords, places, revisionWord}
 use Rattle.memory.specs.declared.Life.{Life}
 use Rattle.memory.specs.declared.Words.{Words}
 
 abbrev pub parentId : Parent → Option ℕ
-parentId (Of id) = some id
-parentId Nobody = none
+parentId (parent.Of id) = some id
+parentId parent.None = none
 
 -- the plugin of this place has the id
 unfoldable pub namesAt : List ℕ → ℕ → ℕ → Bool
@@ -28,7 +28,7 @@ namesAt m id i = taken m i && eqb (idAt m i) id
 
 -- the first such place, of n places from i on
 unfoldable pub findFrom : ℕ → List ℕ → ℕ → ℕ → Place
-findFrom zero m id i = Nowhere
+findFrom zero m id i = None
 findFrom (suc n) m id i = pick (namesAt m id i) (At i) (findFrom n m id (i + 1))
 
 unfoldable pub findAt : List ℕ → ℕ → Place

@@ -22,13 +22,13 @@ pub const WORDS: usize = 4488;
 // A place among the 32.
 pub enum Place {
     At(usize),
-    Nowhere,
+    None,
 }
 
 // A parent's id, or none.
 pub enum Parent {
     Of(u64),
-    Nobody,
+    None,
 }
 
 // What operations on one plugin change, but for its values.
@@ -168,7 +168,7 @@ pub fn find(m: &[u64; WORDS], id: u64) -> Place
         }
         i += 1;
     }
-    Place::Nowhere
+    Place::None
 }
 
 pub fn id(m: &[u64; WORDS], place: usize) -> u64
@@ -184,7 +184,7 @@ pub fn parent_of(m: &[u64; WORDS], place: usize) -> Parent
 {
     let b = place % PLACES * PLACE_WORDS;
     if m[b + layout::TAG] == 0 {
-        Parent::Nobody
+        Parent::None
     } else {
         Parent::Of(m[b + layout::PARENT])
     }

@@ -16,7 +16,7 @@ use Rattle.memory.specs.Layout.{occupancy, taken, idAt, depsAt, provsAt, places
 use Rattle.memory_places.specs.Rows.{rowsAt, rowsBy, rowsFrom}
 use Rattle.memory_places.specs.Lowest.{idOf, lowestOf, lowest-here, lowest-not, lowest-free}
 use Rattle.memory_places.specs.declared.Above.{Above}
-use Rattle.memory_places.specs.declared.Above.the-variants.{Id, Nothing}
+use Rattle.memory_places.specs.declared.Above.the-variants.{Id, None}
 
 -- Rows, four places at a time: what is counted, and what is left.
 abbrev pub Counted : List ℕ → ℕ → ℕ → ℕ → Type 0
@@ -115,5 +115,5 @@ module _ (id : ℕ) (other : Above) where
   pub lower-second : (n : ℕ) → other ≡ Id n → n ≤ id → some n ≡ lowerId id (idOf other)
   lower-second n e h = rw (e, le-ltb id n h)
 
-  pub lower-alone : other ≡ Nothing → some id ≡ lowerId id (idOf other)
+  pub lower-alone : other ≡ None → some id ≡ lowerId id (idOf other)
   lower-alone e = rw e

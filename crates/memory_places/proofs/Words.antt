@@ -17,7 +17,7 @@ use Rattle.rules.specs.Laws.Tests.{by-test}
 use Rattle.memory.specs.Layout.{occupancy, taken, places, occupancyWord}
 use Rattle.memory.specs.View.{placeAt, placesFrom, view}
 use Rattle.memory.specs.declared.Place.{Place}
-use Rattle.memory.specs.declared.Place.the-variants.{At, Nowhere}
+use Rattle.memory.specs.declared.Place.the-variants.{At, None}
 use Rattle.memory_places.specs.Changes.{freeFrom, freeAt, occupiedAt, vacatedAt}
 use Rattle.memory_places.specs.Bits.{one-shl, or-free, set-le}
 use Rattle.memory_places.specs.Taken.{taken-below, taken-one, free-zero}
@@ -69,13 +69,13 @@ registered-ones m = ap ones (sym (rest-zero m)) ∙ sym (count-ones places m 0 r
 
 -- one of the 32, or none
 placeOf : ℕ → Place
-placeOf p = pick (ltb p places) (At p) Nowhere
+placeOf p = pick (ltb p places) (At p) None
 
 below : (p : ℕ) → p < places → placeOf p ≡ At p
 unfolding placeOf
 below p h = rw (lt-ltb p places h)
 
-past : (p : ℕ) → places ≤ p → placeOf p ≡ Nowhere
+past : (p : ℕ) → places ≤ p → placeOf p ≡ None
 unfolding placeOf
 past p h = rw (le-ltb p places h)
 
@@ -110,7 +110,7 @@ module _ (m : List ℕ) (w : ℕ) (e : w ≡ occupancy m) where
   pub free-below : trailingZeros 32 ((2 ^ 32 - 1) - w) < places → At (trailingZeros 32 ((2 ^ 32 - 1) - w)) ≡ freeAt m
   free-below h = sym (free-place m ∙ ap (λ x. placeOf (trailingZeros 32 ((2 ^ 32 - 1) - x))) (sym e) ∙ below _ h)
 
-  pub free-none : places ≤ trailingZeros 32 ((2 ^ 32 - 1) - w) → Nowhere ≡ freeAt m
+  pub free-none : places ≤ trailingZeros 32 ((2 ^ 32 - 1) - w) → None ≡ freeAt m
   free-none h = sym (free-place m ∙ ap (λ x. placeOf (trailingZeros 32 ((2 ^ 32 - 1) - x))) (sym e) ∙ past _ h)
 
 -- A place's bit, set or cleared.

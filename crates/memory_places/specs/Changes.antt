@@ -8,13 +8,13 @@ use Rattle.rules.specs.Basics.{pick}
 use Rattle.rules.specs.Outcomes.{Answer, Accepted}
 use Rattle.memory.specs.Layout.{occupancy, taken, places, occupancyWord}
 use Rattle.memory.specs.declared.Place.{Place}
-use Rattle.memory.specs.declared.Place.the-variants.{At, Nowhere}
+use Rattle.memory.specs.declared.Place.the-variants.{At, None}
 use Rattle.memory_places.specs.declared.Above.{Above}
-use Rattle.memory_places.specs.declared.Above.the-variants.{Id, Nothing}
+use Rattle.memory_places.specs.declared.Above.the-variants as above
 
 -- the first free one of n places from i on
 unfoldable pub freeFrom : ℕ → List ℕ → ℕ → Place
-freeFrom zero m i = Nowhere
+freeFrom zero m i = None
 freeFrom (suc n) m i = pick (taken m i) (freeFrom n m (i + 1)) (At i)
 
 unfoldable pub freeAt : List ℕ → Place
@@ -29,5 +29,5 @@ unfoldable pub vacatedAt : List ℕ → ℕ → List ℕ
 vacatedAt m p = pick (taken m p) (set m occupancyWord (occupancy m - 2 ^ p)) m
 
 abbrev pub aboveAnswer : Above → Answer
-aboveAnswer (Id n) = Accepted (n ∷ [])
-aboveAnswer Nothing = Accepted []
+aboveAnswer (above.Id n) = Accepted (n ∷ [])
+aboveAnswer above.None = Accepted []

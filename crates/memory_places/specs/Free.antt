@@ -11,7 +11,7 @@ use Rattle.rules.specs.Holds.{held, count}
 use Rattle.rules.specs.Laws.Tests.{by-test}
 use Rattle.memory.specs.Layout.{taken, places}
 use Rattle.memory.specs.View.{placeAt, placesFrom, view}
-use Rattle.memory.specs.declared.Place.the-variants.{At, Nowhere}
+use Rattle.memory.specs.declared.Place.the-variants.{At, None}
 use Rattle.memory_places.specs.Changes.{freeFrom, freeAt}
 
 -- p is the lowest free one of the places from i on, below e
@@ -39,12 +39,12 @@ free-lowest (suc n) m i p e = go (taken m i) refl (free-lowest n m (i + 1) p)
         let s : i ≡ p = cc (rw f at e) in
         record { from = omega arith; below = omega arith; free = rw (← s) f; others = λ j a b. absurd (omega arith) }
 
-none-free : (n : ℕ) (m : List ℕ) (i : ℕ) → freeFrom n m i ≡ Nowhere → (j : ℕ) → i ≤ j → j < i + n → taken m j ≡ true
+none-free : (n : ℕ) (m : List ℕ) (i : ℕ) → freeFrom n m i ≡ None → (j : ℕ) → i ≤ j → j < i + n → taken m j ≡ true
 unfolding freeFrom
 none-free zero m i e j a b = absurd (omega arith)
 none-free (suc n) m i e j a b = go (taken m i) refl (none-free n m (i + 1))
   where
-    go : (b : Bool) → taken m i ≡ b → (freeFrom n m (i + 1) ≡ Nowhere → (j : ℕ) → i + 1 ≤ j → j < i + 1 + n → taken m j ≡ true) → taken m j ≡ true
+    go : (b : Bool) → taken m i ≡ b → (freeFrom n m (i + 1) ≡ None → (j : ℕ) → i + 1 ≤ j → j < i + 1 + n → taken m j ≡ true) → taken m j ≡ true
     go true t ih = by-test (eqb i j) (λ y. rw (← eqb-true i j y) t) (λ d. let f = eqb-false i j d in ih (rw t at e) j (omega arith) (omega arith))
     go false f ih = let z : _≡_ {A = ℕ} 0 1 = cc (rw f at e) in absurd (omega arith)
 
@@ -61,7 +61,7 @@ module _ (m : List ℕ) where
       let l = free-lowest places m 0 p e in
       record { below = l .below; free = l .free; others = λ i h. l .others i (omega arith) h }
 
-  pub free-nowhere : freeAt m ≡ Nowhere → (i : ℕ) → i < places → taken m i ≡ true
+  pub free-nowhere : freeAt m ≡ None → (i : ℕ) → i < places → taken m i ≡ true
   unfolding freeAt
   free-nowhere e i h = none-free places m 0 e i (omega arith) h
 
@@ -73,7 +73,7 @@ held-le (suc n) m i =
     let r = held-le n m (i + 1) in
     by-test (taken m i) (λ t. rw t (omega arith)) (λ f. rw f (omega arith))
 
-held-full : (n : ℕ) (m : List ℕ) (i : ℕ) → freeFrom n m i ≡ Nowhere → length (held (placesFrom n m i)) ≡ n
+held-full : (n : ℕ) (m : List ℕ) (i : ℕ) → freeFrom n m i ≡ None → length (held (placesFrom n m i)) ≡ n
 unfolding freeFrom placesFrom placeAt
 held-full zero m i e = refl
 held-full (suc n) m i e =
@@ -96,7 +96,7 @@ module _ (m : List ℕ) where
   unfolding count view
   count-most = held-le places m 0
 
-  pub count-full : freeAt m ≡ Nowhere → leb places (count (view m)) ≡ true
+  pub count-full : freeAt m ≡ None → leb places (count (view m)) ≡ true
   unfolding count view freeAt
   count-full e = le-leb places (count (view m)) (omega (arith, held-full places m 0 e))
 

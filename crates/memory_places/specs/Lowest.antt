@@ -13,11 +13,11 @@ use Rattle.memory.specs.Layout.{taken, idAt, places}
 use Rattle.memory.specs.View.{pluginAt, placeAt, placesFrom, view}
 use Rattle.memory_places.specs.Changes.{aboveAnswer}
 use Rattle.memory_places.specs.declared.Above.{Above}
-use Rattle.memory_places.specs.declared.Above.the-variants.{Id, Nothing}
+use Rattle.memory_places.specs.declared.Above.the-variants.{Id, None}
 
 abbrev pub idOf : Above → Option ℕ
 idOf (Id n) = some n
-idOf Nothing = none
+idOf None = none
 
 -- of n places from i on
 unfoldable pub lowestOf : ℕ → ℕ → List ℕ → ℕ → Option ℕ
@@ -42,7 +42,7 @@ module _ (number : ℕ) (n : ℕ) (m : List ℕ) (i : ℕ) where
 
 answer-one : (r : Above) → aboveAnswer r ≡ Accepted (one (idOf r))
 answer-one (Id n) = refl
-answer-one Nothing = refl
+answer-one None = refl
 
 pub lowest-view : (number : ℕ) (m : List ℕ) (r : Above) → idOf r ≡ lowestOf number places m 0 → aboveAnswer r ≡ answerOf (idFrom (view m) number)
 unfolding lowestOf idFrom view

@@ -19,7 +19,7 @@ use memory::layout::PLACES;
 // The lowest registered id at or above a number, or nothing.
 pub enum Above {
     Id(u64),
-    Nothing,
+    None,
 }
 
 // How many plugins are registered.
@@ -37,7 +37,7 @@ pub fn lowest_free(m: &[u64; WORDS]) -> Place
     if place < PLACES {
         Place::At(place)
     } else {
-        Place::Nowhere
+        Place::None
     }
 }
 
@@ -108,7 +108,7 @@ pub fn rows_in_use(m: &[u64; WORDS]) -> usize
 pub fn id_from(m: &[u64; WORDS], number: u64) -> Above
     ensures { λ r. ⌜ aboveAnswer r ≡ answerOf (idFrom (view (now (m .entry))) number) ⌝ }
 {
-    let mut found = Above::Nothing;
+    let mut found = Above::None;
     let mut i: usize = PLACES;
     while 0 < i {
         i -= 1;
@@ -128,7 +128,7 @@ fn lower(id: u64, other: Above) -> Above
 {
     match other {
         Above::Id(n) => { if id < n { Above::Id(id) } else { Above::Id(n) } }
-        Above::Nothing => Above::Id(id),
+        Above::None => Above::Id(id),
     }
 }
 

@@ -13,7 +13,7 @@ use Rattle.rules.specs.Ports.{pairs}
 use Rattle.memory.specs.Layout.{taken, provPart, places}
 use Rattle.memory.specs.View.{anchorAt, pluginAt}
 use Rattle.memory.specs.Lookups.{searchFrom}
-use Rattle.memory.specs.declared.Place.the-variants.{At, Nowhere}
+use Rattle.memory.specs.declared.Place.the-variants.{At, None}
 use Rattle.memory_lists.specs.Listed.{provided-at}
 
 module _ (m : List ℕ) (p : ℕ) (q : Port) (ws : List ℕ) (b : Bool) (e : ws ≡ provPart m p) (f : b ≡ isIn q (pairs ws)) where
@@ -51,6 +51,6 @@ module _ (f : Plugin → Bool) (m : List ℕ) (i : ℕ) where
   unfolding searchFrom
   search-next h n = rw (one-less i h) (rw n)
 
-  pub search-end : places ≤ i → searchFrom f (places - i) m i ≡ Nowhere
+  pub search-end : places ≤ i → searchFrom f (places - i) m i ≡ None
   unfolding searchFrom
   search-end h = let e : places - i ≡ 0 = omega arith in rw e

@@ -53,7 +53,7 @@ pub fn provider(m: &[u64; WORDS], key: u64, realm: u64) -> Place
         }
         i += 1;
     }
-    Place::Nowhere
+    Place::None
 }
 
 // What the type of the memory says of its length. It compiles to nothing.

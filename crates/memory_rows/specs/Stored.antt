@@ -27,7 +27,7 @@ use Rattle.memory.specs.Stores.{Alone}
 use Rattle.memory.specs.Known.{at-lookup, at-known, none-lookup, none-known, lifeOf, storedLife, stored-at, stored-view}
 use Rattle.memory.specs.declared.Life.{Life}
 use Rattle.memory.specs.declared.Place.{Place}
-use Rattle.memory.specs.declared.Place.the-variants.{At, Nowhere}
+use Rattle.memory.specs.declared.Place.the-variants.{At, None}
 use Rattle.memory_places.specs.Placed.{places-map, taken-place, free-place}
 use Rattle.memory_places.specs.Rows.{rowsAt}
 use Rattle.memory_rows.specs.Tiles.{share, sum-same}
@@ -114,7 +114,7 @@ pub known-elim : (m : List ℕ) (P : Outcome → Type 0) (id : ℕ) (f : Plugin 
 known-elim m P id f a b = go (findAt m id) refl
   where
     go : (p : Place) → findAt m id ≡ p → P (known (view m) id f)
-    go Nowhere e = subst⁻¹ P (none-known m id e f) a
+    go None e = subst⁻¹ P (none-known m id e f) a
     go (At i) e = subst⁻¹ P (at-known m id i e f) (b i e)
 
 -- what registration fixed and the values stay: the plugin has another life, no more
@@ -149,7 +149,7 @@ module _ (m : List ℕ) (d : Dense m) where
   stored-alike p q vs e a v = go (findAt m (q .id)) refl
     where
       go : (x : Place) → findAt m (q .id) ≡ x → Stored (stores q vs)
-      go Nowhere f = absurd (Option·none-ne-some p (sym (none-lookup m (q .id) f) ∙ e))
+      go None f = absurd (Option·none-ne-some p (sym (none-lookup m (q .id) f) ∙ e))
       go (At i) f =
           let s : p ≡ pluginAt m i = Option·some-injective p (pluginAt m i) (sym e ∙ at-lookup m (q .id) i f) in
           subst⁻¹ (λ x. Stored (stores x vs)) (other-life p q a v ∙ ap (λ x. withLife x (lifeOf q)) s) (stored-life (q .id) i f (lifeOf q) vs)

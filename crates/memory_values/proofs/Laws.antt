@@ -26,7 +26,7 @@ use Rattle.memory.specs.View.{valueAt, valued, pluginAt}
 use Rattle.memory_places.specs.Bits.{or-free}
 use Rattle.ports.specs.Places.{length-pairs}
 use Rattle.ports.specs.declared.Found.{Found}
-use Rattle.ports.specs.declared.Found.the-variants.{At, Nothing}
+use Rattle.ports.specs.declared.Found.the-variants.{At, None}
 use Rattle.memory_values.specs.Values.{maskAt, maskBit, portFrom, lackFrom, withValue}
 use Rattle.memory_values.specs.Firsts.{provisions-at, few-words, port-below, value-there, value-nowhere}
 
@@ -85,7 +85,7 @@ zeros-step n w =
 
 -- a place below n, or none
 below : ℕ → ℕ → Found
-below n j = pick (ltb j n) (At j) Nothing
+below n j = pick (ltb j n) (At j) None
 
 -- the provisions from k on, by the low n digits of the mask halved k times
 lack-zeros : (m : List ℕ) (i n k : ℕ) (ps : List Port) → length ps ≤ n
@@ -128,7 +128,7 @@ module _ (m : List ℕ) (i : ℕ) (ws : List ℕ) (e : ws ≡ provPart m i) wher
   unfolding below
   lack-here h = sym (lack-place ∙ rw (lt-ltb (trailingZeros 32 ((2 ^ 32 - 1) - maskAt m i % 2 ^ 32)) (length ws / 2) h))
 
-  pub lack-none : length ws / 2 ≤ trailingZeros 32 ((2 ^ 32 - 1) - maskAt m i % 2 ^ 32) → Nothing ≡ lackFrom 0 (pluginAt m i .provisions)
+  pub lack-none : length ws / 2 ≤ trailingZeros 32 ((2 ^ 32 - 1) - maskAt m i % 2 ^ 32) → None ≡ lackFrom 0 (pluginAt m i .provisions)
   unfolding below
   lack-none h = sym (lack-place ∙ rw (le-ltb (trailingZeros 32 ((2 ^ 32 - 1) - maskAt m i % 2 ^ 32)) (length ws / 2) h))
 
@@ -137,7 +137,7 @@ module _ (m : List ℕ) (i : ℕ) (q : Port) (ws : List ℕ) (w : ws ≡ provPar
   found : f ≡ portFrom 0 q (pairs (provPart m i))
   found = e ∙ ap (λ l. portFrom 0 q (pairs l)) w
 
-  pub no-value : f ≡ Nothing → none ≡ valueIn q (pluginAt m i .provisions)
+  pub no-value : f ≡ None → none ≡ valueIn q (pluginAt m i .provisions)
   no-value n = sym (ap (valueIn q) (provisions-at m i) ∙ value-nowhere m i q (pairs (provPart m i)) (sym found ∙ n))
 
   pub its-value : (j : ℕ) → f ≡ At j → valueAt m i (j % maxProvisionKeys) ≡ valueIn q (pluginAt m i .provisions)

@@ -19,7 +19,7 @@ use Rattle.memory.specs.View.{valueAt, valued, pluginAt}
 use Rattle.memory_lists.specs.Listed.{valued-ports}
 use Rattle.ports.specs.Places.{length-pairs}
 use Rattle.ports.specs.declared.Found.{Found}
-use Rattle.ports.specs.declared.Found.the-variants.{At, Nothing}
+use Rattle.ports.specs.declared.Found.the-variants.{At, None}
 use Rattle.memory_values.specs.Values.{portFrom, lackFrom}
 
 -- Place j holds the port.
@@ -31,14 +31,14 @@ pub record There (q : Port) (j : ℕ) (ps : List Port) : Type 0 where
 -- the same of a place that is counted from k
 PortOf : ℕ → Found → Port → List Port → Type 0
 PortOf k (At j) q ps = (k ≤ j) × There q (j - k) ps
-PortOf k Nothing q ps = isIn q ps ≡ false
+PortOf k None q ps = isIn q ps ≡ false
 
 port-further : (f : Found) (k : ℕ) (q p : Port) (ps : List Port) → samePort q p ≡ false → PortOf (k + 1) f q ps → PortOf k f q (p ∷ ps)
 unfolding PortOf
 port-further (At j) k q p ps e (h, r) =
     let s : j - k ≡ suc (j - (k + 1)) = omega arith in
     (omega arith, rw s (record { within = omega (arith, r .within); same = r .same; listed = rw (e, r .listed) }))
-port-further Nothing k q p ps e r = rw (e, r)
+port-further None k q p ps e r = rw (e, r)
 
 port-of : (k : ℕ) (q : Port) (ps : List Port) → PortOf k (portFrom k q ps) q ps
 unfolding portFrom PortOf
@@ -55,7 +55,7 @@ module _ (q : Port) (ps : List Port) where
   unfolding PortOf
   port-there j e = let z : j - 0 ≡ j = omega arith in rw z at ((rw e at (port-of 0 q ps)) .1)
 
-  pub port-nothing : portFrom 0 q ps ≡ Nothing → isIn q ps ≡ false
+  pub port-nothing : portFrom 0 q ps ≡ None → isIn q ps ≡ false
   unfolding PortOf
   port-nothing e = rw e at (port-of 0 q ps)
 
@@ -65,7 +65,7 @@ unfolding PortOf
 port-least k q ps j e = (rw e at (port-of k q ps)) .0
 
 -- from any place on, of which only the count differs
-port-none-from : (k : ℕ) (q : Port) (ps : List Port) → isIn q ps ≡ false → portFrom k q ps ≡ Nothing
+port-none-from : (k : ℕ) (q : Port) (ps : List Port) → isIn q ps ≡ false → portFrom k q ps ≡ None
 unfolding portFrom
 port-none-from k q [] e = refl
 port-none-from k q (p ∷ ps) e =
@@ -74,7 +74,7 @@ port-none-from k q (p ∷ ps) e =
     (λ t. let z : true ≡ false = rw t at e in cc)
     (λ f. rw f (r (rw f at e)))
 
-pub nothing-port : (q : Port) (ps : List Port) → isIn q ps ≡ false → portFrom 0 q ps ≡ Nothing
+pub nothing-port : (q : Port) (ps : List Port) → isIn q ps ≡ false → portFrom 0 q ps ≡ None
 nothing-port q ps e = port-none-from 0 q ps e
 
 -- A plugin has 15 provisions at most.
@@ -91,7 +91,7 @@ port-below m i q j e = omega (arith, port-there q (pairs (provPart m i)) j e .wi
 -- The value of a port is that of its place.
 abbrev pub valueFound : List ℕ → ℕ → Found → Option ℕ
 valueFound m i (At j) = valueAt m i j
-valueFound m i Nothing = none
+valueFound m i None = none
 
 value-from : (m : List ℕ) (i k : ℕ) (q : Port) (ps : List Port) → valueIn q (valued m i k ps) ≡ valueFound m i (portFrom k q ps)
 unfolding portFrom
@@ -107,7 +107,7 @@ module _ (m : List ℕ) (i : ℕ) (q : Port) (ps : List Port) where
   pub value-there : (j : ℕ) → portFrom 0 q ps ≡ At j → valueIn q (valued m i 0 ps) ≡ valueAt m i j
   value-there j e = value-in ∙ ap (valueFound m i) e
 
-  pub value-nowhere : portFrom 0 q ps ≡ Nothing → valueIn q (valued m i 0 ps) ≡ none
+  pub value-nowhere : portFrom 0 q ps ≡ None → valueIn q (valued m i 0 ps) ≡ none
   value-nowhere e = value-in ∙ ap (valueFound m i) e
 
 -- Provision j is the first without a value.
@@ -124,14 +124,14 @@ record Lack (j : ℕ) (vs : List Provision) : Type 0 where
 
 LackOf : ℕ → Found → List Provision → Type 0
 LackOf k (At j) vs = (k ≤ j) × Lack (j - k) vs
-LackOf k Nothing vs = (any lacks vs ≡ false) × (firstMissing vs ≡ [])
+LackOf k None vs = (any lacks vs ≡ false) × (firstMissing vs ≡ [])
 
 lack-further : (f : Found) (k : ℕ) (v : Provision) (vs : List Provision) → lacks v ≡ false → LackOf (k + 1) f vs → LackOf k f (v ∷ vs)
 unfolding LackOf
 lack-further (At j) k v vs e (h, r) =
     let s : j - k ≡ suc (j - (k + 1)) = omega arith in
     (omega arith, rw s (record { within = omega (arith, r .within); test = rw (e, r .test); answer = rw e (r .answer) }))
-lack-further Nothing k v vs e (t, a) = (rw (e, t), rw (e, a))
+lack-further None k v vs e (t, a) = (rw (e, t), rw (e, a))
 
 lack-of : (k : ℕ) (vs : List Provision) → LackOf k (lackFrom k vs) vs
 unfolding lackFrom LackOf
@@ -143,7 +143,7 @@ lack-of k (v ∷ vs) =
     rw t (omega arith, rw z (record { within = omega arith; test = rw t; answer = rw t })))
     (λ f. rw f (lack-further (lackFrom (k + 1) vs) k v vs f r))
 
-pub lack-nothing : (vs : List Provision) → lackFrom 0 vs ≡ Nothing → (any lacks vs ≡ false) × (firstMissing vs ≡ [])
+pub lack-nothing : (vs : List Provision) → lackFrom 0 vs ≡ None → (any lacks vs ≡ false) × (firstMissing vs ≡ [])
 unfolding LackOf
 lack-nothing vs e = rw e at (lack-of 0 vs)
 

@@ -10,13 +10,13 @@ use Rattle.rules.specs.declared.Port.{Port}
 use Rattle.memory.specs.Layout.{word, placeWords, maskWord, valuesWord}
 use Rattle.memory_places.specs.Bits.{bit}
 use Rattle.ports.specs.declared.Found.{Found}
-use Rattle.ports.specs.declared.Found.the-variants.{At, Nothing}
+use Rattle.ports.specs.declared.Found.the-variants.{At, None}
 use Rattle.memory_values.specs.declared.Value.{Value}
 use Rattle.memory_values.specs.declared.Value.the-variants as value
 
 abbrev pub valueOf : Value → Option ℕ
 valueOf (value.Is n) = some n
-valueOf value.Nothing = none
+valueOf value.None = none
 
 -- the mask of the values there are, and its bit of provision j
 abbrev pub maskAt : List ℕ → ℕ → ℕ
@@ -27,12 +27,12 @@ maskBit m i j = bit (maskAt m i) j
 
 -- the place of the first port that is the same, counted from i
 unfoldable pub portFrom : ℕ → Port → List Port → Found
-portFrom i q [] = Nothing
+portFrom i q [] = None
 portFrom i q (p ∷ ps) = pick (samePort q p) (At i) (portFrom (i + 1) q ps)
 
 -- the place of the first provision whose value is none, counted from i
 unfoldable pub lackFrom : ℕ → List Provision → Found
-lackFrom i [] = Nothing
+lackFrom i [] = None
 lackFrom i (v ∷ vs) = pick (isNone (v .value)) (At i) (lackFrom (i + 1) vs)
 
 -- the words with one more value in the mask

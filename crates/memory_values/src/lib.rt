@@ -20,7 +20,7 @@ use rules::limits;
 
 pub enum Value {
     Is(u64),
-    Nothing,
+    None,
 }
 
 // Whether a provision has a value: its bit in the mask.
@@ -40,7 +40,7 @@ pub fn value_at(m: &[u64; WORDS], place: usize, provision: usize) -> Value
         let j = provision % limits::PROVISION_KEYS;
         Value::Is(m[b + layout::VALUES + j])
     } else {
-        Value::Nothing
+        Value::None
     }
 }
 
@@ -57,7 +57,7 @@ pub fn place_of(ports: &[u64], key: u64, realm: u64) -> Found
         }
         i += 1;
     }
-    Found::Nothing
+    Found::None
 }
 
 // The value of a port among the plugin's provisions, or nothing.
@@ -65,7 +65,7 @@ pub fn value_of(m: &[u64; WORDS], place: usize, key: u64, realm: u64) -> Value
     ensures { λ r. ⌜ valueOf r ≡ valueIn (port key realm) (pluginAt (now (m .entry)) (place % places) .provisions) ⌝ }
 {
     let Found::At(j) = place_of(memory_lists::provision_words(m, place), key, realm) else {
-        return Value::Nothing;
+        return Value::None;
     };
     value_at(m, place, j)
 }
@@ -81,7 +81,7 @@ pub fn first_lacking(m: &[u64; WORDS], place: usize) -> Found
     if j < words.len() / 2 {
         Found::At(j)
     } else {
-        Found::Nothing
+        Found::None
     }
 }
 

@@ -32,9 +32,9 @@ number-exact (number.Refused n) (number.Refused k) e = let j : n ≡ k = cc in a
 
 pub above-exact : (a b : Above) → aboveAnswer a ≡ aboveAnswer b → a ≡ b
 above-exact (above.Id n) (above.Id k) e = let j : n ≡ k = cc in ap above.Id j
-above-exact (above.Id n) above.Nothing e = cc
-above-exact above.Nothing (above.Id k) e = cc
-above-exact above.Nothing above.Nothing e = refl
+above-exact (above.Id n) above.None e = cc
+above-exact above.None (above.Id k) e = cc
+above-exact above.None above.None e = refl
 
 pub child-exact : (a b : Child) → childAnswer a ≡ childAnswer b → a ≡ b
 child-exact (child.Of d p i) (child.Of d′ p′ i′) e =
@@ -42,13 +42,13 @@ child-exact (child.Of d p i) (child.Of d′ p′ i′) e =
     let y : p ≡ p′ = cc in
     let z : i ≡ i′ = cc in
     λ k. child.Of (x k) (y k) (z k)
-child-exact (child.Of d p i) child.Orphan e = cc
+child-exact (child.Of d p i) child.None e = cc
 child-exact (child.Of d p i) (child.Refused n) e = cc
-child-exact child.Orphan (child.Of d p i) e = cc
-child-exact child.Orphan child.Orphan e = refl
-child-exact child.Orphan (child.Refused n) e = cc
+child-exact child.None (child.Of d p i) e = cc
+child-exact child.None child.None e = refl
+child-exact child.None (child.Refused n) e = cc
 child-exact (child.Refused n) (child.Of d p i) e = cc
-child-exact (child.Refused n) child.Orphan e = cc
+child-exact (child.Refused n) child.None e = cc
 child-exact (child.Refused n) (child.Refused k) e = let j : n ≡ k = cc in ap child.Refused j
 
 pub begun-exact : (a b : Begun) → begunAnswer a ≡ begunAnswer b → a ≡ b
@@ -84,13 +84,13 @@ root-exact (root.Refused n) (root.Refused k) e = let j : n ≡ k = cc in ap root
 
 pub parent-exact : (a b : Parent) → parentId a ≡ parentId b → a ≡ b
 parent-exact (parent.Of n) (parent.Of k) e = let j : n ≡ k = cc in ap parent.Of j
-parent-exact (parent.Of n) parent.Nobody e = cc
-parent-exact parent.Nobody (parent.Of k) e = cc
-parent-exact parent.Nobody parent.Nobody e = refl
+parent-exact (parent.Of n) parent.None e = cc
+parent-exact parent.None (parent.Of k) e = cc
+parent-exact parent.None parent.None e = refl
 
 -- a value as the words hold it
 pub held-exact : (a b : Value) → valueOf a ≡ valueOf b → a ≡ b
 held-exact (value.Is v) (value.Is w) e = let j : v ≡ w = cc in ap value.Is j
-held-exact (value.Is v) value.Nothing e = cc
-held-exact value.Nothing (value.Is w) e = cc
-held-exact value.Nothing value.Nothing e = refl
+held-exact (value.Is v) value.None e = cc
+held-exact value.None (value.Is w) e = cc
+held-exact value.None value.None e = refl

@@ -10,7 +10,7 @@ use Rattle.rules.specs.Ports.{flat}
 use Rattle.ports.specs.declared.Resolved.{Resolved}
 use Rattle.ports.specs.declared.Resolved.the-variants as resolved
 use Rattle.ports.specs.declared.Found.{Found}
-use Rattle.ports.specs.declared.Found.the-variants.{At, Nothing}
+use Rattle.ports.specs.declared.Found.the-variants.{At, None}
 
 abbrev pub resolvedAnswer : Resolved → Answer
 resolvedAnswer (resolved.To q) = Accepted (flat (q ∷ []))
@@ -18,7 +18,7 @@ resolvedAnswer (resolved.Refused n) = Refused n []
 
 -- the place of the first port with the key, counted from i
 unfoldable pub firstFrom : ℕ → ℕ → List Port → Found
-firstFrom i k [] = Nothing
+firstFrom i k [] = None
 firstFrom i k (p ∷ ps) = pick (eqb (p .key) k) (At i) (firstFrom (i + 1) k ps)
 
 -- Any two outcomes that the promise of a resolved key allows are equal.

@@ -12,7 +12,7 @@ use Rattle.rules.specs.Ports.{pairs, flat, resolveIn}
 use Rattle.rules.specs.Dependencies.{firstPort}
 use Rattle.rules.specs.Laws.Tests.{by-test}
 use Rattle.ports.specs.declared.Found.{Found}
-use Rattle.ports.specs.declared.Found.the-variants.{At, Nothing}
+use Rattle.ports.specs.declared.Found.the-variants.{At, None}
 use Rattle.ports.specs.Answers.{firstFrom}
 use Rattle.ports.specs.Places.{length-pairs, pairs-get}
 
@@ -36,14 +36,14 @@ pub record First (k i : ℕ) (ps : List Port) : Type 0 where
 -- the same of a place that is counted from j
 FirstOf : ℕ → Found → ℕ → List Port → Type 0
 FirstOf j (At i) k ps = (j ≤ i) × First k (i - j) ps
-FirstOf j Nothing k ps = firstPort k ps ≡ []
+FirstOf j None k ps = firstPort k ps ≡ []
 
 further : (f : Found) (j k : ℕ) (p : Port) (ps : List Port) → firstPort k (p ∷ ps) ≡ firstPort k ps → FirstOf (j + 1) f k ps → FirstOf j f k (p ∷ ps)
 unfolding FirstOf
 further (At i) j k p ps e (h, r) =
     let s : i - j ≡ suc (i - (j + 1)) = omega arith in
     (omega arith, rw s (record { within = omega (arith, r .within); hasKey = r .hasKey; answer = e ∙ r .answer }))
-further Nothing j k p ps e r = e ∙ r
+further None j k p ps e r = e ∙ r
 
 first-of : (j k : ℕ) (ps : List Port) → FirstOf j (firstFrom j k ps) k ps
 unfolding firstFrom FirstOf
@@ -59,7 +59,7 @@ pub first-port-law : (k : ℕ) (ps : List Port) (i : ℕ) → firstFrom 0 k ps �
 unfolding FirstOf
 first-port-law k ps i e = let z : i - 0 ≡ i = omega arith in rw z at ((rw e at (first-of 0 k ps)) .1)
 
-pub first-port-none : (k : ℕ) (ps : List Port) → firstFrom 0 k ps ≡ Nothing → firstPort k ps ≡ []
+pub first-port-none : (k : ℕ) (ps : List Port) → firstFrom 0 k ps ≡ None → firstPort k ps ≡ []
 unfolding FirstOf
 first-port-none k ps e = rw e at (first-of 0 k ps)
 

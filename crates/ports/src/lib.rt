@@ -20,7 +20,7 @@ pub enum Resolved {
 
 pub enum Found {
     At(usize),
-    Nothing,
+    None,
 }
 
 // Row 4: a realm list of odd length, over 16 rows, or with keys that do not rise strictly.
@@ -101,7 +101,7 @@ pub fn first_port(ports: &[u64], key: u64) -> Found
     if at < ports.len() / 2 {
         Found::At(at)
     } else {
-        Found::Nothing
+        Found::None
     }
 }
 

@@ -21,7 +21,7 @@ use Rattle.memory.specs.Writes.{findAt, putLife}
 use Rattle.memory.specs.Frames.{withLife}
 use Rattle.memory.specs.Known.{at-id, at-known, none-known, lifeOf, life-of, storedLife}
 use Rattle.memory.specs.declared.Life.{Life}
-use Rattle.memory.specs.declared.Place.the-variants.{At, Nowhere}
+use Rattle.memory.specs.declared.Place.the-variants.{At, None}
 use Rattle.memory_life.specs.Told.{told-stored, life-found}
 use Rattle.registry_admit.specs.Answers.{admitsAnswer}
 use Rattle.registry_live.specs.Lives.{verdict, verdictOf, liveOf}
@@ -86,7 +86,7 @@ module _ (m : List ℕ) (t : Ticket) (a d : ℕ) (domain : d ≡ word m domainWo
     admit-kind n = rw (own, ne-eqb (t .kind) setup n)
 
     module _ (kind : t .kind ≡ setup) where
-      pub admit-none : findAt m (t .id) ≡ Nowhere → admit (view m) t a ≡ refuses Unknown []
+      pub admit-none : findAt m (t .id) ≡ None → admit (view m) t a ≡ refuses Unknown []
       unfolding admit checked view
       admit-none e = rw (own, eq-eqb (t .kind) setup kind) (none-known m (t .id) e _)
 
@@ -144,7 +144,7 @@ module _ (m : List ℕ) (t : Invocation) (d : ℕ) (domain : d ≡ word m domain
     ours : eqb (t .domain) (word m domainWord) ≡ true
     ours = eq-eqb (t .domain) (word m domainWord) (same ∙ domain)
 
-    pub call-none : findAt m (t .id) ≡ Nowhere → call (view m) t ≡ refuses Unknown []
+    pub call-none : findAt m (t .id) ≡ None → call (view m) t ≡ refuses Unknown []
     unfolding call checked view
     call-none e = rw ours (none-known m (t .id) e _)
 

@@ -20,9 +20,9 @@ use Rattle.memory.specs.Writes.{findAt, parentId}
 use Rattle.memory.specs.Known.{at-place, at-lookup, none-lookup}
 use Rattle.memory.specs.declared.Life.{Life}
 use Rattle.memory.specs.declared.Parent.{Parent}
-use Rattle.memory.specs.declared.Parent.the-variants.{Of, Nobody}
+use Rattle.memory.specs.declared.Parent.the-variants as parent
 use Rattle.memory.specs.declared.Place.{Place}
-use Rattle.memory.specs.declared.Place.the-variants.{At, Nowhere}
+use Rattle.memory.specs.declared.Place.the-variants.{At, None}
 use Rattle.ports_resolved.specs.Keys.{keysRepeat}
 use Rattle.ports_resolved.specs.Answers.{keys-repeat-in}
 use Rattle.registry_checks.specs.declared.Checked.{Checked}
@@ -75,12 +75,12 @@ module _ (m : List ℕ) (p : Parent) where
   abbrev pub of-parent : Early
   of-parent = under (placeAbove m p) (verdict (parentChecks (view m) (parentId p)))
 
-  pub parent-none : p ≡ Nobody → early.Passed Nowhere ≡ of-parent
+  pub parent-none : p ≡ parent.None → early.Passed None ≡ of-parent
   unfolding verdict
   parent-none f = rw f refl
 
-  module _ (id : ℕ) (f : p ≡ Of id) where
-    pub parent-unknown : findAt m id ≡ Nowhere → early.Refused 1 ≡ of-parent
+  module _ (id : ℕ) (f : p ≡ parent.Of id) where
+    pub parent-unknown : findAt m id ≡ None → early.Refused 1 ≡ of-parent
     unfolding verdict
     parent-unknown e = rw f (rw (none-lookup m id e))
 

@@ -8,9 +8,9 @@ use Rattle.rules.specs.Outcomes.{Check}
 use Rattle.rules.specs.Registration.{Definition}
 use Rattle.memory.specs.Writes.{parentId, findAt}
 use Rattle.memory.specs.declared.Parent.{Parent}
-use Rattle.memory.specs.declared.Parent.the-variants.{Of, Nobody}
+use Rattle.memory.specs.declared.Parent.the-variants as parent
 use Rattle.memory.specs.declared.Place.{Place}
-use Rattle.memory.specs.declared.Place.the-variants.{Nowhere}
+use Rattle.memory.specs.declared.Place.the-variants.{None}
 use Rattle.registry_checks.specs.declared.Checked.{Checked}
 use Rattle.registry_checks.specs.declared.Checked.the-variants as checked
 use Rattle.registry_checks.specs.declared.Early.{Early}
@@ -28,8 +28,8 @@ under at (checked.Refused n) = early.Refused n
 
 -- the parent's place; nowhere without a parent
 abbrev pub placeAbove : List ℕ → Parent → Place
-placeAbove m (Of id) = findAt m id
-placeAbove m Nobody = Nowhere
+placeAbove m (parent.Of id) = findAt m id
+placeAbove m parent.None = None
 
 -- The definition as the early run is lent it: its checks look at neither anchor nor payload.
 abbrev pub asked : Parent → List ℕ → List ℕ → List ℕ → Definition

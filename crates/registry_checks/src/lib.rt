@@ -30,7 +30,7 @@ fn parent_verdict(m: &[u64; WORDS], parent: Parent) -> Early
     ensures { λ r. ⌜ r ≡ under (placeAbove (now (m .entry)) parent) (verdict (parentChecks (view (now (m .entry))) (parentId parent))) ⌝ }
 {
     let Parent::Of(id) = parent else {
-        return Early::Passed(Place::Nowhere);
+        return Early::Passed(Place::None);
     };
     let Place::At(at) = memory::find(m, id) else {
         return Early::Refused(refusal::UNKNOWN);

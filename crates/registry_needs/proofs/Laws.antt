@@ -13,7 +13,7 @@ use Rattle.memory.specs.Layout.{depPart, places}
 use Rattle.memory.specs.View.{lifeAt, pluginAt, view}
 use Rattle.memory.specs.declared.Life.{Life}
 use Rattle.memory.specs.declared.Place.{Place}
-use Rattle.memory.specs.declared.Place.the-variants.{At, Nowhere}
+use Rattle.memory.specs.declared.Place.the-variants.{At, None}
 use Rattle.memory_providers.specs.Providers.{providerAt, provider-view, provider-below}
 use Rattle.registry_needs.specs.Users.{depends, userAt}
 
@@ -32,7 +32,7 @@ module _ (f : Port → Bool) {l ps : List Port} {q : Port} (s : l ≡ q ∷ ps) 
 
 -- a provider's phase decides
 module _ (m : List ℕ) (q : Port) (x : Place) (e : x ≡ providerAt m q) where
-  pub no-provider : x ≡ Nowhere → false ≡ available (view m) q
+  pub no-provider : x ≡ None → false ≡ available (view m) q
   no-provider f = rw (provider-view m q, sym e ∙ f)
 
   pub has-provider : (i : ℕ) → x ≡ At i → (l : Life) → l ≡ lifeAt m (i % places) → (b : Bool) → b ≡ isActive (l .phase) → b ≡ available (view m) q

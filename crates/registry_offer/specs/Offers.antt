@@ -21,7 +21,7 @@ use Rattle.memory.specs.View.{lifeAt, valueAt, pluginAt, view}
 use Rattle.memory.specs.Writes.{findAt}
 use Rattle.memory.specs.Known.{at-place, at-known, none-known}
 use Rattle.memory.specs.declared.Life.{Life}
-use Rattle.memory.specs.declared.Place.the-variants.{At, Nowhere}
+use Rattle.memory.specs.declared.Place.the-variants.{At, None}
 use Rattle.memory_lists.specs.Listed.{provided-at}
 use Rattle.memory_life.specs.Told.{life-found}
 use Rattle.ports.specs.declared.Found.{Found}
@@ -42,7 +42,7 @@ loading-closed p r e = rw e (twice r)
 
 -- where a port is among the provisions of a place, and its value
 module _ (m : List ℕ) (i : ℕ) (q : Port) where
-  pub undeclared : portFrom 0 q (pairs (provPart m i)) ≡ found.Nothing → isIn q (provided (pluginAt m i)) ≡ false
+  pub undeclared : portFrom 0 q (pairs (provPart m i)) ≡ found.None → isIn q (provided (pluginAt m i)) ≡ false
   undeclared n = ap (isIn q) (provided-at m i) ∙ port-nothing q (pairs (provPart m i)) n
 
   module _ (j : ℕ) (t : portFrom 0 q (pairs (provPart m i)) ≡ found.At j) where
@@ -69,7 +69,7 @@ module _ (m : List ℕ) (id : ℕ) (q : Port) (v : ℕ) where
   unfolding leftBy
   refused x e = (rw e, rw e)
 
-  pub offered-none : findAt m id ≡ Nowhere → Offered (Refused (number Unknown) []) m
+  pub offered-none : findAt m id ≡ None → Offered (Refused (number Unknown) []) m
   unfolding offer
   offered-none e = refused Unknown (none-known m id e (offers q v))
 
@@ -90,7 +90,7 @@ module _ (m : List ℕ) (id : ℕ) (q : Port) (v : ℕ) where
       found-is : portFrom 0 q (pairs (provPart m i)) ≡ f
       found-is = sym (g ∙ ap (λ (x : List ℕ). portFrom 0 q (pairs x)) (w ∙ ap (provPart m) (at-place m id i e)))
 
-      pub offered-undeclared : f ≡ found.Nothing → Offered (Refused (number Undeclared) []) m
+      pub offered-undeclared : f ≡ found.None → Offered (Refused (number Undeclared) []) m
       unfolding checked
       offered-undeclared n = refused Undeclared (offer-found ∙ rw (closed-is ∙ o, undeclared m i q (found-is ∙ n)))
 

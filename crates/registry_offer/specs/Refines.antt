@@ -26,7 +26,7 @@ use Rattle.memory.specs.View.{valueAt, pluginAt, placeAt, view}
 use Rattle.memory.specs.Writes.{findAt}
 use Rattle.memory.specs.Known.{at-below, at-taken, at-known, none-known}
 use Rattle.memory.specs.declared.Place.{Place}
-use Rattle.memory.specs.declared.Place.the-variants.{At, Nowhere}
+use Rattle.memory.specs.declared.Place.the-variants.{At, None}
 use Rattle.memory_lists.specs.Listed.{provided-at}
 use Rattle.memory_places.specs.Placed.{places-map, taken-in}
 use Rattle.ports.specs.declared.Found.{Found}
@@ -165,7 +165,7 @@ module _ (m : List ℕ) (d : Dense m) (built : Built (view m)) (id : ℕ) (q : P
       where
         go : not (isIn q (provided (pluginAt m i))) ≡ false → isSome (valueIn q (pluginAt m i .provisions)) ≡ false
             → (f : Found) → portFrom 0 q (pairs (provPart m i)) ≡ f → Leaves (stores (withOffered q v (pluginAt m i)) [])
-        go a b found.Nothing t =
+        go a b found.None t =
             let z : true ≡ false = sym (not-false (isIn q (provided (pluginAt m i))) a) ∙ undeclared m i q t in
             let y : _≡_ {A = ℕ} 0 1 = cc in
             absurd (omega arith)
@@ -173,7 +173,7 @@ module _ (m : List ℕ) (d : Dense m) (built : Built (view m)) (id : ℕ) (q : P
 
   offered-at : (p : Place) → findAt m id ≡ p → Leaves (offer (view m) id q v)
   unfolding offer
-  offered-at Nowhere e = rw (none-known m id e (offers q v)) (refused Unknown [])
+  offered-at None e = rw (none-known m id e (offers q v)) (refused Unknown [])
   offered-at (At i) e = rw (at-known m id i e (offers q v)) (found-refines i e)
 
 pub offer-refines : (m : List ℕ) → Dense m → Built (view m) → (id : ℕ) (q : Port) (v : ℕ)

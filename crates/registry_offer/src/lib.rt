@@ -33,7 +33,7 @@ fn is_given(value: Value) -> bool
 {
     match value {
         Value::Is(_) => true,
-        Value::Nothing => false,
+        Value::None => false,
     }
 }
 

@@ -42,7 +42,7 @@ pub fn parent_tag(parent: Parent) -> u64
 {
     match parent {
         Parent::Of(_) => 1,
-        Parent::Nobody => 0,
+        Parent::None => 0,
     }
 }
 
@@ -51,6 +51,6 @@ pub fn parent_word(parent: Parent) -> u64
 {
     match parent {
         Parent::Of(id) => id,
-        Parent::Nobody => 0,
+        Parent::None => 0,
     }
 }

@@ -25,10 +25,10 @@ use Rattle.memory.specs.Writes.{findAt, parentId}
 use Rattle.memory.specs.Known.{at-place, lifeOf, life-of}
 use Rattle.memory.specs.declared.Life.{Life}
 use Rattle.memory.specs.declared.Parent as parent
-use Rattle.memory.specs.declared.Place.the-variants.{At, Nowhere}
+use Rattle.memory.specs.declared.Place.the-variants.{At, None}
 use Rattle.registry_queries.specs.Asked.{partOf, asked, asked-none, port-asked, port-none, listed, listed-none}
 
-module _ (m : List ℕ) (id : ℕ) (e : findAt m id ≡ Nowhere) where
+module _ (m : List ℕ) (id : ℕ) (e : findAt m id ≡ None) where
   pub no-answer : (f : Field) → Refused 1 [] ≡ answerOf (askPlugin (view m) f id)
   no-answer f = sym (ap answerOf (asked-none m id e f))
 
@@ -73,7 +73,7 @@ module _ (m : List ℕ) (id i : ℕ) (e : findAt m id ≡ At i) where
     port-told : Accepted (firstPort k (pairs l)) ≡ answerOf (dependencyPort (view m) id k)
     port-told = rw (h, at-place m id i e) (sym (ap answerOf (port-asked m id i e k)))
 
-    pub port-nothing : firstFrom 0 k (pairs l) ≡ found.Nothing → Accepted [] ≡ answerOf (dependencyPort (view m) id k)
+    pub port-nothing : firstFrom 0 k (pairs l) ≡ found.None → Accepted [] ≡ answerOf (dependencyPort (view m) id k)
     port-nothing f = sym (ap Accepted (first-port-none k (pairs l) f)) ∙ port-told
 
     -- both numbers of the port stand in the list, which has no more than 48 ports

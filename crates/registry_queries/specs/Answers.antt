@@ -19,12 +19,12 @@ numberAnswer (number.Refused n) = Refused n []
 
 abbrev pub perhapsAnswer : Perhaps → Answer
 perhapsAnswer (perhaps.Is n) = Accepted (n ∷ [])
-perhapsAnswer perhaps.Nothing = Accepted []
+perhapsAnswer perhaps.None = Accepted []
 perhapsAnswer (perhaps.Refused n) = Refused n []
 
 abbrev pub portAnswer : APort → Answer
 portAnswer (aport.Is q) = Accepted (flat (q ∷ []))
-portAnswer aport.Nothing = Accepted []
+portAnswer aport.None = Accepted []
 portAnswer (aport.Refused n) = Refused n []
 
 abbrev pub rootAnswer : ARoot → Answer
@@ -34,13 +34,13 @@ rootAnswer (aroot.Refused n) = Refused n []
 -- Any two outcomes that such a promise allows are equal.
 pub perhaps-exact : (a b : Perhaps) → perhapsAnswer a ≡ perhapsAnswer b → a ≡ b
 perhaps-exact (perhaps.Is v) (perhaps.Is w) e = cc
-perhaps-exact (perhaps.Is v) perhaps.Nothing e = cc
+perhaps-exact (perhaps.Is v) perhaps.None e = cc
 perhaps-exact (perhaps.Is v) (perhaps.Refused k) e = cc
-perhaps-exact perhaps.Nothing (perhaps.Is w) e = cc
-perhaps-exact perhaps.Nothing perhaps.Nothing e = refl
-perhaps-exact perhaps.Nothing (perhaps.Refused k) e = cc
+perhaps-exact perhaps.None (perhaps.Is w) e = cc
+perhaps-exact perhaps.None perhaps.None e = refl
+perhaps-exact perhaps.None (perhaps.Refused k) e = cc
 perhaps-exact (perhaps.Refused n) (perhaps.Is w) e = cc
-perhaps-exact (perhaps.Refused n) perhaps.Nothing e = cc
+perhaps-exact (perhaps.Refused n) perhaps.None e = cc
 perhaps-exact (perhaps.Refused n) (perhaps.Refused k) e = cc
 
 pub port-exact : (a b : APort) → portAnswer a ≡ portAnswer b → a ≡ b
@@ -48,11 +48,11 @@ port-exact (aport.Is p) (aport.Is q) e =
     let k : p .key ≡ q .key = cc in
     let r : p .realm ≡ q .realm = cc in
     ap aport.Is (λ i. record { key = k i; realm = r i })
-port-exact (aport.Is p) aport.Nothing e = cc
+port-exact (aport.Is p) aport.None e = cc
 port-exact (aport.Is p) (aport.Refused k) e = cc
-port-exact aport.Nothing (aport.Is q) e = cc
-port-exact aport.Nothing aport.Nothing e = refl
-port-exact aport.Nothing (aport.Refused k) e = cc
+port-exact aport.None (aport.Is q) e = cc
+port-exact aport.None aport.None e = refl
+port-exact aport.None (aport.Refused k) e = cc
 port-exact (aport.Refused n) (aport.Is q) e = cc
-port-exact (aport.Refused n) aport.Nothing e = cc
+port-exact (aport.Refused n) aport.None e = cc
 port-exact (aport.Refused n) (aport.Refused k) e = cc

@@ -12,7 +12,7 @@ use Rattle.memory.specs.Layout.{depPart, provPart, realmPart}
 use Rattle.memory.specs.View.{pluginAt, view}
 use Rattle.memory.specs.Writes.{findAt}
 use Rattle.memory.specs.Known.{at-known, none-known}
-use Rattle.memory.specs.declared.Place.the-variants.{At, Nowhere}
+use Rattle.memory.specs.declared.Place.the-variants.{At, None}
 use Rattle.memory_lists.specs.Listed.{provided-at}
 
 -- The words of a list.
@@ -40,7 +40,7 @@ module _ (m : List ℕ) (id i : ℕ) (e : findAt m id ≡ At i) where
   unfolding list
   listed w place b = at-known m id i e (λ p. listing (listOf w p) place b) ∙ rw (list-at w m i)
 
-module _ (m : List ℕ) (id : ℕ) (e : findAt m id ≡ Nowhere) where
+module _ (m : List ℕ) (id : ℕ) (e : findAt m id ≡ None) where
   pub asked-none : (f : Field) → askPlugin (view m) f id ≡ refuses Unknown []
   unfolding askPlugin
   asked-none f = none-known m id e (λ p. answers (fieldOf f p))

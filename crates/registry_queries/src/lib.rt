@@ -25,13 +25,13 @@ pub enum Number {
 
 pub enum Perhaps {
     Is(u64),
-    Nothing,
+    None,
     Refused(u64),
 }
 
 pub enum APort {
     Is(Port),
-    Nothing,
+    None,
     Refused(u64),
 }
 
@@ -49,7 +49,7 @@ pub fn parent(m: &[u64; WORDS], id: u64) -> Perhaps
     let parent = memory::parent_of(m, at);
     match parent {
         memory::Parent::Of(p) => Perhaps::Is(p),
-        memory::Parent::Nobody => Perhaps::Nothing,
+        memory::Parent::None => Perhaps::None,
     }
 }
 
@@ -152,7 +152,7 @@ pub fn dependency_port(m: &[u64; WORDS], id: u64, key: u64) -> APort
     };
     let ports = memory_lists::dependency_words(m, at);
     let ports::Found::At(i) = ports::first_port(ports, key) else {
-        return APort::Nothing;
+        return APort::None;
     };
     APort::Is(port_of(ports, i))
 }

@@ -11,13 +11,13 @@ use Rattle.memory.specs.Frames.{life-length}
 use Rattle.memory.specs.Known.{lifeOf}
 use Rattle.memory.specs.declared.Life.{Life}
 use Rattle.memory.specs.declared.Place.{Place}
-use Rattle.memory.specs.declared.Place.the-variants.{At, Nowhere}
+use Rattle.memory.specs.declared.Place.the-variants.{At, None}
 use Rattle.memory.specs.Layout.{placeWords, maskWord}
 
 -- a life stored and no value left
 abbrev pub emptied : List ℕ → Place → Life → List ℕ
 emptied m (At i) l = set (putLife m i l) (i * placeWords + maskWord) 0
-emptied m Nowhere l = m
+emptied m None l = m
 
 -- The words after a finish.
 abbrev pub finishing : Way
@@ -31,5 +31,5 @@ pub finished-sized : Sized finishing
 finished-sized = storing-sized _ λ m q. at m q (findAt m (q .id))
   where
     at : (m : List ℕ) (q : Plugin) (p : Place) → length (emptied m p (lifeOf q)) ≡ length m
-    at m q Nowhere = refl
+    at m q None = refl
     at m q (At i) = length-set (putLife m i (lifeOf q)) (i * placeWords + maskWord) 0 ∙ life-length m i (lifeOf q)

@@ -25,7 +25,7 @@ use Rattle.memory_life.specs.Told.{life-found, generation-found}
 use Rattle.memory.specs.Lives.{movedLife, finishedLife}
 use Rattle.ports.specs.declared.Found.{Found}
 use Rattle.ports.specs.declared.Found.the-variants as found
-use Rattle.ports.specs.declared.Found.the-variants.{Nothing}
+use Rattle.ports.specs.declared.Found.the-variants.{None}
 use Rattle.memory_values.specs.Values.{lackFrom}
 use Rattle.memory_values.specs.Firsts.{provisions-at, lack-nothing, lack-test}
 use Rattle.registry_ready_finish.specs.Finished.{finishedTo}
@@ -35,7 +35,7 @@ abbrev pub lacks : Plugin → Bool
 lacks p = any (λ (v : Provision). isNone (v .value)) (p .provisions)
 
 -- by the first provision that has none
-pub lacks-none : (m : List ℕ) (i : ℕ) (x : Found) → x ≡ lackFrom 0 (pluginAt m i .provisions) → x ≡ Nothing → lacks (pluginAt m i) ≡ false
+pub lacks-none : (m : List ℕ) (i : ℕ) (x : Found) → x ≡ lackFrom 0 (pluginAt m i .provisions) → x ≡ None → lacks (pluginAt m i) ≡ false
 lacks-none m i x e f = lack-nothing (pluginAt m i .provisions) (sym e ∙ f) .0
 
 pub lacks-one : (m : List ℕ) (i : ℕ) (x : Found) → x ≡ lackFrom 0 (pluginAt m i .provisions) → (j : ℕ) → x ≡ found.At j → lacks (pluginAt m i) ≡ true

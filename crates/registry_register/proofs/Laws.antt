@@ -14,7 +14,7 @@ use Rattle.rules.specs.Outcomes.{Refused, Accepted}
 use Rattle.rules.specs.Laws.Tests.{Passed}
 use Rattle.memory.specs.Layout.{word, places, nextWord}
 use Rattle.memory.specs.View.{view}
-use Rattle.memory.specs.declared.Place.the-variants.{At, Nowhere}
+use Rattle.memory.specs.declared.Place.the-variants.{At, None}
 use Rattle.memory_places.specs.Changes.{freeAt}
 use Rattle.memory_places.specs.Free.{free-at, count-full}
 use Rattle.memory_entry.specs.Entries.{filledPlace}
@@ -46,7 +46,7 @@ module _ (m : List ℕ) (parent : Option ℕ) (payload count : ℕ) (ds cs zs : 
     unfolding view
     id-left = eqb-false _ _ (passed .0)
 
-    pub some-free : freeAt m ≡ Nowhere → ⊥
+    pub some-free : freeAt m ≡ None → ⊥
     some-free f =
         let a = count-full m f in
         let b = passed .1 .0 in

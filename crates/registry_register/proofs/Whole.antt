@@ -23,9 +23,9 @@ use Rattle.memory.specs.View.{pluginAt, view}
 use Rattle.memory.specs.Writes.{parentId, findAt}
 use Rattle.memory.specs.Known.{at-place, at-lookup, none-lookup}
 use Rattle.memory.specs.declared.Parent.{Parent}
-use Rattle.memory.specs.declared.Parent.the-variants.{Of, Nobody}
+use Rattle.memory.specs.declared.Parent.the-variants as parents
 use Rattle.memory.specs.declared.Place.{Place}
-use Rattle.memory.specs.declared.Place.the-variants.{At, Nowhere}
+use Rattle.memory.specs.declared.Place.the-variants.{At, None}
 use Rattle.memory_places.specs.Changes.{freeAt}
 use Rattle.ports.specs.Places.{length-pairs, length-flat, pairs-flat, flat-pairs-even, good-realms}
 use Rattle.ports_resolved.specs.declared.Claimed.{Claimed}
@@ -65,13 +65,13 @@ module _ (m : List ℕ) (parent : Parent) (anchor : Port) (zs ks vs : List ℕ) 
   unfolding pluginAt
   inherits = of parent
     where
-      at : (id : ℕ) (p : Place) → findAt m id ≡ p → pairs (dependenciesAt m p) ≡ inheritedFrom (parentOf r (parentId (Of id)))
-      at id Nowhere e = rw (none-lookup m id e)
+      at : (id : ℕ) (p : Place) → findAt m id ≡ p → pairs (dependenciesAt m p) ≡ inheritedFrom (parentOf r (parentId (parents.Of id)))
+      at id None e = rw (none-lookup m id e)
       at id (At i) e = rw (at-lookup m id i e) (ap (λ k. pairs (depPart m k)) (at-place m id i e))
 
       of : (p : Parent) → pairs (dependenciesAt m (placeAbove m p)) ≡ inheritedFrom (parentOf r (parentId p))
-      of Nobody = refl
-      of (Of id) = at id (findAt m id) refl
+      of parents.None = refl
+      of (parents.Of id) = at id (findAt m id) refl
 
   refused : (n : ℕ) → RefusesWith (register r d) n → (Refused n [] ≡ answerOf (register r d)) × (m ≡ addedTo m (register r d))
   unfolding leftBy

@@ -21,7 +21,7 @@ use Rattle.memory.specs.Layout.{word, taken, idAt, nextWord}
 use Rattle.rules.specs.Limits.{maxRows, maxDependencies, maxDependencyKeys, maxProvisionKeys}
 use Rattle.memory.specs.View.{parentOf, pluginAt, view}
 use Rattle.memory.specs.declared.Place.{Place}
-use Rattle.memory.specs.declared.Place.the-variants.{At, Nowhere}
+use Rattle.memory.specs.declared.Place.the-variants.{At, None}
 use Rattle.memory_places.specs.Changes.{freeAt}
 use Rattle.memory_places.specs.Free.{count-full}
 use Rattle.memory_places.specs.Placed.{taken-in}
@@ -101,7 +101,7 @@ module _ (m : List ℕ) (d : Definition) where
     written at e = rw e (λ i. filledPlace m at (entryOf n (used-is m (dense .size) i) (word m nextWord + 1)) (n .dependencies) (flat (d .anchor ∷ new-ports r d i)) (n .realms))
 
     registered : (free : Place) → freeAt m ≡ free → Refines m (addedTo m o) o
-    registered Nowhere e =
+    registered None e =
         let a = count-full m e in
         let b = p .1 .1 .1 .1 .1 .1 .1 .1 .1 .0 in
         let z : _≡_ {A = ℕ} 0 1 = cc in

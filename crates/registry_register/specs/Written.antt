@@ -15,7 +15,7 @@ use Rattle.memory.specs.Writes.{parentId}
 use Rattle.memory.specs.Ways.{Way, leftBy, byAdding, Sized, adding-sized}
 use Rattle.memory.specs.declared.Parent.{Parent}
 use Rattle.memory.specs.declared.Place.{Place}
-use Rattle.memory.specs.declared.Place.the-variants.{At, Nowhere}
+use Rattle.memory.specs.declared.Place.the-variants.{At, None}
 use Rattle.memory_places.specs.Changes.{freeAt}
 use Rattle.memory_entry.specs.Entries.{filledPlace}
 use Rattle.memory_entry.specs.Filled.{filled-size}
@@ -59,7 +59,7 @@ newEntry m parent payload dependencies provisions realms = record {
 -- Written to a place; no place leaves the words.
 abbrev pub writtenAt : List ℕ → Place → Entry → List ℕ → List ℕ → List ℕ → List ℕ
 writtenAt m (At p) e dependencies claims realms = filledPlace m p e dependencies claims realms
-writtenAt m Nowhere e dependencies claims realms = m
+writtenAt m None e dependencies claims realms = m
 
 -- The words after a registration: the new plugin stands at the lowest free place.
 abbrev pub entered : List ℕ → Plugin → List ℕ
@@ -101,7 +101,7 @@ Settles m parent payload count dependencies claims realms a m′ =
 -- On any words, there are as many after a registration.
 written-size : (m : List ℕ) (free : Place) (e : Entry) (dependencies claims realms : List ℕ)
     → length (writtenAt m free e dependencies claims realms) ≡ length m
-written-size m Nowhere e dependencies claims realms = refl
+written-size m None e dependencies claims realms = refl
 written-size m (At p) e dependencies claims realms = filled-size m p e dependencies claims realms
 
 pub added-sized : Sized adding

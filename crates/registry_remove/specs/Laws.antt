@@ -15,7 +15,7 @@ use Rattle.memory.specs.View.{parentAt, lifeAt, pluginAt, view}
 use Rattle.memory.specs.Writes.{findAt}
 use Rattle.memory.specs.Known.{at-place, at-known, none-known}
 use Rattle.memory.specs.declared.Life.{Life}
-use Rattle.memory.specs.declared.Place.the-variants.{At, Nowhere}
+use Rattle.memory.specs.declared.Place.the-variants.{At, None}
 use Rattle.memory.specs.Layout.{places}
 use Rattle.memory_rows.specs.Moves.{freedPlace}
 use Rattle.memory_life.specs.Told.{doneAnswer}
@@ -39,7 +39,7 @@ pub freed-refused : (o : Outcome) (m : List ℕ) (x : Refusal) → o ≡ refuses
 unfolding leftBy
 freed-refused o m x e = (rw e, rw e)
 
-pub remove-none : (m : List ℕ) (id : ℕ) → findAt m id ≡ Nowhere → remove (view m) id ≡ refuses Unknown []
+pub remove-none : (m : List ℕ) (id : ℕ) → findAt m id ≡ None → remove (view m) id ≡ refuses Unknown []
 unfolding remove
 remove-none m id e = none-known m id e (removal m id)
 

@@ -20,7 +20,7 @@ use Rattle.memory.specs.Writes.{findAt, puts}
 use Rattle.memory.specs.Frames.{puts-length, puts-same}
 use Rattle.memory.specs.Known.{at-taken, at-id}
 use Rattle.memory.specs.declared.Place.{Place}
-use Rattle.memory.specs.declared.Place.the-variants.{At, Nowhere}
+use Rattle.memory.specs.declared.Place.the-variants.{At, None}
 use Rattle.memory_places.specs.Rows.{rowsAt}
 use Rattle.memory_rows.specs.Tiles.{sum, share, sum-same}
 use Rattle.memory_rows.specs.Dense.{used, Dense, Refines}
@@ -47,7 +47,7 @@ module _ (m : List ℕ) (d : Dense m) where
   remove-refines id = go (findAt m id) refl
     where
       go : (p : Place) → findAt m id ≡ p → Removed (remove (view m) id)
-      go Nowhere e = rw (remove-none m id e) (removed-refused Unknown)
+      go None e = rw (remove-none m id e) (removed-refused Unknown)
       go (At i) e = rw (remove-found m id i e)
           (checked-elim Removed
           ((not (isIdle (pluginAt m i .phase) && pluginAt m i .retired) ⇒ InvalidState) ∷ (any (isChildOf id) (plugins (view m)) ⇒ HasChildren) ∷ [])

@@ -7,13 +7,13 @@ use Rattle.rules.specs.Outcomes.{Outcome}
 use Rattle.memory.specs.Writes.{findAt}
 use Rattle.memory.specs.Ways.{Way, leftBy, byRemoving, Sized, removing-sized}
 use Rattle.memory.specs.declared.Place.{Place}
-use Rattle.memory.specs.declared.Place.the-variants.{At, Nowhere}
+use Rattle.memory.specs.declared.Place.the-variants.{At, None}
 use Rattle.memory_rows.specs.Moves.{freedPlace}
 use Rattle.memory_rows.specs.Laws.{freed-size}
 
 abbrev pub freedAtPlace : List ℕ → Place → List ℕ
 freedAtPlace m (At i) = freedPlace m i
-freedAtPlace m Nowhere = m
+freedAtPlace m None = m
 
 -- The words after a removal.
 abbrev pub removing : Way
@@ -27,5 +27,5 @@ pub removed-sized : Sized removing
 removed-sized = removing-sized _ λ m id. at m (findAt m id)
   where
     at : (m : List ℕ) (p : Place) → length (freedAtPlace m p) ≡ length m
-    at m Nowhere = refl
+    at m None = refl
     at m (At i) = freed-size m i

@@ -16,7 +16,7 @@ use Rattle.memory.specs.Lives.{renewedLife}
 use Rattle.memory.specs.Frames.{withLife}
 use Rattle.memory.specs.Known.{at-place, at-known, none-known}
 use Rattle.memory.specs.declared.Life.{Life}
-use Rattle.memory.specs.declared.Place.the-variants.{At, Nowhere}
+use Rattle.memory.specs.declared.Place.the-variants.{At, None}
 use Rattle.memory.specs.Layout.{places}
 use Rattle.memory_life.specs.Told.{life-found, whetherAnswer}
 use Rattle.registry_replace.specs.Answers.{replacedAnswer}
@@ -36,7 +36,7 @@ abbrev pub replacedLife : Life → ℕ → Life
 replacedLife l v = renewedLife l (l .revision + 1) v
 
 module _ (m : List ℕ) (id v : ℕ) where
-  pub replace-none : findAt m id ≡ Nowhere → replace (view m) id v ≡ refuses Unknown (v ∷ [])
+  pub replace-none : findAt m id ≡ None → replace (view m) id v ≡ refuses Unknown (v ∷ [])
   unfolding replace handingBack
   replace-none e = rw (none-known m id e (tested v))
 
@@ -77,7 +77,7 @@ module _ (m : List ℕ) (id v : ℕ) where
 
 -- a count, where the id is not found, and where its life was loaded
 module _ (m : List ℕ) (id n : ℕ) where
-  pub fits-none : findAt m id ≡ Nowhere → whetherAnswer (whether.Refused 1) ≡ answerOf (fits (view m) id n)
+  pub fits-none : findAt m id ≡ None → whetherAnswer (whether.Refused 1) ≡ answerOf (fits (view m) id n)
   unfolding fits
   fits-none e = rw (none-known m id e (λ p. answers (yesNo (leb (p .revision + n) last) ∷ [])))
 

@@ -15,7 +15,7 @@ use Rattle.memory.specs.Frames.{withLife, renewed-only}
 use Rattle.memory.specs.Stores.{renewed-view}
 use Rattle.memory.specs.Known.{at-below, at-taken}
 use Rattle.memory.specs.declared.Place.{Place}
-use Rattle.memory.specs.declared.Place.the-variants.{At, Nowhere}
+use Rattle.memory.specs.declared.Place.the-variants.{At, None}
 use Rattle.memory_rows.specs.Dense.{Dense, Refines}
 use Rattle.memory_rows.specs.Stored.{only-dense}
 use Rattle.registry_replace.specs.Words.{replacedIn, replaced-at}
@@ -42,7 +42,7 @@ module _ (m : List ℕ) (d : Dense m) where
   replace-refines id v = go (findAt m id) refl
     where
       go : (p : Place) → findAt m id ≡ p → Left (replace (view m) id v)
-      go Nowhere e = rw (replace-none m id v e) (left-refused Unknown (v ∷ []))
+      go None e = rw (replace-none m id v e) (left-refused Unknown (v ∷ []))
       go (At i) e = by-test (eqb (lifeAt m i .revision) last)
           (λ t. rw (replace-last m id v i e t) (left-refused Exhausted (v ∷ [])))
           (λ f. rw (replace-stores m id v i e f) (left-replaced id i v e (lifeAt m i .payload ∷ [])))

@@ -12,12 +12,12 @@ use Rattle.memory.specs.Frames.{withLife, renewed-only}
 use Rattle.memory.specs.Known.{at-id}
 use Rattle.memory.specs.declared.Life.{Life}
 use Rattle.memory.specs.declared.Place.{Place}
-use Rattle.memory.specs.declared.Place.the-variants.{At, Nowhere}
+use Rattle.memory.specs.declared.Place.the-variants.{At, None}
 
 -- the revision and the payload of a place, and no other word
 abbrev pub renewedTo : List ℕ → Place → Plugin → List ℕ
 renewedTo m (At i) q = renewedAt m i (q .revision) (q .payload)
-renewedTo m Nowhere q = m
+renewedTo m None q = m
 
 abbrev pub replacing : Way
 replacing = byStoring (λ m q. renewedTo m (findAt m (q .id)) q)
@@ -30,7 +30,7 @@ pub replaced-sized : Sized replacing
 replaced-sized = storing-sized _ λ m q. at m q (findAt m (q .id))
   where
     at : (m : List ℕ) (q : Plugin) (p : Place) → length (renewedTo m p q) ≡ length m
-    at m q Nowhere = refl
+    at m q None = refl
     at m q (At i) = renewed-only m i (q .revision) (q .payload) .size
 
 pub replaced-at : (m : List ℕ) (id i : ℕ) → findAt m id ≡ At i → (l : Life) (vs : List ℕ)

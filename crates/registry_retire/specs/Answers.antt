@@ -12,5 +12,5 @@ identified domain parent id = record { domain = domain; parent = parent; id = id
 
 abbrev pub childAnswer : Child → Answer
 childAnswer (child.Of domain parent id) = Accepted (domain ∷ parent ∷ id ∷ [])
-childAnswer child.Orphan = Accepted []
+childAnswer child.None = Accepted []
 childAnswer (child.Refused n) = Refused n []

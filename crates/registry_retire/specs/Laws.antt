@@ -19,9 +19,9 @@ use Rattle.memory.specs.Writes.{parentId, findAt, putLife}
 use Rattle.memory.specs.Known.{at-place, at-lookup, at-known, none-lookup, none-known, storedLife}
 use Rattle.memory.specs.declared.Life.{Life}
 use Rattle.memory.specs.declared.Parent.{Parent}
-use Rattle.memory.specs.declared.Parent.the-variants.{Of, Nobody}
-use Rattle.memory.specs.declared.Place.the-variants.{At, Nowhere}
+use Rattle.memory.specs.declared.Place.the-variants.{At, None}
 use Rattle.memory_life.specs.Told.{told-refused, told-stored, life-found}
+use Rattle.memory.specs.declared.Parent.the-variants as parent
 use Rattle.registry_retire.specs.Answers.{childAnswer}
 use Rattle.memory.specs.Lives.{markedLife}
 use Rattle.registry_retire.specs.declared.Child.the-variants as child
@@ -67,7 +67,7 @@ module _ (m : List ℕ) (c : Identity) (d : ℕ) (domain : d ≡ word m domainWo
         unfolding retireChild checked view
         child-issued = rw (own, not-below, lt-leb (word m nextWord) (c .id) (omega arith))
 
-        pub child-gone : findAt m (c .id) ≡ Nowhere → retireChild (view m) c ≡ answers []
+        pub child-gone : findAt m (c .id) ≡ None → retireChild (view m) c ≡ answers []
         child-gone e = child-issued ∙ ap (retireFound (c .parent)) (none-lookup m (c .id) e)
 
         module _ (i : ℕ) (b : Bool) (e : findAt m (c .id) ≡ At i) (t : b ≡ holds (eqb (c .parent)) (parentAt m (i % places))) where
@@ -88,7 +88,7 @@ module _ (m : List ℕ) (c : Identity) (d : ℕ) (domain : d ≡ word m domainWo
 
 -- asking a child identity
 module _ (m : List ℕ) (id : ℕ) where
-  pub identity-none : findAt m id ≡ Nowhere → childAnswer (child.Refused 1) ≡ answerOf (childIdentity (view m) id)
+  pub identity-none : findAt m id ≡ None → childAnswer (child.Refused 1) ≡ answerOf (childIdentity (view m) id)
   unfolding childIdentity
   identity-none e = rw (none-known m id e (λ p. answers (identity (view m .domain) id (p .parent))))
 
@@ -99,8 +99,8 @@ module _ (m : List ℕ) (id : ℕ) where
         at-known m id i e (λ p. answers (identity (view m .domain) id (p .parent)))
         ∙ ap (λ o. answers (identity (word m domainWord) id o)) (sym (t ∙ ap (parentAt m) (at-place m id i e)))
 
-    pub identity-orphan : q ≡ Nobody → childAnswer child.Orphan ≡ answerOf (childIdentity (view m) id)
+    pub identity-orphan : q ≡ parent.None → childAnswer child.None ≡ answerOf (childIdentity (view m) id)
     identity-orphan s = rw (identity-found, s)
 
-    pub identity-child : (d p : ℕ) → q ≡ Of p → d ≡ word m domainWord → childAnswer (child.Of d p id) ≡ answerOf (childIdentity (view m) id)
+    pub identity-child : (d p : ℕ) → q ≡ parent.Of p → d ≡ word m domainWord → childAnswer (child.Of d p id) ≡ answerOf (childIdentity (view m) id)
     identity-child d p s w = rw (identity-found, s, w)

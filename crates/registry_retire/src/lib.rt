@@ -14,7 +14,7 @@ use rules::refusal;
 // A child identity, none, or a refusal.
 pub enum Child {
     Of(u64, u64, u64),
-    Orphan,
+    None,
     Refused(u64),
 }
 
@@ -71,6 +71,6 @@ pub fn child_identity(m: &[u64; WORDS], id: u64) -> Child
     let parent = memory::parent_of(m, at);
     match parent {
         memory::Parent::Of(p) => Child::Of(memory::domain(m), p, id),
-        memory::Parent::Nobody => Child::Orphan,
+        memory::Parent::None => Child::None,
     }
 }

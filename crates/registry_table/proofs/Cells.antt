@@ -19,7 +19,7 @@ use Rattle.memory.specs.View.{phaseOf}
 use Rattle.registry_table.specs.Table.{ruled, cellOf, numbered}
 use Rattle.registry_table.specs.declared.Step.{Step}
 use Rattle.registry_table.specs.declared.Cell.{Cell}
-use Rattle.registry_table.specs.declared.Cell.the-variants.{To, Empty}
+use Rattle.registry_table.specs.declared.Cell.the-variants.{To, None}
 
 -- a test at each entry of a list and its place, counted from i
 abbrev every : {A : Type 0} → (ℕ → A → Bool) → ℕ → List A → Bool
@@ -97,7 +97,7 @@ module _ (t : List (List ℕ)) (passed : isRight t ≡ true) where
       ap numbered (at (phaseNumber p) c (phase-few p) (step-few s) ∙ ap (λ r. code (getD r c none)) (row-is p)) ∙ back (rules.cell p s)
 
 -- what the functions answer
-pub empty-cell : (n : ℕ) → n ≡ 4 → Empty ≡ numbered n
+pub empty-cell : (n : ℕ) → n ≡ 4 → None ≡ numbered n
 empty-cell n e = rw (eq-eqb n 4 e)
 
 pub phase-cell : (n : ℕ) → n ≢ 4 → (p : Phase) → p ≡ phaseOf n → To p ≡ numbered n

@@ -10,7 +10,7 @@ use Rattle.memory.specs.View.{phaseOf}
 use Rattle.registry_table.specs.declared.Step.{Step}
 use Rattle.registry_table.specs.declared.Step.the-variants.{Begin, Ready, Fail, Unload, Finish}
 use Rattle.registry_table.specs.declared.Cell.{Cell}
-use Rattle.registry_table.specs.declared.Cell.the-variants.{To, Empty}
+use Rattle.registry_table.specs.declared.Cell.the-variants.{To, None}
 
 abbrev pub ruled : Step → rules.Step
 ruled Begin = rules.Begin
@@ -21,18 +21,18 @@ ruled Finish = rules.Finish
 
 -- a cell of the table
 abbrev pub cellOf : Option Phase → Cell
-cellOf none = Empty
+cellOf none = None
 cellOf (some p) = To p
 
 -- a phase by its number; 4 is an empty cell
 abbrev pub numbered : ℕ → Cell
-numbered n = pick (eqb n 4) Empty (To (phaseOf n))
+numbered n = pick (eqb n 4) None (To (phaseOf n))
 
 -- what a cell says
 pub cell-to : (c : Option Phase) (x : Cell) (p : Phase) → x ≡ cellOf c → x ≡ To p → c ≡ some p
 cell-to none x p e f = cc
 cell-to (some q) x p e f = let j : q ≡ p = cc in ap some j
 
-pub cell-empty : (c : Option Phase) (x : Cell) → x ≡ cellOf c → x ≡ Empty → c ≡ none
+pub cell-empty : (c : Option Phase) (x : Cell) → x ≡ cellOf c → x ≡ None → c ≡ none
 cell-empty none x e f = refl
 cell-empty (some q) x e f = cc

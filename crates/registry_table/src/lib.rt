@@ -20,7 +20,7 @@ pub enum Step {
 // The phase that a step leads to; or an empty cell.
 pub enum Cell {
     To(Phase),
-    Empty,
+    None,
 }
 
 // Phases by their numbers, and an empty cell.
@@ -70,7 +70,7 @@ fn cell_of(number: u64) -> Cell
     ensures { λ r. ⌜ r ≡ numbered number ⌝ }
 {
     if number == EMPTY {
-        return Cell::Empty;
+        return Cell::None;
     }
     Cell::To(memory_life::phase_of(number))
 }

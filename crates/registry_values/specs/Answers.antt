@@ -25,6 +25,6 @@ reading-exact (reading.Refused n) (reading.Refused k) e = cc
 
 pub value-exact : (a b : Value) → valueAnswer a ≡ valueAnswer b → a ≡ b
 value-exact (value.Is v) (value.Is w) e = cc
-value-exact (value.Is v) value.Nothing e = cc
-value-exact value.Nothing (value.Is w) e = cc
-value-exact value.Nothing value.Nothing e = refl
+value-exact (value.Is v) value.None e = cc
+value-exact value.None (value.Is w) e = cc
+value-exact value.None value.None e = refl

@@ -22,7 +22,7 @@ use Rattle.memory.specs.Lookups.{placed}
 use Rattle.memory.specs.Known.{at-place, at-known, none-known}
 use Rattle.memory.specs.declared.Life.{Life}
 use Rattle.memory.specs.declared.Place.{Place}
-use Rattle.memory.specs.declared.Place.the-variants.{At, Nowhere}
+use Rattle.memory.specs.declared.Place.the-variants.{At, None}
 use Rattle.memory_lists.specs.Listed.{provided-at}
 use Rattle.memory_providers.specs.Providers.{providerAt, provider-view, provider-below}
 use Rattle.ports.specs.Places.{length-pairs, pairs-get}
@@ -44,7 +44,7 @@ module _ (m : List ℕ) (i : ℕ) (q : Port) (x : Value) (h : valueOf x ≡ valu
   unfolding givenBy servedAnswer pluginAt
   gives-value n e k g = rw (g, sym h ∙ ap valueOf e)
 
-  pub gives-nothing : x ≡ value.Nothing → Refused (number Missing) [] ≡ givenBy (pluginAt m i) q
+  pub gives-nothing : x ≡ value.None → Refused (number Missing) [] ≡ givenBy (pluginAt m i) q
   unfolding givenBy servedAnswer
   gives-nothing e = rw (sym h ∙ ap valueOf e)
 
@@ -90,8 +90,8 @@ module _ (m : List ℕ) (q : Port) (x : Place) (h : x ≡ providerAt m q) where
   unfolding visible
   seen-is y n = ap (λ (p : Option Plugin). Accepted (seen q p)) (provider-view m q ∙ ap (placed m) (sym h ∙ n))
 
-  pub visible-nobody : x ≡ Nowhere → Accepted [] ≡ answerOf (visible (view m) q)
-  visible-nobody n = sym (seen-is Nowhere n)
+  pub visible-nobody : x ≡ None → Accepted [] ≡ answerOf (visible (view m) q)
+  visible-nobody n = sym (seen-is None n)
 
   module _ (i : ℕ) (n : x ≡ At i) (life : Life) (l : life ≡ lifeAt m (i % places)) (b : Bool) (k : b ≡ isActive (life .phase)) where
     place-is : i % places ≡ i
@@ -110,7 +110,7 @@ module _ (m : List ℕ) (q : Port) (x : Place) (h : x ≡ providerAt m q) where
         ∙ sym (seen-is (At i) n ∙ rw (active-is ∙ t))
 
 -- Where the id is not found.
-module _ (m : List ℕ) (id : ℕ) (e : findAt m id ≡ Nowhere) where
+module _ (m : List ℕ) (id : ℕ) (e : findAt m id ≡ None) where
   none-answer : (f : Plugin → Outcome) → Refused (number Unknown) [] ≡ answerOf (known (view m) id f)
   none-answer f = sym (ap answerOf (none-known m id e f))
 
@@ -161,7 +161,7 @@ module _ (m : List ℕ) (id i : ℕ) (e : findAt m id ≡ At i) where
   missing-is = ap answerOf (found-at lacks)
 
   module _ (f : Found) (h : f ≡ lackFrom 0 (pluginAt m (i % places) .provisions)) where
-    pub missing-nothing : f ≡ found.Nothing → Accepted [] ≡ answerOf (missing (view m) id)
+    pub missing-nothing : f ≡ found.None → Accepted [] ≡ answerOf (missing (view m) id)
     missing-nothing n = sym (missing-is ∙ ap Accepted (lack-nothing (pluginAt m (i % places) .provisions) (sym h ∙ n) .1))
 
     module _ (j : ℕ) (n : f ≡ found.At j) (ws : List ℕ) (w : ws ≡ provPart m (i % places)) where
@@ -210,9 +210,9 @@ module _ (m : List ℕ) (id i : ℕ) (e : findAt m id ≡ At i) where
             ap answerOf read-served ∙ served-answer (served q (provider (view m) q))
             ∙ ap (λ (p : Option Plugin). servedAnswer (served q p)) (provider-view m q ∙ ap (placed m) (sym h ∙ n))
 
-        pub read-nobody : x ≡ Nowhere → Refused (number Missing) [] ≡ answerOf (read (view m) id q)
+        pub read-nobody : x ≡ None → Refused (number Missing) [] ≡ answerOf (read (view m) id q)
         unfolding servedAnswer
-        read-nobody n = sym (served-is Nowhere n)
+        read-nobody n = sym (served-is None n)
 
         -- what the live provider gives
         pub read-given : (j : ℕ) → x ≡ At j → (a : Answer) → a ≡ givenBy (pluginAt m (j % places)) q → a ≡ answerOf (read (view m) id q)

@@ -37,7 +37,7 @@ fn given(m: &[u64; WORDS], place: usize, key: u64, realm: u64) -> Reading
     let value = memory_values::value_of(m, place, key, realm);
     match value {
         Value::Is(v) => Reading::Is(v, memory::id(m, place)),
-        Value::Nothing => Reading::Refused(refusal::MISSING),
+        Value::None => Reading::Refused(refusal::MISSING),
     }
 }
 
@@ -65,12 +65,12 @@ pub fn visible(m: &[u64; WORDS], key: u64, realm: u64) -> Value
     ensures { λ r. ⌜ valueAnswer r ≡ answerOf (visible (view (now (m .entry))) (port key realm)) ⌝ }
 {
     let Place::At(from) = memory_providers::provider(m, key, realm) else {
-        return Value::Nothing;
+        return Value::None;
     };
     if registry_needs::is_active(memory_life::load(m, from)) {
         return memory_values::value_of(m, from, key, realm);
     }
-    Value::Nothing
+    Value::None
 }
 
 // A plugin's own value of a provision, or nothing.
@@ -83,7 +83,7 @@ pub fn own(m: &[u64; WORDS], id: u64, key: u64, realm: u64) -> Perhaps
     let value = memory_values::value_of(m, at, key, realm);
     match value {
         Value::Is(v) => Perhaps::Is(v),
-        Value::Nothing => Perhaps::Nothing,
+        Value::None => Perhaps::None,
     }
 }
 
@@ -103,7 +103,7 @@ pub fn missing(m: &[u64; WORDS], id: u64) -> APort
         return APort::Refused(refusal::UNKNOWN);
     };
     let Found::At(j) = memory_values::first_lacking(m, at) else {
-        return APort::Nothing;
+        return APort::None;
     };
     APort::Is(port_at(memory_lists::provision_words(m, at), j))
 }

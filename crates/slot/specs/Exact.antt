@@ -5,7 +5,7 @@ use Prim.Native.Nat.{ℕ}
 use Rattle.rules.specs.Outcomes.{Answer, Refused, Accepted}
 use Rattle.rules.specs.Slot as rules
 use Rattle.slot.specs.declared.Episode.{Episode}
-use Rattle.slot.specs.declared.Episode.the-variants.{Of, Nowhere}
+use Rattle.slot.specs.declared.Episode.the-variants.{Of, None}
 use Rattle.slot.specs.declared.Decision.{Decision}
 use Rattle.slot.specs.declared.Decision.the-variants.{Pending, Assigned, Failed, Cancelled}
 use Rattle.slot.specs.declared.Slot.{Slot}
@@ -17,7 +17,7 @@ use Rattle.slot.specs.Slots.{episodeOf, decisionOf, slotOf, verdictOf, d
 -- The way back from document 01's values.
 abbrev episode : Option ℕ → Episode
 episode (some g) = Of g
-episode none = Nowhere
+episode none = None
 
 abbrev decision : rules.Decision → Decision
 decision rules.Pending = Pending
@@ -34,7 +34,7 @@ verdictIn (Refused n l) = verdict.Refused n
 
 episode-back : (e : Episode) → episode (episodeOf e) ≡ e
 episode-back (Of g) = refl
-episode-back Nowhere = refl
+episode-back None = refl
 
 decision-back : (d : Decision) → decision (decisionOf d) ≡ d
 decision-back Pending = refl

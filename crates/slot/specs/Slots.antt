@@ -8,7 +8,7 @@ use Rattle.rules.specs.Retirement as retirement
 use Rattle.rules.specs.Slot as rules
 use Rattle.slot.specs.declared.Identity.{Identity}
 use Rattle.slot.specs.declared.Episode.{Episode}
-use Rattle.slot.specs.declared.Episode.the-variants.{Of, Nowhere}
+use Rattle.slot.specs.declared.Episode.the-variants.{Of, None}
 use Rattle.slot.specs.declared.Decision.{Decision}
 use Rattle.slot.specs.declared.Decision.the-variants.{Pending, Assigned, Failed, Cancelled}
 use Rattle.slot.specs.declared.Slot.{Slot}
@@ -21,7 +21,7 @@ identityOf c = record { domain = c .domain; parent = c .parent; id = c .id }
 
 abbrev pub episodeOf : Episode → Option ℕ
 episodeOf (Of g) = some g
-episodeOf Nowhere = none
+episodeOf None = none
 
 abbrev pub decisionOf : Decision → rules.Decision
 decisionOf Pending = rules.Pending

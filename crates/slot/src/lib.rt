@@ -17,7 +17,7 @@ pub struct Identity {
 // The generation of a slot's origin, or none.
 pub enum Episode {
     Of(u64),
-    Nowhere,
+    None,
 }
 
 pub enum Decision {
@@ -62,7 +62,7 @@ impl Slot {
         Slot {
             domain: child.domain,
             parent: child.parent,
-            generation: Episode::Nowhere,
+            generation: Episode::None,
             decision: Decision::Assigned(child),
         }
     }

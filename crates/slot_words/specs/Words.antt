@@ -14,7 +14,7 @@ use Rattle.rules.specs.Retirement as retirement
 use Rattle.rules.specs.Slot as rules
 use Rattle.slot.specs.declared.Identity.{Identity}
 use Rattle.slot.specs.declared.Episode.{Episode}
-use Rattle.slot.specs.declared.Episode.the-variants.{Of, Nowhere}
+use Rattle.slot.specs.declared.Episode.the-variants.{Of, None}
 use Rattle.slot.specs.declared.Decision.{Decision}
 use Rattle.slot.specs.declared.Decision.the-variants.{Pending, Assigned, Failed, Cancelled}
 use Rattle.slot.specs.declared.Slot.{Slot}
@@ -24,7 +24,7 @@ use Rattle.memory.specs.Writes.{puts}
 use Rattle.memory.specs.Frames.{puts-same}
 
 abbrev pub episodeIn : ℕ → ℕ → Episode
-episodeIn zero g = Nowhere
+episodeIn zero g = None
 episodeIn (suc n) g = Of g
 
 abbrev pub decisionIn : ℕ → Identity → Decision

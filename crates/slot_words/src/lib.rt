@@ -17,7 +17,7 @@ fn episode_of(has: u64, generation: u64) -> Episode
     ensures { λ r. ⌜ r ≡ episodeIn has generation ⌝ }
 {
     match has {
-        0 => Episode::Nowhere,
+        0 => Episode::None,
         _ => Episode::Of(generation),
     }
 }
@@ -39,7 +39,7 @@ fn has_word(e: Episode) -> u64
 {
     match e {
         Episode::Of(_) => 1,
-        Episode::Nowhere => 0,
+        Episode::None => 0,
     }
 }
 
@@ -48,7 +48,7 @@ fn generation_word(e: Episode) -> u64
 {
     match e {
         Episode::Of(generation) => generation,
-        Episode::Nowhere => 0,
+        Episode::None => 0,
     }
 }
 
