@@ -7,6 +7,7 @@ use lib.Dec.{eqb, ltb}
 use lib.ListN.{getD, take}
 use Rattle.rules.specs.Basics.{pick}
 use Rattle.rules.specs.Slot.{Slot}
+use Rattle.console_words.specs.Bytes.{longest}
 use Rattle.console_words.specs.Words.{nextWord, bytesOf}
 use Rattle.console_answer.specs.Pages.{Page, upTo, putOn}
 use Rattle.console_answer.specs.Answers.{badWord}
@@ -64,5 +65,5 @@ hash = 35
 unfoldable pub lineEnded : Page → List ℕ → List ℕ → Slot → List ℕ → ℕ → After
 lineEnded p m buffer s line filled =
     pick (eqb filled 0 || eqb (getD line 0 0) hash) (record { page = p; memory = m; buffer = buffer; slot = s })
-    (pick (ltb 4096 filled) (ended (record { page = putOn p badWord; memory = m; buffer = buffer; slot = s }))
+    (pick (ltb longest filled) (ended (record { page = putOn p badWord; memory = m; buffer = buffer; slot = s }))
     (answered p m buffer s (take filled line)))

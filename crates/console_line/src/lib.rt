@@ -18,12 +18,10 @@ use console_names::Kind;
 use console_names::Row;
 use console_names::Values;
 use console_slot::Said;
+use console_words::LINE;
 use host_answers::ANSWER;
 use memory::WORDS;
 use slot::Slot;
-
-// The most bytes of a line, its byte 10 not counted.
-pub const LINE: usize = 4096;
 
 fn bad(text: &mut [u8; ROOM]) -> usize
     ensures { λ r. ⌜ upTo (now (text .exit)) r ≡ bad (upTo (now (text .entry)) 0) ⌝ }

@@ -1,3 +1,4 @@
 pub mod Places
 pub mod Alike
 pub mod Gathering
+pub mod Bytes

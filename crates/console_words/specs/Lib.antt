@@ -2,3 +2,4 @@ pub mod Words
 pub mod Runs
 pub mod Sense
 pub mod Fronts
+pub mod Bytes

@@ -5,7 +5,11 @@ ghost use lib.ListN.{length, drop};
 ghost use Rattle.rules.specs.Basics.{sameNumbers};
 ghost use Rattle.console_words.specs.Words.{spaces, wordLength, Spanned};
 ghost use Rattle.console_words.specs.Runs.{Gathered};
+ghost use Rattle.console_words.specs.Bytes.{longerBytes, longerCount};
 use text_decimal::Decimal;
+
+// The most bytes of a line, its byte 10 not counted.
+pub const LINE: usize = 4096;
 
 // A word stands from start up to but without stop.
 pub struct Span {
@@ -17,6 +21,17 @@ pub struct Span {
 pub struct Run {
     pub count: usize,
     pub stop: usize,
+}
+
+// One more byte of a line of which so many came. Of a line that is too long, only that is kept.
+pub fn longer(line: &mut [u8; LINE], filled: usize, byte: u8) -> usize
+    ensures { λ r. ⌜ r ≡ longerCount filled ⌝ ∗ ⌜ now (line .exit) ≡ longerBytes (now (line .entry)) filled byte ⌝ }
+{
+    if filled < LINE {
+        line[filled] = byte;
+        return filled + 1;
+    }
+    LINE + 1
 }
 
 fn past_spaces(line: &[u8], from: usize) -> usize

@@ -11,11 +11,14 @@ use Rattle.console_operations.proofs as console_operations
 use Rattle.console_register.proofs as console_register
 use Rattle.console_line.proofs as console_line
 use Rattle.outcome.specs.One.{One, OneSeen}
-use Rattle.outcome.specs.Equations.{by-equation, by-three, one-outcome}
+use Rattle.outcome.specs.Equations.{by-equation, by-two, by-three, one-outcome}
 use Rattle.outcome.specs.Records.{gathered-one, leaves-one, numbered-one, page-one, spanned-one, three-one, turns-one}
 
 pub console-words-next-word : One console_words.«next_word».ended console_words.«next_word».Reads.Learnt
 console-words-next-word κs a r s ms ns p q = spanned-one p q
+
+pub console-words-longer : One console_words.longer.ended console_words.longer.Reads.Learnt
+console-words-longer κs a r s ms ns p q = by-two p q
 
 pub console-words-is-word : One console_words.«is_word».ended console_words.«is_word».Reads.Learnt
 console-words-is-word κs a r s ms ns p q = by-equation p q

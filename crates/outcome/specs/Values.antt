@@ -1,5 +1,4 @@
 -- Each promise of these crates allows one outcome: values, settling, offers and registration.
-use denote.Ref.{now}
 use Rattle.registry_queries.specs.Answers.{perhaps-exact, port-exact}
 use Rattle.memory_life.specs.Told.{done-exact, whether-exact}
 use Rattle.registry_register.specs.Written.{registered-exact}
@@ -9,9 +8,8 @@ use Rattle.registry_ready_finish.proofs as registry_ready_finish
 use Rattle.registry_values.proofs as registry_values
 use Rattle.registry_offer.proofs as registry_offer
 use Rattle.registry_checks.proofs as registry_checks
-use Rattle.registry_prepare.proofs as registry_prepare
 use Rattle.registry_register.proofs as registry_register
-use Rattle.outcome.specs.One.{One, OneSeen}
+use Rattle.outcome.specs.One.{One}
 use Rattle.outcome.specs.Equations.{by-equation, memory-alone, one-outcome, one-with-memory}
 use Rattle.outcome.specs.Answers.{held-exact}
 
@@ -68,21 +66,6 @@ registry-checks-claim-verdict κs a r s ms ns p q = by-equation p q
 
 pub registry-checks-late-verdict : One registry_checks.«late_verdict».ended registry_checks.«late_verdict».Reads.Learnt
 registry-checks-late-verdict κs a r s ms ns p q = by-equation p q
-
-pub registry-prepare-inherited : OneSeen registry_prepare.inherited.ended (λ κs r. now r) registry_prepare.inherited.Reads.Learnt
-registry-prepare-inherited κs a r s ms ns p q = by-equation p q
-
-pub registry-prepare-first-rows : OneSeen registry_prepare.«first_rows».ended (λ κs r. now r) registry_prepare.«first_rows».Reads.Learnt
-registry-prepare-first-rows κs a r s ms ns p q = by-equation p q
-
-pub registry-prepare-behind-anchor : One registry_prepare.«behind_anchor».ended registry_prepare.«behind_anchor».Reads.Learnt
-registry-prepare-behind-anchor κs a r s ms ns p q = by-equation p q
-
-pub registry-prepare-parent-tag : One registry_prepare.«parent_tag».ended registry_prepare.«parent_tag».Reads.Learnt
-registry-prepare-parent-tag κs a r s ms ns p q = by-equation p q
-
-pub registry-prepare-parent-word : One registry_prepare.«parent_word».ended registry_prepare.«parent_word».Reads.Learnt
-registry-prepare-parent-word κs a r s ms ns p q = by-equation p q
 
 pub registry-register-register : One registry_register.register.ended registry_register.register.Reads.Learnt
 registry-register-register κs a r s ms ns p q = one-with-memory registered-exact p q

@@ -1,12 +1,13 @@
 -- The parts of a registration: the late checks, and the plugin written.
-use Prim.Native.Nat.{ℕ, _+_, _-_, _/_, _%_}
+use Prim.Native.Nat.{ℕ, _+_, _-_, _*_, _/_, _%_, _<_}
 use native.Mathlib.Omega.{arith}
 use native.Mathlib.Nat.{mod-eq-of-lt}
 use mathlib.Core.Path.{_≡_, sym, ap, _∙_}
 use mathlib.Core.Logic.{_≢_}
 use mathlib.Core.List.{List, [], _∷_}
 use mathlib.Core.Option.{Option}
-use lib.ListN.{length}
+use lib.ListN.{length, take}
+use lib.Seq.{take-all}
 use borrow.Author.Tests.{eqb-false}
 use Rattle.rules.specs.Basics.{last}
 use Rattle.rules.specs.Holds.{rowsInUse}
@@ -25,6 +26,10 @@ use Rattle.registry_checks.specs.declared.Checked.the-variants as checked
 use Rattle.registry_checks.specs.Verdicts.{verdict}
 use Rattle.registry_checks.specs.Runs.{passes}
 use Rattle.registry_register.specs.Written.{newEntry, lateVerdict, settledAnswer, settledWords}
+
+-- as many rows as there are
+pub all-rows : (l : List ℕ) (n : ℕ) → length l / 2 < n → take (length l) l ≡ take (n * 2) l
+all-rows l n h = take-all (length l) l (omega arith) ∙ sym (take-all (n * 2) l (omega arith))
 
 -- The late checks refuse, or the plugin is written.
 module _ (m : List ℕ) (parent : Option ℕ) (payload count : ℕ) (ds cs zs : List ℕ) (u : ℕ) (i : u ≡ rowsInUse (view m))

@@ -41,7 +41,7 @@ use Rattle.registry_checks.specs.declared.Early.{Early}
 use Rattle.registry_checks.specs.declared.Early.the-variants as early
 use Rattle.registry_checks.specs.Verdicts.{verdict, under, placeAbove}
 use Rattle.registry_checks.specs.Runs.{under-passed, under-refused, passes, RefusesWith, asks, claims, room, early-refuses, claims-refuse, late-refuses, all-pass}
-use Rattle.registry_prepare.specs.Parts.{dependenciesAt}
+use Rattle.registry_register.specs.Parts.{dependenciesAt}
 use Rattle.registry_register.specs.Written.{registeredAnswer, definition, newEntry, writtenAt, addedTo, lateVerdict, settledAnswer, settledWords}
 use Rattle.registry_register.specs.declared.Registered.{Registered}
 

@@ -30,7 +30,7 @@ use Rattle.memory_entry.specs.Entries.{filledPlace}
 use Rattle.memory_rows.specs.Dense.{used, Dense, used-is, Refines}
 use Rattle.memory_entry.specs.Addition.{Newcomer, newPluginOf, Sized}
 use Rattle.memory_entry.specs.Filled.{entryOf, claimWords, filled-dense, filled-view}
-use Rattle.registry_prepare.specs.Parts.{tagOf, wordOf}
+use Rattle.registry_register.specs.Parts.{tagOf, wordOf}
 use Rattle.registry_register.specs.Written.{addedTo}
 
 -- No registered plugin has the next id.

@@ -23,7 +23,7 @@ use Rattle.memory_entry.specs.declared.Entry.{Entry}
 use Rattle.registry_checks.specs.Verdicts.{verdict}
 use Rattle.registry_checks.specs.declared.Checked.{Checked}
 use Rattle.registry_checks.specs.declared.Checked.the-variants as checked
-use Rattle.registry_prepare.specs.Parts.{tagOf, wordOf}
+use Rattle.registry_register.specs.Parts.{tagOf, wordOf}
 use Rattle.registry_register.specs.declared.Registered.{Registered}
 use Rattle.registry_register.specs.declared.Registered.the-variants as registered
 

@@ -3,11 +3,14 @@ ghost use mathlib.Core.Path.{_≡_};
 ghost use mathlib.Core.Logic.{_≢_};
 ghost use Rattle.rules.specs.Outcomes.{Meets};
 ghost use Rattle.rules.specs.Basics.{last};
+ghost use Prim.Native.Nat.{_*_, _-_};
+ghost use lib.ListN.{take};
 ghost use Rattle.rules.specs.Holds.{rowsInUse};
 ghost use Rattle.rules.specs.Registration.{register};
 ghost use Rattle.memory.specs.Layout.{word, nextWord};
 ghost use Rattle.memory.specs.View.{view};
 ghost use Rattle.memory.specs.Writes.{parentId};
+ghost use Rattle.registry_register.specs.Parts.{dependenciesAt, tagOf, wordOf};
 ghost use Rattle.registry_register.specs.Written.{registeredAnswer, definition, newEntry, Settles, addedTo};
 use memory::Parent;
 use memory::Place;
@@ -22,6 +25,53 @@ use rules::refusal;
 pub enum Registered {
     Id(u64),
     Refused(u64),
+}
+
+// The dependency rows of the parent at this place; none without a parent.
+fn inherited(m: &[u64; WORDS], parent: Place) -> &[u64]
+    ensures { λ r. ⌜ now r ≡ dependenciesAt (now (m .entry)) parent ⌝ }
+{
+    let Place::At(at) = parent else {
+        return memory_lists::some_words(m, 0, 0);
+    };
+    memory_lists::dependency_words(m, at)
+}
+
+// The first rows of a list of ports, as many as there are.
+fn first_rows(ports: &[u64], count: usize) -> &[u64]
+    ensures { λ r. ⌜ now r ≡ take (count * 2) (now (ports .entry)) ⌝ }
+{
+    let n = ports.len();
+    if n / 2 < count {
+        return memory_lists::some_words(ports, 0, n);
+    }
+    memory_lists::some_words(ports, 0, count * 2)
+}
+
+// The provisions among the claims, which the anchor leads.
+fn behind_anchor(claims: usize) -> usize
+    ensures { λ r. ⌜ r ≡ claims - 1 ⌝ }
+{
+    if claims == 0 { 0 } else { claims - 1 }
+}
+
+// A plugin without a parent has tag 0.
+fn parent_tag(parent: Parent) -> u64
+    ensures { λ r. ⌜ r ≡ tagOf (parentId parent) ⌝ }
+{
+    match parent {
+        Parent::Of(_) => 1,
+        Parent::None => 0,
+    }
+}
+
+fn parent_word(parent: Parent) -> u64
+    ensures { λ r. ⌜ r ≡ wordOf (parentId parent) ⌝ }
+{
+    match parent {
+        Parent::Of(id) => id,
+        Parent::None => 0,
+    }
 }
 
 // What is written of the new plugin beside its lists.
@@ -40,8 +90,8 @@ fn entry(
     let id = memory::next_id(m);
     Entry {
         id: id,
-        tag: registry_prepare::parent_tag(parent),
-        parent: registry_prepare::parent_word(parent),
+        tag: parent_tag(parent),
+        parent: parent_word(parent),
         payload: payload,
         start: start as u64,
         dependencies: dependencies as u64,
@@ -78,7 +128,7 @@ fn settle(
         payload,
         rows,
         count,
-        registry_prepare::behind_anchor(claimed),
+        behind_anchor(claimed),
         realms.len() / 2,
     );
     memory_entry::fill_place(m, at, e, dependencies, claims, realms);
@@ -104,7 +154,7 @@ pub fn register(
         Early::Refused(n) => return Registered::Refused(n),
     };
     let claimed = ports_resolved::claims(realms, Port::DEFAULT_REALM, anchor, provisions);
-    let claims = registry_prepare::first_rows(&claimed.ports, claimed.count);
+    let claims = first_rows(&claimed.ports, claimed.count);
     if let Checked::Refused(n) = registry_checks::claim_verdict(m, claims) {
         return Registered::Refused(n);
     }
@@ -114,14 +164,14 @@ pub fn register(
         Port::DEFAULT_REALM,
         provided,
         dependencies,
-        registry_prepare::inherited(m, above),
+        inherited(m, above),
     );
     settle(
         m,
         parent,
         payload,
         list.count,
-        registry_prepare::first_rows(&list.ports, list.count),
+        first_rows(&list.ports, list.count),
         claims,
         realms,
     )

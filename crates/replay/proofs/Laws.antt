@@ -3,26 +3,13 @@ use Prim.Native.Nat.{ℕ, _+_, _≤_, _<_}
 use mathlib.Core.Path.{_≡_}
 use mathlib.Core.List.{List}
 use native.Mathlib.Numerals.{add-one}
-use lib.ListN.{length, getD, set, drop, drop-of-length-le}
+use lib.ListN.{length, getD, drop, drop-of-length-le}
 use lib.Seq.{drop-cons}
-use borrow.Author.Tests.{eq-eqb, ne-eqb, lt-ltb, le-ltb}
+use borrow.Author.Tests.{eq-eqb, ne-eqb}
 use Rattle.rules.specs.Slot.{Slot}
+use Rattle.console_words.specs.Bytes.{longerBytes, longerCount}
 use Rattle.console_line.specs.Console.{After}
-use Rattle.replay.specs.Fed.{Kept, kept, left, endLine, longerBytes, longerCount, byteFed, fed}
-
-module _ (filled : ℕ) where
-  pub one-more : filled < 4096 → filled + 1 ≡ longerCount filled
-  one-more h = rw (lt-ltb filled 4096 h)
-
-  pub too-many : 4096 ≤ filled → 4097 ≡ longerCount filled
-  too-many h = rw (le-ltb filled 4096 h)
-
-module _ (line : List ℕ) (filled byte : ℕ) where
-  pub line-with : filled < 4096 → set line filled byte ≡ longerBytes line filled byte
-  line-with h = rw (lt-ltb filled 4096 h)
-
-  pub line-stays : 4096 ≤ filled → line ≡ longerBytes line filled byte
-  line-stays h = rw (le-ltb filled 4096 h)
+use Rattle.replay.specs.Fed.{Kept, kept, left, endLine, byteFed, fed}
 
 pub kept-left : (a : After) (line m buffer : List ℕ) (s : Slot) → m ≡ a .memory → buffer ≡ a .buffer → s ≡ a .slot → kept m buffer s line 0 ≡ left line a
 kept-left a line m buffer s e d f = rw (e, d, f)

@@ -1,10 +1,11 @@
 -- The input, byte by byte: what the console keeps of it.
-use Prim.Native.Nat.{ℕ, _+_}
+use Prim.Native.Nat.{ℕ}
 use mathlib.Core.List.{List, [], _∷_}
-use lib.Dec.{eqb, ltb}
-use lib.ListN.{set, replicate}
+use lib.Dec.{eqb}
+use lib.ListN.{replicate}
 use Rattle.rules.specs.Basics.{pick}
 use Rattle.rules.specs.Slot.{Slot}
+use Rattle.console_words.specs.Bytes.{longerBytes, longerCount}
 use Rattle.console_answer.specs.Pages.{upTo}
 use Rattle.console_line.specs.Console.{After, lineEnded}
 
@@ -26,13 +27,7 @@ left line a = kept (a .memory) (a .buffer) (a .slot) line 0
 abbrev pub endLine : Kept → Kept
 endLine k = left (k .line) (lineEnded (upTo (replicate 2103 0) 0) (k .memory) (k .buffer) (k .slot) (k .line) (k .filled))
 
--- One more byte. Of a line that is too long, only that is kept.
-abbrev pub longerBytes : List ℕ → ℕ → ℕ → List ℕ
-longerBytes line filled byte = pick (ltb filled 4096) (set line filled byte) line
-
-abbrev pub longerCount : ℕ → ℕ
-longerCount filled = pick (ltb filled 4096) (filled + 1) 4097
-
+-- One more byte of the line.
 abbrev pub longerLine : Kept → ℕ → Kept
 longerLine k byte = kept (k .memory) (k .buffer) (k .slot) (longerBytes (k .line) (k .filled) byte) (longerCount (k .filled))
 

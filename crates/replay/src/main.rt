@@ -1,10 +1,10 @@
 // The console: operations from standard input, one a line, are carried out on one registry, and each is answered by a line.
 ghost use mathlib.Core.Path.{_≡_};
 ghost use Rattle.slot.specs.Slots.{slotOf};
-ghost use Rattle.replay.specs.Fed.{kept, endLine, longerBytes, longerCount, byteFed, fed};
+ghost use Rattle.replay.specs.Fed.{kept, endLine, byteFed, fed};
 use console_answer::ROOM;
-use console_line::LINE;
 use console_names::BUFFER_ROOM;
+use console_words::LINE;
 use memory::WORDS;
 use slot::Slot;
 
@@ -38,17 +38,6 @@ fn written(
     left
 }
 
-// One more byte of a line. Of a line that is too long, only that is kept.
-fn longer(line: &mut [u8; LINE], filled: usize, byte: u8) -> usize
-    ensures { λ r. ⌜ r ≡ longerCount filled ⌝ ∗ ⌜ now (line .exit) ≡ longerBytes (now (line .entry)) filled byte ⌝ }
-{
-    if filled < LINE {
-        line[filled] = byte;
-        return filled + 1;
-    }
-    LINE + 1
-}
-
 // One byte of the input: it ends the line, or makes it longer.
 fn next_byte(
     m: &mut [u64; WORDS],
@@ -67,7 +56,7 @@ fn next_byte(
     }
     let slot = state.slot;
     State {
-        filled: longer(line, state.filled, byte),
+        filled: console_words::longer(line, state.filled, byte),
         slot,
     }
 }

@@ -1,8 +1,8 @@
 -- `longer` meets its contract: a line with room gets the byte, and any other stays and counts as too long.
-use Rattle.replay.proofs.Laws.{one-more, line-with, too-many, line-stays}
+use Rattle.console_words.proofs.Bytes.{one-more, line-with, too-many, line-stays}
 use borrow.Author.Needs.{needs}
-use Rattle.replay.proofs.longer.Statement.{statement}
-use Rattle.replay.proofs.longer.Tie as tie
+use Rattle.console_words.proofs.longer.Statement.{statement}
+use Rattle.console_words.proofs.longer.Tie as tie
 
 element-write-line : tie.Need-element-write-line
 element-write-line c = search needs

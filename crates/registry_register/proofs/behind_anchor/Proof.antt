@@ -1,7 +1,7 @@
 -- `behind_anchor` meets its contract.
 use borrow.Author.Needs.{needs}
-use Rattle.registry_prepare.proofs.behind_anchor.Statement.{statement}
-use Rattle.registry_prepare.proofs.behind_anchor.Tie as tie
+use Rattle.registry_register.proofs.behind_anchor.Statement.{statement}
+use Rattle.registry_register.proofs.behind_anchor.Tie as tie
 
 sub-result : tie.Need-sub-result
 sub-result c = search needs

@@ -1,9 +1,9 @@
 -- `first_rows` meets its contract: where there are fewer rows, all of them are the first ones, and else the part is the list's front.
 use mathlib.Core.Path.{_∙_}
-use Rattle.registry_prepare.proofs.Laws.{all-rows}
+use Rattle.registry_register.proofs.Laws.{all-rows}
 use borrow.Author.Needs.{needs}
-use Rattle.registry_prepare.proofs.first_rows.Statement.{statement}
-use Rattle.registry_prepare.proofs.first_rows.Tie as tie
+use Rattle.registry_register.proofs.first_rows.Statement.{statement}
+use Rattle.registry_register.proofs.first_rows.Tie as tie
 
 some-words-requires : tie.Need-some-words-requires
 some-words-requires c κs = search needs

@@ -1,9 +1,9 @@
 -- `inherited` meets its contract: the rows at the parent's place, or none.
 use mathlib.Core.Path.{sym, ap, _∙_}
 use borrow.Author.Needs.{needs}
-use Rattle.registry_prepare.specs.Parts.{dependenciesAt}
-use Rattle.registry_prepare.proofs.inherited.Statement.{statement}
-use Rattle.registry_prepare.proofs.inherited.Tie as tie
+use Rattle.registry_register.specs.Parts.{dependenciesAt}
+use Rattle.registry_register.proofs.inherited.Statement.{statement}
+use Rattle.registry_register.proofs.inherited.Tie as tie
 
 enum-known-parent : tie.Need-enum-known-parent
 enum-known-parent c = search needs

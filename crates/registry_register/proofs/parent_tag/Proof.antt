@@ -1,7 +1,7 @@
 -- `parent_tag` meets its contract.
 use borrow.Author.Needs.{needs}
-use Rattle.registry_prepare.proofs.parent_tag.Statement.{statement}
-use Rattle.registry_prepare.proofs.parent_tag.Tie as tie
+use Rattle.registry_register.proofs.parent_tag.Statement.{statement}
+use Rattle.registry_register.proofs.parent_tag.Tie as tie
 
 enum-told : tie.Need-enum-told
 enum-told c = search needs
