@@ -21,7 +21,9 @@ use Rattle.rules.specs.Retirement.{Identity, retireFound, retire, retireChild, 
 use Rattle.rules.specs.Values.{valueIn, given, served, seen, firstMissing, offer, read, visible, own, missing, matching, declares}
 use Rattle.rules.specs.Lists.{listing, list}
 use Rattle.rules.specs.Queries.{Field, fieldOf, askPlugin, lowestFrom, idFrom}
-use Rattle.rules.specs.Steps.{Op, answerTo, ResolveKey, DependencyPort, Register, Begin, Ready, Fail, Unload, Finish, Replace, Fits, Admit, Admits, Call, Retire, RetireChild, ChildIdentity, Remove, Offer, Read, Visible, Own, FirstMissing, Matching, Declares, Listed, AskPlugin, AskRegistry, IdFrom}
+use Rattle.rules.specs.Steps.{Op, answerTo, ResolveKey, DependencyPort, Register, Begin, Ready, Fail, Unload, Finish, Replace, Fits, Admit, Admits}
+use Rattle.rules.specs.Steps.{Call, Retire, RetireChild, ChildIdentity, Remove, Offer, Read, Visible, Own, FirstMissing, Matching, Declares}
+use Rattle.rules.specs.Steps.{Listed, AskPlugin, AskRegistry, IdFrom}
 use Rattle.rules.specs.Laws.Tests.{checked-elim, found-elim}
 use Rattle.console_show.specs.Shown.{valuesOf}
 use Rattle.console_show.specs.Told.{one-fits, field-fits}

@@ -8,7 +8,8 @@ use lib.Dec.{eqb, leb}
 use lib.ListN.{getD, drop}
 use Rattle.rules.specs.Holds.{port}
 use Rattle.rules.specs.Queries.{RowsInUse, Registered, NextId}
-use Rattle.rules.specs.Steps.{Op, ResolveKey, DependencyPort, Begin, Ready, Fail, Unload, Finish, Replace, Fits, Admit, Call, Retire, RetireChild, ChildIdentity, Remove, Offer, Read, Visible, FirstMissing, Matching, Declares, AskRegistry}
+use Rattle.rules.specs.Steps.{Op, ResolveKey, DependencyPort, Begin, Ready, Fail, Unload, Finish, Replace, Fits, Admit, Call, Retire, RetireChild}
+use Rattle.rules.specs.Steps.{ChildIdentity, Remove, Offer, Read, Visible, FirstMissing, Matching, Declares, AskRegistry}
 use Rattle.text_decimal.specs.Text.{bytes}
 use Rattle.console_names.specs.declared.Count.{Count}
 use Rattle.console_names.specs.declared.Count.the-variants.{Exactly, AtLeast}

@@ -1,19 +1,15 @@
 -- What callers read off the answer: the dependency list, and whether it fits.
-use Prim.Native.Nat.{ℕ, _*_, _≤_, _<_}
+use Prim.Native.Nat.{ℕ, _≤_, _<_}
 use native.Mathlib.Omega.{arith}
-use mathlib.Core.Path.{_≡_, refl, ap}
+use mathlib.Core.Path.{_≡_, refl}
 use mathlib.Core.List.{List, []}
-use lib.Dec.{ltb, leb}
 use lib.ListN.{length, take}
 use lib.Seq.{take-all}
-use borrow.Author.Tests.{le-leb, lt-leb, lt-ltb, leb-true, leb-false}
+use borrow.Author.Tests.{le-leb, lt-leb}
 use Rattle.rules.specs.declared.Port.{Port}
 use Rattle.rules.specs.Holds.{Realms}
-use Rattle.rules.specs.Ports.{pairs}
 use Rattle.rules.specs.Dependencies.{dependencyList}
-use Rattle.rules.specs.Laws.Tests.{by-test}
-use Rattle.ports_resolved.specs.Filled.{filled}
-use Rattle.ports_resolved.specs.Filled.{Lists, listed}
+use Rattle.ports_resolved.specs.Filled.{filled, Lists}
 use Rattle.ports_inherited.specs.declared.Dependencies.{Dependencies}
 use Rattle.ports_inherited.specs.Blocks.{fitted}
 
@@ -33,17 +29,6 @@ fitted-longer l h e f = rw (lt-leb (length l) 48 h) (λ k. record { count = e k;
 pub fitted-law : (l : List Port) → length l ≤ 48 → Lists 96 (fitted l .count) (fitted l .ports) l
 fitted-law l h = rw (le-leb (length l) 48 h) record { counted = refl; numbers = refl }
 
-pub fitted-listed : (l : List Port) → length l ≤ 48 → pairs (take (fitted l .count * 2) (fitted l .ports)) ≡ l
-fitted-listed l h = listed (fitted-law l h)
-
 -- a count over 48 says that the list is longer, and nothing else does
 pub fitted-long : (l : List Port) → 48 < length l → fitted l .count ≡ 49
 fitted-long l h = rw (lt-leb (length l) 48 h)
-
-pub fitted-count : (l : List Port) → fitted l .count ≤ 48 → length l ≤ 48
-fitted-count l h = by-test (leb (length l) 48) (λ t. leb-true (length l) 48 t) (λ n. absurd (omega (arith, fitted-long l (leb-false (length l) 48 n))))
-
-pub too-long : (l : List Port) → ltb 48 (fitted l .count) ≡ ltb 48 (length l)
-too-long l = by-test (leb (length l) 48)
-    (λ t. ap (λ (n : ℕ). ltb 48 n) (fitted-law l (leb-true (length l) 48 t) .counted))
-    (λ n. rw (fitted-long l (leb-false (length l) 48 n), lt-ltb 48 (length l) (leb-false (length l) 48 n)))
