@@ -7,6 +7,7 @@ use Rattle.console_definition.specs.declared.Head.{Head}
 use Rattle.console_definition.specs.Draft.{underIn, headIn, listsIn, drafted, draftIn}
 
 -- The line from a place on, read part by part: the parent, behind it the head, and behind that the lists.
-pub parts : (line : List ℕ) (from : ℕ) (u : Under) (h : Head) → u ≡ underIn line from → h ≡ headIn line (u .stop) → draftIn line from ≡ drafted (u .parent) h (listsIn line (h .stop))
+pub parts : (line : List ℕ) (from : ℕ) (u : Under) (h : Head) → u ≡ underIn line from → h ≡ headIn line (u .stop)
+    → draftIn line from ≡ drafted (u .parent) h (listsIn line (h .stop))
 unfolding draftIn
 parts line from u h eu eh = rw (eh, eu)

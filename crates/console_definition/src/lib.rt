@@ -165,7 +165,8 @@ pub fn three_lists(
     deps: &mut [u64; 2048],
     provs: &mut [u64; 2048],
 ) -> Lists
-    ensures { λ r. ⌜ Three (listsIn (now (bytes .entry)) from) (now (realms .entry)) (now (realms .exit)) (now (deps .entry)) (now (deps .exit)) (now (provs .entry)) (now (provs .exit)) r ⌝ }
+    ensures { λ r. ⌜ Three (listsIn (now (bytes .entry)) from)
+        (now (realms .entry)) (now (realms .exit)) (now (deps .entry)) (now (deps .exit)) (now (provs .entry)) (now (provs .exit)) r ⌝ }
 {
     let first = list_behind(bytes, from, b"realms", realms);
     let second = list_behind(bytes, first.stop, b"deps", deps);

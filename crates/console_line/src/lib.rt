@@ -36,7 +36,8 @@ fn list_line(
     l: &[u64],
     text: &mut [u8; ROOM],
 ) -> usize
-    ensures { λ r. ⌜ Does (listed (upTo (now (text .entry)) 0) (now (m .entry)) (now (buffer .entry)) held (now (l .entry))) (now (text .exit)) r (now (m .entry)) (now (buffer .exit)) ⌝ }
+    ensures { λ r. ⌜ Does (listed (upTo (now (text .entry)) 0) (now (m .entry)) (now (buffer .entry)) held (now (l .entry)))
+        (now (text .exit)) r (now (m .entry)) (now (buffer .exit)) ⌝ }
 {
     let id = console_names::nth(l, 0);
     let from = console_names::nth(l, 1);
@@ -52,7 +53,9 @@ fn asked_line(
     l: &[u64],
     text: &mut [u8; ROOM],
 ) -> usize
-    ensures { λ r. ⌜ upTo (now (text .exit)) r ≡ askedLine (upTo (now (text .entry)) 0) (now (m .entry)) values (askedAt place (now (l .entry))) ⌝ ∗ ⌜ now (m .exit) ≡ leftBy (now (m .entry)) (askedAt place (now (l .entry))) ⌝ }
+    ensures said { λ r. ⌜ upTo (now (text .exit)) r
+        ≡ askedLine (upTo (now (text .entry)) 0) (now (m .entry)) values (askedAt place (now (l .entry))) ⌝ }
+    ensures left { λ r. ⌜ now (m .exit) ≡ leftBy (now (m .entry)) (askedAt place (now (l .entry))) ⌝ }
 {
     let mut out = [0u64; ANSWER];
     let status = console_operations::carried_out(m, place, l, &mut out);
@@ -68,7 +71,8 @@ fn numbers_line(
     l: &[u64],
     text: &mut [u8; ROOM],
 ) -> usize
-    ensures { λ r. ⌜ Does (numbersLine (upTo (now (text .entry)) 0) (now (m .entry)) (now (buffer .entry)) place kind (now (l .entry))) (now (text .exit)) r (now (m .exit)) (now (buffer .exit)) ⌝ }
+    ensures { λ r. ⌜ Does (numbersLine (upTo (now (text .entry)) 0) (now (m .entry)) (now (buffer .entry)) place kind (now (l .entry)))
+        (now (text .exit)) r (now (m .exit)) (now (buffer .exit)) ⌝ }
 {
     let a = console_names::nth(l, 0);
     let b = console_names::nth(l, 1);
@@ -91,7 +95,9 @@ fn behind_line(
     from: usize,
     text: &mut [u8; ROOM],
 ) -> usize
-    ensures { λ r. ⌜ Does (orBad (upTo (now (text .entry)) 0) (now (m .entry)) (now (buffer .entry)) place count kind (numbersBehind (now (bytes .entry)) from)) (now (text .exit)) r (now (m .exit)) (now (buffer .exit)) ⌝ }
+    ensures { λ r. ⌜ Does
+        (orBad (upTo (now (text .entry)) 0) (now (m .entry)) (now (buffer .entry)) place count kind (numbersBehind (now (bytes .entry)) from))
+        (now (text .exit)) r (now (m .exit)) (now (buffer .exit)) ⌝ }
 {
     let mut n = [0u64; 2048];
     let behind = console_names::numbers(bytes, from, &mut n);
@@ -105,7 +111,9 @@ fn behind_line(
 }
 
 fn register_line(m: &mut [u64; WORDS], bytes: &[u8], from: usize, text: &mut [u8; ROOM]) -> usize
-    ensures { λ r. ⌜ upTo (now (text .exit)) r ≡ askedLine (upTo (now (text .entry)) 0) (now (m .entry)) Numbers (enrolment (draftIn (now (bytes .entry)) from)) ⌝ ∗ ⌜ now (m .exit) ≡ leftBy (now (m .entry)) (enrolment (draftIn (now (bytes .entry)) from)) ⌝ }
+    ensures said { λ r. ⌜ upTo (now (text .exit)) r
+        ≡ askedLine (upTo (now (text .entry)) 0) (now (m .entry)) Numbers (enrolment (draftIn (now (bytes .entry)) from)) ⌝ }
+    ensures left { λ r. ⌜ now (m .exit) ≡ leftBy (now (m .entry)) (enrolment (draftIn (now (bytes .entry)) from)) ⌝ }
 {
     let mut out = [0u64; ANSWER];
     let status = console_register::enrolled(m, bytes, from, &mut out);
@@ -122,7 +130,9 @@ fn operate(
     from: usize,
     text: &mut [u8; ROOM],
 ) -> Said
-    ensures { λ r. ⌜ Leaves (operate (upTo (now (text .entry)) 0) (now (m .entry)) (now (buffer .entry)) (slotOf slot) (now (bytes .entry)) place from) (now (text .exit)) (r .stop) (now (m .exit)) (now (buffer .exit)) (slotOf (r .slot)) ⌝ }
+    ensures { λ r. ⌜ Leaves
+        (operate (upTo (now (text .entry)) 0) (now (m .entry)) (now (buffer .entry)) (slotOf slot) (now (bytes .entry)) place from)
+        (now (text .exit)) (r .stop) (now (m .exit)) (now (buffer .exit)) (slotOf (r .slot)) ⌝ }
 {
     let row = console_names::row_at(place);
     match row {
@@ -150,7 +160,9 @@ pub fn answered(
     bytes: &[u8],
     text: &mut [u8; ROOM],
 ) -> Said
-    ensures { λ r. ⌜ Leaves (answered (upTo (now (text .entry)) 0) (now (m .entry)) (now (buffer .entry)) (slotOf slot) (now (bytes .entry))) (now (text .exit)) (r .stop) (now (m .exit)) (now (buffer .exit)) (slotOf (r .slot)) ⌝ }
+    ensures { λ r. ⌜ Leaves
+        (answered (upTo (now (text .entry)) 0) (now (m .entry)) (now (buffer .entry)) (slotOf slot) (now (bytes .entry)))
+        (now (text .exit)) (r .stop) (now (m .exit)) (now (buffer .exit)) (slotOf (r .slot)) ⌝ }
 {
     let word = console_words::next_word(bytes, 0);
     let start = word.start;
@@ -174,7 +186,9 @@ pub fn ended(
     filled: usize,
     text: &mut [u8; ROOM],
 ) -> Said
-    ensures { λ r. ⌜ Leaves (lineEnded (upTo (now (text .entry)) 0) (now (m .entry)) (now (buffer .entry)) (slotOf slot) (now (line .entry)) filled) (now (text .exit)) (r .stop) (now (m .exit)) (now (buffer .exit)) (slotOf (r .slot)) ⌝ }
+    ensures { λ r. ⌜ Leaves
+        (lineEnded (upTo (now (text .entry)) 0) (now (m .entry)) (now (buffer .entry)) (slotOf slot) (now (line .entry)) filled)
+        (now (text .exit)) (r .stop) (now (m .exit)) (now (buffer .exit)) (slotOf (r .slot)) ⌝ }
 {
     if filled == 0 {
         return Said { stop: 0, slot };

@@ -5,7 +5,7 @@ use mathlib.Core.List.{List, [], _∷_}
 use mathlib.Core.Option.{Option, none, some}
 use lib.ListN.{getD}
 use Rattle.rules.specs.Registration.{Definition}
-use Rattle.rules.specs.Steps.{Op, Write}
+use Rattle.rules.specs.Steps.{Write}
 use Rattle.rules.specs.Questions.{Listed}
 use Rattle.host.specs.Tells.{answer}
 use Rattle.console_answer.specs.Pages.{Page, putOn, numbersOn}
@@ -23,7 +23,8 @@ use Rattle.console_show.specs.Spoken.{lineOn, spokenOn}
 use Rattle.console_operations.specs.Asked.{whichOf}
 use Rattle.console_register.specs.Enrolled.{enrolment}
 use Rattle.console_line.specs.Lines.{bad, listed, askedLine, numbersLine, registerLine}
-use Rattle.console_meaning.specs.Values.{Silent, ready-silent, fail-silent, unload-silent, finish-silent, retire-silent, retire-child-silent, remove-silent, offer-silent}
+use Rattle.console_meaning.specs.Values.{Silent, ready-silent, fail-silent, unload-silent, finish-silent}
+use Rattle.console_meaning.specs.Values.{retire-silent, retire-child-silent, remove-silent, offer-silent}
 use Rattle.console_meaning.specs.Told.{said, silent}
 
 -- What the line of a thing asked for says: that it is bad, that a registry is opened, or the rules' answer.
@@ -91,23 +92,32 @@ plain-in l (o ∷ os) h (suc place) = plain-in l os (shown-plain (valuesBy (o .r
 pub plain-asked : (place : ℕ) (l : List ℕ) → Plain (valuesBy (rowAt place)) (askedAt place l)
 unfolding operationAt
 plain-asked place l =
-    plain-in l operations (refl, (ready-silent _, (fail-silent _, (unload-silent _, (finish-silent _, (retire-silent _, (retire-child-silent _, (remove-silent _, (offer-silent _ _ _, tt))))))))) place
+    plain-in l operations (
+      refl,
+      (
+        ready-silent _,
+        (
+          fail-silent _,
+          (
+            unload-silent _,
+            (
+              finish-silent _,
+              (retire-silent _, (retire-child-silent _, (remove-silent _, (offer-silent _ _ _, tt)))),
+            ),
+          ),
+        ),
+      ),
+    ) place
 
 -- .. and a registration.
 pub plain-enrolment : (v : Values) (d : Option Definition) → Plain v (enrolment d)
 plain-enrolment v none = tt
 plain-enrolment v (some d) = tt
 
--- What a line of numbers only states answers no number.
-pub stated-silent : (place : ℕ) (l : List ℕ) (o : Op) → askedAt place l ≡ Stated o → Silent o
-stated-silent place l o e = subst (Plain (valuesBy (rowAt place))) e (plain-asked place l)
-
 module _ (p : Page) (m : List ℕ) where
   -- A line of numbers says the rules' answer, with the row's values;
-  pub asked-said : (place : ℕ) (l : List ℕ) → askedLine p m (valuesBy (rowAt place)) (askedAt place l) ≡ saidOf p m (valuesBy (rowAt place)) (askedAt place l)
-  asked-said place l = plainly p m (valuesBy (rowAt place)) (askedAt place l) (plain-asked place l)
-
-  pub numbers-said : (buffer : List ℕ) (place : ℕ) (count : Count) (v : Values) (l : List ℕ) → rowAt place ≡ Takes count (Registry v) → numbersLine p m buffer place (Registry v) l .page ≡ saidOf p m v (askedAt place l)
+  pub numbers-said : (buffer : List ℕ) (place : ℕ) (count : Count) (v : Values) (l : List ℕ) → rowAt place ≡ Takes count (Registry v)
+      → numbersLine p m buffer place (Registry v) l .page ≡ saidOf p m v (askedAt place l)
   numbers-said buffer place count v l e = plainly p m v (askedAt place l) (subst (λ (r : Row). Plain (valuesBy r) (askedAt place l)) e (plain-asked place l))
 
   -- so does a registration's line,
@@ -115,5 +125,6 @@ module _ (p : Page) (m : List ℕ) where
   register-said buffer line from = plainly p m Numbers (enrolment (draftIn line from)) (plain-enrolment Numbers (draftIn line from))
 
   -- and the line of a listing.
-  pub listed-said : (buffer : List ℕ) (held : Held) (l : List ℕ) → listed p m buffer held l .page ≡ lineOn p Numbers (answer m (Write (Listed (whichOf held) (first l) (second l)) buffer))
+  pub listed-said : (buffer : List ℕ) (held : Held) (l : List ℕ)
+      → listed p m buffer held l .page ≡ lineOn p Numbers (answer m (Write (Listed (whichOf held) (first l) (second l)) buffer))
   listed-said buffer held l = said p m Numbers (Write (Listed (whichOf held) (first l) (second l)) buffer)

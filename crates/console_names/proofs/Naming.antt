@@ -23,9 +23,6 @@ unfolding placeAmong wordsAfter
 past-names w names at h = rw (drop-of-length-le names h)
 
 module _ (w names : List ℕ) (at : ℕ) (s : Span) (e : s ≡ nextWord names at) where
-  rest : List (List ℕ)
-  rest = words (drop (s .stop) names)
-
   pub no-name : s .stop ≡ s .start → placeAmong w (words (drop at names)) ≡ 0
   unfolding placeAmong
   no-name h =

@@ -45,7 +45,8 @@ module _ {A : Type 0} (z : A) where
   unpicked false x y h e = e
 
   module _ (names : List String) (f g : Operation → A) where
-    same-in : (os : List Operation) (i k : ℕ) → but z names f i os ≡ but z names g i os → among names (i + k) ≡ false → f (getD os k unknown) ≡ g (getD os k unknown)
+    same-in : (os : List Operation) (i k : ℕ) → but z names f i os ≡ but z names g i os → among names (i + k) ≡ false
+        → f (getD os k unknown) ≡ g (getD os k unknown)
     unfolding front behind
     same-in [] i k e h = ap front e
     same-in (o ∷ os) i zero e h =
@@ -56,7 +57,8 @@ module _ {A : Type 0} (z : A) where
         same-in os (suc i) k (ap behind e) (sym (ap (among names) n) ∙ h)
 
     -- Two that come to the same for all other names are the same at a place that is none of these.
-    pub the-others : but z names f 0 operations ≡ but z names g 0 operations → (place : ℕ) → Other (Unit {0}) names place → f (operationAt place) ≡ g (operationAt place)
+    pub the-others : but z names f 0 operations ≡ but z names g 0 operations → (place : ℕ) → Other (Unit {0}) names place
+        → f (operationAt place) ≡ g (operationAt place)
     unfolding operationAt
     the-others e place h =
         let n : 0 + place ≡ place = omega arith in

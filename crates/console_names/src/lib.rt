@@ -216,7 +216,8 @@ pub fn operation(name: &[u8]) -> usize
 {
     which(
         name,
-        b"open register begin ready fail unload finish replace fits admit call retire retire_child remove child offer read visible missing matches declares lookup resolve deps provs realms buffer rows count next show slot",
+        b"open register begin ready fail unload finish replace fits admit call retire retire_child remove child offer read visible \
+          missing matches declares lookup resolve deps provs realms buffer rows count next show slot",
     )
 }
 

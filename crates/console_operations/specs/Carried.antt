@@ -46,4 +46,5 @@ same m out status out′ m′ a b e t = rw e t
 
 -- A listing, and the buffer.
 abbrev pub Lists : List ℕ → Which → ℕ → ℕ → List ℕ → List ℕ → ℕ → List ℕ → List ℕ → Type 0
-Lists m w id from buffer out status out′ buffer′ = Tells (answer m (Write (Listed w id from) buffer)) out status out′ × (buffer′ ≡ lentAfterStep (view m) (Write (Listed w id from) buffer))
+Lists m w id from buffer out status out′ buffer′ =
+    Tells (answer m (Write (Listed w id from) buffer)) out status out′ × (buffer′ ≡ lentAfterStep (view m) (Write (Listed w id from) buffer))

@@ -20,7 +20,9 @@ fn register(
     provs: &[u64],
     out: &mut [u64; ANSWER],
 ) -> u64
-    ensures { λ r. ⌜ Carried (now (m .entry)) (underParent under (port key realm) (now (realms .entry)) (now (deps .entry)) (now (provs .entry)) payload) (now (out .entry)) r (now (out .exit)) (now (m .exit)) ⌝ }
+    ensures { λ r. ⌜ Carried (now (m .entry))
+        (underParent under (port key realm) (now (realms .entry)) (now (deps .entry)) (now (provs .entry)) payload)
+        (now (out .entry)) r (now (out .exit)) (now (m .exit)) ⌝ }
 {
     match under {
         Parent::Of(id) => host::vaskelbi_register_child(
@@ -47,7 +49,8 @@ fn with_lists(
     bytes: &[u8],
     out: &mut [u64; ANSWER],
 ) -> u64
-    ensures { λ r. ⌜ Carried (now (m .entry)) (enrolment (drafted under head (listsIn (now (bytes .entry)) (head .stop)))) (now (out .entry)) r (now (out .exit)) (now (m .exit)) ⌝ }
+    ensures { λ r. ⌜ Carried (now (m .entry)) (enrolment (drafted under head (listsIn (now (bytes .entry)) (head .stop))))
+        (now (out .entry)) r (now (out .exit)) (now (m .exit)) ⌝ }
 {
     if !head.found {
         return BAD;

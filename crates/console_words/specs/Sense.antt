@@ -45,7 +45,8 @@ unfolding wordsAfter wordLength
 past-word w [] = rw append-nil
 past-word w (b ∷ s) = go (eqb b space) refl (past-word (w ++ b ∷ []) s)
   where
-    go : (t : Bool) → eqb b space ≡ t → wordsAfter (w ++ b ∷ []) s ≡ closed ((w ++ b ∷ []) ++ take (wordLength s) s) (words (drop (wordLength s) s)) → wordsAfter w (b ∷ s) ≡ closed (w ++ take (wordLength (b ∷ s)) (b ∷ s)) (words (drop (wordLength (b ∷ s)) (b ∷ s)))
+    go : (t : Bool) → eqb b space ≡ t → wordsAfter (w ++ b ∷ []) s ≡ closed ((w ++ b ∷ []) ++ take (wordLength s) s) (words (drop (wordLength s) s))
+        → wordsAfter w (b ∷ s) ≡ closed (w ++ take (wordLength (b ∷ s)) (b ∷ s)) (words (drop (wordLength (b ∷ s)) (b ∷ s)))
     go true h e = rw (h, append-nil) (rw h)
     go false h e = rw (h, add-one) (e ∙ rw append-assoc)
 
@@ -83,7 +84,11 @@ module _ (line : List ℕ) (from : ℕ) where
       (λ (h : from ≤ length line).
       let start = from + spaces (drop from line) in
       let k : start + wordLength (drop start line) - start ≡ wordLength (drop start line) = omega arith in
-      rw (le-ltb (length line) from h, k) (past-spaces (drop from line) ∙ ap words (drop-drop (spaces (drop from line)) from line) ∙ past-word [] (drop start line) ∙ ap (λ (t : List ℕ). closed (take (wordLength (drop start line)) (drop start line)) (words t)) (drop-drop (wordLength (drop start line)) start line)))
+      rw (le-ltb (length line) from h, k)
+      (past-spaces (drop from line)
+      ∙ ap words (drop-drop (spaces (drop from line)) from line)
+      ∙ past-word [] (drop start line)
+      ∙ ap (λ (t : List ℕ). closed (take (wordLength (drop start line)) (drop start line)) (words t)) (drop-drop (wordLength (drop start line)) start line)))
       (λ (h : length line < from).
       let k : length line - length line ≡ 0 = omega arith in
       let a : drop (length line) line ≡ [] = drop-of-length-le line (le-refl (length line)) in
@@ -130,10 +135,12 @@ run-of-words (suc k) line from = go (bytesOf line (nextWord line from)) refl (ru
     behind : ℕ
     behind = nextWord line from .stop
 
-    one : (n : Option ℕ) → runFrom k line behind .found ≡ take k (leading (words (drop behind line))) → orStop n (nextWord line from .start) (runFrom k line behind) .found ≡ take (suc k) (orNothing n (leading (words (drop behind line))))
+    one : (n : Option ℕ) → runFrom k line behind .found ≡ take k (leading (words (drop behind line)))
+        → orStop n (nextWord line from .start) (runFrom k line behind) .found ≡ take (suc k) (orNothing n (leading (words (drop behind line))))
     one none e = refl
     one (some n) e = ap (λ (l : List ℕ). n ∷ l) e
 
-    go : (w : List ℕ) → bytesOf line (nextWord line from) ≡ w → runFrom k line behind .found ≡ take k (leading (words (drop behind line))) → runFrom (suc k) line from .found ≡ take (suc k) (leading (words (drop from line)))
+    go : (w : List ℕ) → bytesOf line (nextWord line from) ≡ w → runFrom k line behind .found ≡ take k (leading (words (drop behind line)))
+        → runFrom (suc k) line from .found ≡ take (suc k) (leading (words (drop from line)))
     go [] h e = rw (no-next-word line from h, h, empty-word)
     go (b ∷ w) h e = rw (next-of-words line from, h) (one (numberOf (b ∷ w)) e)

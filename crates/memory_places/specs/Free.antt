@@ -6,7 +6,7 @@ use mathlib.Core.Bool.{Bool, true, false}
 use mathlib.Core.List.{List}
 use lib.Dec.{leb, eqb}
 use lib.ListN.{length}
-use borrow.Author.Tests.{le-leb, lt-leb, eqb-true, eqb-false}
+use borrow.Author.Tests.{le-leb, eqb-true, eqb-false}
 use Rattle.rules.specs.Holds.{held, count}
 use Rattle.rules.specs.Laws.Tests.{by-test}
 use Rattle.memory.specs.Layout.{taken, places}
@@ -61,18 +61,7 @@ module _ (m : List ℕ) where
       let l = free-lowest places m 0 p e in
       record { below = l .below; free = l .free; others = λ i h. l .others i (omega arith) h }
 
-  pub free-nowhere : freeAt m ≡ None → (i : ℕ) → i < places → taken m i ≡ true
-  unfolding freeAt
-  free-nowhere e i h = none-free places m 0 e i (omega arith) h
-
--- Some place is free exactly where fewer are held than there are.
-held-le : (n : ℕ) (m : List ℕ) (i : ℕ) → length (held (placesFrom n m i)) ≤ n
-unfolding placesFrom placeAt
-held-le zero m i = omega arith
-held-le (suc n) m i =
-    let r = held-le n m (i + 1) in
-    by-test (taken m i) (λ t. rw t (omega arith)) (λ f. rw f (omega arith))
-
+-- Where no place is free, all are held.
 held-full : (n : ℕ) (m : List ℕ) (i : ℕ) → freeFrom n m i ≡ None → length (held (placesFrom n m i)) ≡ n
 unfolding freeFrom placesFrom placeAt
 held-full zero m i e = refl
@@ -82,24 +71,7 @@ held-full (suc n) m i e =
     (λ t. rw t (ap suc (r (rw t at e))))
     (λ f. let z : _≡_ {A = ℕ} 0 1 = cc (rw f at e) in absurd (omega arith))
 
-held-room : (n : ℕ) (m : List ℕ) (i p : ℕ) → freeFrom n m i ≡ At p → length (held (placesFrom n m i)) < n
-unfolding freeFrom placesFrom placeAt
-held-room zero m i p e = let z : _≡_ {A = ℕ} 0 1 = cc in absurd (omega arith)
-held-room (suc n) m i p e =
-    let r = held-room n m (i + 1) p in
-    by-test (taken m i)
-    (λ t. rw t (let s = r (rw t at e) in omega arith))
-    (λ f. rw f (omega (arith, held-le n m (i + 1))))
-
 module _ (m : List ℕ) where
-  pub count-most : count (view m) ≤ places
-  unfolding count view
-  count-most = held-le places m 0
-
   pub count-full : freeAt m ≡ None → leb places (count (view m)) ≡ true
   unfolding count view freeAt
   count-full e = le-leb places (count (view m)) (omega (arith, held-full places m 0 e))
-
-  pub count-room : (p : ℕ) → freeAt m ≡ At p → leb places (count (view m)) ≡ false
-  unfolding count view freeAt
-  count-room p e = lt-leb _ _ (held-room places m 0 p e)

@@ -1,12 +1,10 @@
 -- The rows in use, place by place.
-use Prim.Native.Nat.{ℕ, zero, suc, _+_, _*_, _%_, _<_, _≤_}
+use Prim.Native.Nat.{ℕ, zero, suc, _+_, _*_, _%_}
 use native.Mathlib.Omega.{arith}
 use mathlib.Core.Path.{_≡_, refl, ap}
-use mathlib.Core.Bool.{true}
 use mathlib.Core.List.{List, [], _∷_}
 use lib.Dec.{eqb}
 use lib.ListN.{length, length-take, length-drop}
-use borrow.Author.Tests.{eqb-true, eqb-false}
 use Rattle.rules.specs.Basics.{pick}
 use Rattle.rules.specs.Holds.{held, rowsOf, sumRows, rowsInUse}
 use Rattle.rules.specs.Ports.{pairs}
@@ -14,7 +12,6 @@ use Rattle.rules.specs.declared.Port.{Port}
 use Rattle.rules.specs.Laws.Tests.{by-test}
 use Rattle.memory.specs.Layout.{taken, depsAt, provsAt, depPart, provPart, memoryWords, places}
 use Rattle.memory.specs.View.{valued, pluginAt, placeAt, placesFrom, view}
-use Rattle.memory_places.specs.Taken.{taken-below}
 
 -- dependencies, provisions and the anchor
 abbrev pub rowsAt : List ℕ → ℕ → ℕ
@@ -58,16 +55,3 @@ module _ (m : List ℕ) (size : length m ≡ memoryWords) where
   pub rows-view : rowsInUse (view m) ≡ rowsFrom places m 0
   unfolding rowsInUse view
   rows-view = sum-from places 0
-
--- a taken place's rows are among them
-one-from : (m : List ℕ) (n i j : ℕ) → i ≤ j → j < i + n → taken m j ≡ true → rowsAt m j ≤ rowsFrom n m i
-unfolding rowsFrom
-one-from m zero i j a b t = absurd (omega arith)
-one-from m (suc n) i j a b t =
-    let r = one-from m n (i + 1) j in
-    by-test (eqb i j)
-    (λ y. let e = eqb-true i j y in rw (e, t) (omega arith))
-    (λ d. let f = eqb-false i j d in omega (arith, r (omega arith) (omega arith) t))
-
-pub rows-one : (m : List ℕ) (i : ℕ) → taken m i ≡ true → rowsAt m i ≤ rowsFrom places m 0
-rows-one m i t = one-from m places 0 i (omega arith) (taken-below m i t) t

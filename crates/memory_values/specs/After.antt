@@ -26,7 +26,7 @@ use Rattle.memory.specs.View.{wordsAt, decoded, lifeAt, valueAt, valued, plugin
 use Rattle.memory.specs.Frames.{part-same, plugin-kept, withLife}
 use Rattle.memory.specs.Stores.{kept-frame}
 use Rattle.memory_lists.specs.Listed.{provided-at}
-use Rattle.memory_places.specs.Bits.{set-there, set-others, set-lt}
+use Rattle.memory_places.specs.Bits.{set-there, set-others}
 use Rattle.ports.specs.declared.Found.the-variants.{At}
 use Rattle.memory_values.specs.Values.{maskAt, maskBit, masked, portFrom, withValue}
 use Rattle.memory_values.specs.Firsts.{port-least}
@@ -195,10 +195,6 @@ module _ (m : List ℕ) (i j v : ℕ) (h : i < places) (size : length m ≡ memo
     new-mask =
         rw as-set
         (getD-set-other (masked m i j) (i * placeWords + valuesWord + j) (i * placeWords + maskWord) v 0 (λ e. omega arith) ∙ getD-set-same m (i * placeWords + maskWord) (maskAt m i + 2 ^ j) 0 (omega arith))
-
-    -- and it is a word
-    pub set-fits : maskAt m i < 2 ^ 64 → maskAt (withValue m i j v) i < 2 ^ 64
-    set-fits w = rw new-mask (set-lt 64 j (maskAt m i) (omega arith) w free)
 
     new-value : word (withValue m i j v) (i * placeWords + valuesWord + j) ≡ v
     new-value = rw as-set (getD-set-same (masked m i j) (i * placeWords + valuesWord + j) v 0 (simp length-set (omega arith)))

@@ -64,19 +64,6 @@ pub port-least : (k : ℕ) (q : Port) (ps : List Port) (j : ℕ) → portFrom k 
 unfolding PortOf
 port-least k q ps j e = (rw e at (port-of k q ps)) .0
 
--- from any place on, of which only the count differs
-port-none-from : (k : ℕ) (q : Port) (ps : List Port) → isIn q ps ≡ false → portFrom k q ps ≡ None
-unfolding portFrom
-port-none-from k q [] e = refl
-port-none-from k q (p ∷ ps) e =
-    let r = port-none-from (k + 1) q ps in
-    by-test (samePort q p)
-    (λ t. let z : true ≡ false = rw t at e in cc)
-    (λ f. rw f (r (rw f at e)))
-
-pub nothing-port : (q : Port) (ps : List Port) → isIn q ps ≡ false → portFrom 0 q ps ≡ None
-nothing-port q ps e = port-none-from 0 q ps e
-
 -- A plugin has 15 provisions at most.
 pub provisions-at : (m : List ℕ) (i : ℕ) → pluginAt m i .provisions ≡ valued m i 0 (pairs (provPart m i))
 unfolding pluginAt

@@ -55,9 +55,6 @@ pub length-flat : (ps : List Port) → length (flat ps) ≡ 2 * length ps
 length-flat [] = refl
 length-flat (p ∷ ps) = omega (arith, length-flat ps)
 
-pub length-flat-pairs : (l : List ℕ) → length (flat (pairs l)) ≡ length l / 2 * 2
-length-flat-pairs l = omega (arith, length-flat (pairs l), length-pairs l)
-
 pub odd-length : (l : List ℕ) → oddLength l ≡ eqb (length l % 2) 1
 odd-length [] = refl
 odd-length (k ∷ []) = refl
@@ -87,12 +84,6 @@ pub pairs-flat : (ps : List Port) → pairs (flat ps) ≡ ps
 pairs-flat [] = refl
 pairs-flat (p ∷ ps) = ap (λ (qs : List Port). p ∷ qs) (pairs-flat ps)
 
--- parts
-pub pairs-append : (l m : List ℕ) → length l % 2 ≡ 0 → pairs (l ++ m) ≡ pairs l ++ pairs m
-pairs-append [] m h = refl
-pairs-append (k ∷ []) m h = absurd (omega arith)
-pairs-append (k ∷ r ∷ l) m h = ap (λ (ps : List Port). port k r ∷ ps) (pairs-append l m (omega arith))
-
 pub flat-append : (ps qs : List Port) → flat (ps ++ qs) ≡ flat ps ++ flat qs
 flat-append [] qs = refl
 flat-append (p ∷ ps) qs = ap (λ (l : List ℕ). p .key ∷ p .realm ∷ l) (flat-append ps qs)
@@ -105,12 +96,6 @@ pairs-take zero l = refl
 pairs-take (suc n) [] = rw (two-more n)
 pairs-take (suc n) (k ∷ []) = rw (two-more n)
 pairs-take (suc n) (k ∷ r ∷ l) = rw (two-more n, pairs-take n l)
-
-pub pairs-drop : (n : ℕ) (l : List ℕ) → pairs (drop (n * 2) l) ≡ drop n (pairs l)
-pairs-drop zero l = refl
-pairs-drop (suc n) [] = rw (two-more n)
-pairs-drop (suc n) (k ∷ []) = rw (two-more n)
-pairs-drop (suc n) (k ∷ r ∷ l) = rw (two-more n, pairs-drop n l)
 
 -- twice as many numbers as there are ports, or more
 pub pairs-whole : (n : ℕ) (l : List ℕ) → length l / 2 ≤ n → pairs (take (n * 2) l) ≡ pairs l
@@ -173,7 +158,8 @@ module _ {l ps : List Port} {p : Port} (s : l ≡ p ∷ ps) where
   repeats-miss e = rw (s, e)
 
 -- the keys of two rows, by the place of the second
-pub rising-behind : (l : List ℕ) (i : ℕ) → 2 ≤ i → i + 1 < length l → rising (pairs (drop (i - 2) l)) ≡ (ltb (getD l (i - 2) 0) (getD l i 0) && rising (pairs (drop (i + 2 - 2) l)))
+pub rising-behind : (l : List ℕ) (i : ℕ) → 2 ≤ i → i + 1 < length l
+    → rising (pairs (drop (i - 2) l)) ≡ (ltb (getD l (i - 2) 0) (getD l i 0) && rising (pairs (drop (i + 2 - 2) l)))
 rising-behind l i p h =
     let e : i - 2 + 2 ≡ i = omega arith in
     let f : i + 2 - 2 ≡ i = omega arith in

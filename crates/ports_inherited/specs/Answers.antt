@@ -1,19 +1,16 @@
 -- What callers read off the answer: the dependency list, and whether it fits.
-use Prim.Native.Nat.{ℕ, _+_, _*_, _≤_, _<_}
+use Prim.Native.Nat.{ℕ, _+_, _≤_, _<_}
 use native.Mathlib.Omega.{arith}
-use mathlib.Core.Path.{_≡_, refl, ap}
+use mathlib.Core.Path.{_≡_, refl}
 use mathlib.Core.List.{List, []}
-use lib.Dec.{ltb, leb}
 use lib.ListN.{length, take}
 use lib.Seq.{take-all}
-use borrow.Author.Tests.{le-leb, lt-leb, lt-ltb, leb-true, leb-false}
+use borrow.Author.Tests.{le-leb, lt-leb}
 use Rattle.rules.specs.declared.Port.{Port}
 use Rattle.rules.specs.Holds.{Realms}
-use Rattle.rules.specs.Ports.{pairs}
 use Rattle.rules.specs.Dependencies.{dependencyList}
-use Rattle.rules.specs.Laws.Tests.{by-test}
 use Rattle.rules.specs.Limits.{maxDependencyKeys, maxDependencies}
-use Rattle.ports_resolved.specs.Filled.{filled, Lists, listed}
+use Rattle.ports_resolved.specs.Filled.{filled, Lists}
 use Rattle.ports_resolved.specs.Keys.{listRoom}
 use Rattle.ports_inherited.specs.declared.Dependencies.{Dependencies}
 use Rattle.ports_inherited.specs.Blocks.{fitted}
@@ -34,17 +31,6 @@ fitted-longer l h e f = rw (lt-leb (length l) maxDependencies h) (λ k. record {
 pub fitted-law : (l : List Port) → length l ≤ maxDependencies → Lists listRoom (fitted l .count) (fitted l .ports) l
 fitted-law l h = rw (le-leb (length l) maxDependencies h) record { counted = refl; numbers = refl }
 
-pub fitted-listed : (l : List Port) → length l ≤ maxDependencies → pairs (take (fitted l .count * 2) (fitted l .ports)) ≡ l
-fitted-listed l h = listed (fitted-law l h)
-
 -- a count over 48 says that the list is longer, and nothing else does
 pub fitted-long : (l : List Port) → maxDependencies < length l → fitted l .count ≡ maxDependencies + 1
 fitted-long l h = rw (lt-leb (length l) maxDependencies h)
-
-pub fitted-count : (l : List Port) → fitted l .count ≤ maxDependencies → length l ≤ maxDependencies
-fitted-count l h = by-test (leb (length l) maxDependencies) (λ t. leb-true (length l) maxDependencies t) (λ n. absurd (omega (arith, fitted-long l (leb-false (length l) maxDependencies n))))
-
-pub too-long : (l : List Port) → ltb maxDependencies (fitted l .count) ≡ ltb maxDependencies (length l)
-too-long l = by-test (leb (length l) maxDependencies)
-    (λ t. ap (λ (n : ℕ). ltb maxDependencies n) (fitted-law l (leb-true (length l) maxDependencies t) .counted))
-    (λ n. rw (fitted-long l (leb-false (length l) maxDependencies n), lt-ltb maxDependencies (length l) (leb-false (length l) maxDependencies n)))

@@ -4,12 +4,11 @@ use native.Mathlib.Omega.{arith}
 use native.Mathlib.Numerals.{add-one}
 use mathlib.Core.Path.{_≡_, sym, ap, _∙_}
 use mathlib.Core.List.{List, map}
-use lib.ListN.{length, getD, set, take, drop, length-take, drop-of-length-le}
+use lib.ListN.{length, getD, set, take, drop, length-map, length-take, drop-of-length-le}
 use lib.Seq.{getD-take, drop-cons}
 use Rattle.rules.specs.declared.Port.{Port}
 use Rattle.rules.specs.Limits.{maxDependencyKeys}
-use Rattle.ports_resolved.specs.Stored.{stored}
-use Rattle.ports_resolved.specs.Stored.{stored}
+use Rattle.ports_resolved.specs.Stored.{stored, Stores}
 
 module _ (f : ℕ → Port) (keys array : List ℕ) (i : ℕ) where
   pub stored-next : (q : Port) → i < length keys → i < maxDependencyKeys → q ≡ f (getD keys i 0)
@@ -20,6 +19,11 @@ module _ (f : ℕ → Port) (keys array : List ℕ) (i : ℕ) where
       ap (λ (ks : List ℕ). stored array i (map f ks)) (drop-cons (take maxDependencyKeys keys) i 0 (omega (arith, length-take maxDependencyKeys keys)))
       ∙ (λ j. stored (set (set array (i * 2) (g j .key)) (i * 2 + 1) (g j .realm)) (i + 1) (map f (drop (sym (add-one i) j) (take maxDependencyKeys keys))))
 
-  pub stored-end : length (take maxDependencyKeys keys) ≤ i → stored array i (map f (drop i (take maxDependencyKeys keys))) ≡ array
+  stored-end : length (take maxDependencyKeys keys) ≤ i → stored array i (map f (drop i (take maxDependencyKeys keys))) ≡ array
   unfolding stored
   stored-end h = rw (drop-of-length-le (take maxDependencyKeys keys) {i = i} h)
+
+  -- Where no key is left, all are stored.
+  pub stored-all : (start : List ℕ) (n : ℕ) → n ≡ length (take maxDependencyKeys keys) → length (take maxDependencyKeys keys) ≤ i
+      → stored start 0 (map f (take maxDependencyKeys keys)) ≡ stored array i (map f (drop i (take maxDependencyKeys keys))) → Stores (map f (take maxDependencyKeys keys)) start n array
+  stored-all start n e h d = (omega (arith, length-map (take maxDependencyKeys keys) f), sym (d ∙ stored-end h))

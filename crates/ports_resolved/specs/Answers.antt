@@ -1,16 +1,15 @@
 -- What callers read off the answers: repeated keys and claimed ports.
-use Prim.Native.Nat.{ℕ, _+_, _-_, _*_, _≤_}
-use native.Mathlib.Omega.{arith}
+use Prim.Native.Nat.{ℕ, _-_, _≤_}
 use mathlib.Core.Path.{_≡_, refl, ap, _∙_}
 use mathlib.Core.List.{List, [], _∷_, map}
 use lib.Dec.{eqb}
-use lib.ListN.{length, take, drop, length-map}
+use lib.ListN.{length}
 use lib.Seq.{take-all}
 use borrow.Author.Tests.{eq-eqb, eqb-true}
 use Rattle.rules.specs.declared.Port.{Port}
 use Rattle.rules.specs.Basics.{any}
 use Rattle.rules.specs.Holds.{Realms, samePort, isIn}
-use Rattle.rules.specs.Ports.{pairs, resolveIn, resolve}
+use Rattle.rules.specs.Ports.{resolveIn, resolve}
 use Rattle.rules.specs.Registration.{repeats}
 use Rattle.rules.specs.Laws.Tests.{by-test}
 use Rattle.rules.specs.Limits.{maxProvisionKeys}
@@ -20,7 +19,7 @@ use Rattle.ports_resolved.specs.Keys.{keysRepeat, claimsOf, claimRoom}
 use Rattle.ports_resolved.specs.Filled.{Lists, listed, listed-behind}
 use Rattle.ports_resolved.specs.declared.Claimed.{Claimed}
 use Rattle.ports_resolved.specs.Keys.{keysRepeat, claimsOf}
-use Rattle.ports_resolved.specs.Filled.{Lists, listed, listed-behind}
+use Rattle.ports_resolved.specs.Filled.{Lists}
 
 -- resolved ports are the same exactly if their keys are
 module _ (other : ℕ) (rows : List Port) where
@@ -58,12 +57,3 @@ module _ (other : ℕ) (rows : List Port) (anchor : Port) (keys : List ℕ) (h :
 
   pub claims-law : Lists claimRoom (c .count) (c .ports) (anchor ∷ map (resolveIn other rows) keys)
   claims-law = rw (take-all maxProvisionKeys keys h) record { counted = refl; numbers = refl }
-
-  pub claims-count : c .count ≡ length keys + 1
-  claims-count = omega (arith, claims-law .counted, length-map keys (resolveIn other rows))
-
-  pub claims-listed : pairs (take (c .count * 2) (c .ports)) ≡ anchor ∷ map (resolveIn other rows) keys
-  claims-listed = listed claims-law
-
-  pub claims-provisions : pairs (take (c .count * 2 - 2) (drop 2 (c .ports))) ≡ map (resolveIn other rows) keys
-  claims-provisions = listed-behind claims-law

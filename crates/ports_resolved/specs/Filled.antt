@@ -4,7 +4,7 @@ use native.Mathlib.Numerals.{add-one}
 use native.Mathlib.Omega.{arith}
 use mathlib.Core.Path.{_≡_, sym, ap, _∙_, subst}
 use mathlib.Core.List.{List, [], _∷_, _++_, map, map-append, append-assoc}
-use lib.ListN.{length, getD, take, drop, set, replicate, length-append, length-replicate, drop-of-length-le, List·getD-append}
+use lib.ListN.{length, getD, take, drop, set, replicate, length-append, drop-of-length-le, List·getD-append}
 use lib.Seq.{set-at, take-at, take-suc, drop-cons}
 use Rattle.rules.specs.declared.Port.{Port}
 use Rattle.rules.specs.Holds.{port}
@@ -14,9 +14,6 @@ use Rattle.ports.specs.Places.{length-flat, pairs-flat, flat-append, flat-get}
 -- these numbers, and then zeros up to a size
 abbrev pub filled : ℕ → List ℕ → List ℕ
 filled n l = l ++ replicate (n - length l) 0
-
-pub filled-length : (n : ℕ) (l : List ℕ) → length l ≤ n → length (filled n l) ≡ n
-filled-length n l h = simp (length-append, length-replicate) (omega arith)
 
 pub filled-front : (n m : ℕ) (l : List ℕ) → length l ≡ m → take m (filled n l) ≡ l
 filled-front n m l e = take-at l (replicate (n - length l) 0) m e
@@ -41,9 +38,6 @@ module _ {size count : ℕ} {array : List ℕ} {ps : List Port} (r : Lists size 
   pub listed : pairs (take (count * 2) array) ≡ ps
   listed = ap pairs listed-words ∙ pairs-flat ps
 
-  pub lists-size : count * 2 ≤ size → length array ≡ size
-  lists-size h = ap length (r .numbers) ∙ filled-length size (flat ps) (omega (arith, r .counted, length-flat ps))
-
   -- the array lists what is read off it
   pub lists-own : Lists size count array (pairs (take (count * 2) array))
   lists-own = subst (λ (qs : List Port). Lists size count array qs) (sym listed) r
@@ -55,7 +49,8 @@ module _ {size count : ℕ} {array : List ℕ} {ps : List Port} (r : Lists size 
       let i : k < length ps = omega (arith, r .counted) in
       let a : k * 2 < length (flat ps) = omega (arith, length-flat ps) in
       let b : k * 2 + 1 < length (flat ps) = omega (arith, length-flat ps) in
-      rw (r .numbers, List·getD-append (flat ps) zeros 0 (k * 2) a, List·getD-append (flat ps) zeros 0 (k * 2 + 1) b, flat-get ps k i, add-one k) (drop-cons ps k (port 0 0) i)
+      let put = List·getD-append (flat ps) zeros 0 in
+      rw (r .numbers, put (k * 2) a, put (k * 2 + 1) b, flat-get ps k i, add-one k) (drop-cons ps k (port 0 0) i)
 
   pub lists-end : (k : ℕ) → count ≤ k → drop k ps ≡ []
   lists-end k h = drop-of-length-le ps {i = k} (omega (arith, r .counted))
@@ -76,14 +71,6 @@ module _ {size count : ℕ} {array : List ℕ} {ps : List Port} (r : Lists size 
             ∙ filled-more size b l₁ (q .realm) j h
             ∙ ap (λ (x : List ℕ). filled size x) (append-assoc l (q .key ∷ []) (q .realm ∷ []) ∙ sym (flat-append ps (q ∷ [])));
       }
-
--- without the first port
-pub listed-behind : {size count : ℕ} {array : List ℕ} {p : Port} {ps : List Port} → Lists size count array (p ∷ ps) → pairs (take (count * 2 - 2) (drop 2 array)) ≡ ps
-listed-behind {size} {count} {array} {p} {ps} r =
-    let m = count * 2 - 2 in
-    let zeros : List ℕ = replicate (size - length (flat (p ∷ ps))) 0 in
-    ap (λ (l : List ℕ). pairs (take m (drop 2 l))) (r .numbers)
-    ∙ ap pairs (take-at (flat ps) zeros m (omega (arith, r .counted, length-flat ps))) ∙ pairs-flat ps
 
 -- the port of a key more
 next-key : (f : ℕ → Port) (keys : List ℕ) (i : ℕ) → i < length keys → map f (take i keys) ++ f (getD keys i 0) ∷ [] ≡ map f (take (i + 1) keys)

@@ -28,7 +28,8 @@ fn written(
     line: &[u8; LINE],
     state: State,
 ) -> Slot
-    ensures { λ r. ⌜ kept (now (m .exit)) (now (buffer .exit)) (slotOf r) (now (line .entry)) 0 ≡ endLine (kept (now (m .entry)) (now (buffer .entry)) (slotOf (state .slot)) (now (line .entry)) (state .filled)) ⌝ }
+    ensures { λ r. ⌜ kept (now (m .exit)) (now (buffer .exit)) (slotOf r) (now (line .entry)) 0
+        ≡ endLine (kept (now (m .entry)) (now (buffer .entry)) (slotOf (state .slot)) (now (line .entry)) (state .filled)) ⌝ }
 {
     let slot = state.slot;
     let mut text = [0u8; ROOM];
@@ -46,7 +47,8 @@ fn next_byte(
     state: State,
     byte: u8,
 ) -> State
-    ensures { λ r. ⌜ kept (now (m .exit)) (now (buffer .exit)) (slotOf (r .slot)) (now (line .exit)) (r .filled) ≡ byteFed (kept (now (m .entry)) (now (buffer .entry)) (slotOf (state .slot)) (now (line .entry)) (state .filled)) byte ⌝ }
+    ensures { λ r. ⌜ kept (now (m .exit)) (now (buffer .exit)) (slotOf (r .slot)) (now (line .exit)) (r .filled)
+        ≡ byteFed (kept (now (m .entry)) (now (buffer .entry)) (slotOf (state .slot)) (now (line .entry)) (state .filled)) byte ⌝ }
 {
     if byte == 10 {
         return State {
@@ -69,7 +71,8 @@ fn feed(
     state: State,
     part: &[u8],
 ) -> State
-    ensures { λ r. ⌜ kept (now (m .exit)) (now (buffer .exit)) (slotOf (r .slot)) (now (line .exit)) (r .filled) ≡ fed (kept (now (m .entry)) (now (buffer .entry)) (slotOf (state .slot)) (now (line .entry)) (state .filled)) (now (part .entry)) ⌝ }
+    ensures { λ r. ⌜ kept (now (m .exit)) (now (buffer .exit)) (slotOf (r .slot)) (now (line .exit)) (r .filled)
+        ≡ fed (kept (now (m .entry)) (now (buffer .entry)) (slotOf (state .slot)) (now (line .entry)) (state .filled)) (now (part .entry)) ⌝ }
 {
     let mut now = state;
     let mut i: usize = 0;

@@ -1,16 +1,16 @@
 -- The ports of the keys from i on are still to be stored.
 use Prim.Native.Nat.{_-_, _≤_}
 use native.Mathlib.Omega.{arith}
-use mathlib.Core.Path.{_≡_, refl, sym, _∙_}
+use mathlib.Core.Path.{_≡_, refl, _∙_}
 use mathlib.Core.List.{map}
-use lib.ListN.{length, take, drop, length-map, length-take}
+use lib.ListN.{length, take, drop, length-take}
 use borrow.Author.Needs.{needs}
 use Rattle.rules.specs.Ports.{pairs, resolveIn}
 use Rattle.rules.specs.Limits.{maxDependencyKeys}
 use Rattle.ports.specs.Found.{resolve-with}
 use Rattle.ports_resolved.specs.Keys.{declaredOf}
 use Rattle.ports_resolved.specs.Stored.{stored}
-use Rattle.ports_resolved.proofs.Laws.{stored-next, stored-end}
+use Rattle.ports_resolved.proofs.Laws.{stored-next, stored-all}
 use Rattle.ports_resolved.proofs.declared.Statement.{statement}
 use Rattle.ports_resolved.proofs.declared.Tie as tie
 
@@ -29,11 +29,7 @@ returns : tie.Need-returns Inv-loop μ-loop
 returns c =
     let at = c .before .before in
     let a = at .before .before .before .args in
-    let keys = a .keys .now in
-    let f = resolveIn (a .other) (pairs (a .realms .now)) in
-    let n = length-map (take maxDependencyKeys keys) f in
-    let t = length-take maxDependencyKeys keys in
-    (omega (arith, n, t), sym (at .loop .inv .2 ∙ stored-end f keys (at .loop .ports) (at .loop .i) (omega (arith, t))))
+    stored-all (resolveIn (a .other) (pairs (a .realms .now))) (a .keys .now) (at .loop .ports) (at .loop .i) _ _ (omega (arith, length-take maxDependencyKeys (a .keys .now))) (omega (arith, length-take maxDependencyKeys (a .keys .now))) (at .loop .inv .2)
 
 mul-new : tie.Need-mul-new Inv-loop μ-loop
 mul-new c = search needs
@@ -86,11 +82,7 @@ returns-2 : tie.Need-returns-2 Inv-loop μ-loop
 returns-2 c =
     let at = c .before in
     let a = at .before .before .before .args in
-    let keys = a .keys .now in
-    let f = resolveIn (a .other) (pairs (a .realms .now)) in
-    let n = length-map (take maxDependencyKeys keys) f in
-    let t = length-take maxDependencyKeys keys in
-    (omega (arith, n, t), sym (at .loop .inv .2 ∙ stored-end f keys (at .loop .ports) (at .loop .i) (omega (arith, t))))
+    stored-all (resolveIn (a .other) (pairs (a .realms .now))) (a .keys .now) (at .loop .ports) (at .loop .i) _ _ (omega (arith, length-take maxDependencyKeys (a .keys .now))) (omega (arith, length-take maxDependencyKeys (a .keys .now))) (at .loop .inv .2)
 
 pub declared-spec : {M : Type 1} → statement M
 declared-spec =
