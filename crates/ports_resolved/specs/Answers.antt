@@ -16,9 +16,6 @@ use Rattle.rules.specs.Limits.{maxProvisionKeys}
 use Rattle.ports.specs.Found.{resolve-key-law}
 use Rattle.ports_resolved.specs.declared.Claimed.{Claimed}
 use Rattle.ports_resolved.specs.Keys.{keysRepeat, claimsOf, claimRoom}
-use Rattle.ports_resolved.specs.Filled.{Lists, listed, listed-behind}
-use Rattle.ports_resolved.specs.declared.Claimed.{Claimed}
-use Rattle.ports_resolved.specs.Keys.{keysRepeat, claimsOf}
 use Rattle.ports_resolved.specs.Filled.{Lists}
 
 -- resolved ports are the same exactly if their keys are
