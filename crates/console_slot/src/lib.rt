@@ -9,7 +9,7 @@ use console_answer::ROOM;
 use slot::Decided;
 use slot::Identity;
 use slot::Slot;
-use slot::Verdict;
+use rules::Done;
 
 // The place behind what was said, and the slot.
 pub struct Said {
@@ -27,7 +27,7 @@ fn new_slot(slot: Slot) -> Turn
 {
     Turn::Now(Decided {
         slot,
-        verdict: Verdict::Taken,
+        verdict: Done::Accepted,
     })
 }
 

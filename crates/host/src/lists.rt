@@ -17,7 +17,7 @@ pub extern "C" fn vaskelbi_list_dependencies(
     ensures { λ r. ⌜ ListsAndTells (now (m .entry)) (Listed Dependencies id place (now (buffer .entry)))
         (now (out .entry)) r (now (out .exit)) (now (buffer .exit)) ⌝ }
 {
-    host_answers::listed(
+    host_answers::number(
         registry_queries::list_dependencies(m, id, place, buffer),
         out,
     )
@@ -34,7 +34,7 @@ pub extern "C" fn vaskelbi_list_provisions(
     ensures { λ r. ⌜ ListsAndTells (now (m .entry)) (Listed Provisions id place (now (buffer .entry)))
         (now (out .entry)) r (now (out .exit)) (now (buffer .exit)) ⌝ }
 {
-    host_answers::listed(registry_queries::list_provisions(m, id, place, buffer), out)
+    host_answers::number(registry_queries::list_provisions(m, id, place, buffer), out)
 }
 
 #[no_mangle]
@@ -48,5 +48,5 @@ pub extern "C" fn vaskelbi_list_realms(
     ensures { λ r. ⌜ ListsAndTells (now (m .entry)) (Listed RealmRows id place (now (buffer .entry)))
         (now (out .entry)) r (now (out .exit)) (now (buffer .exit)) ⌝ }
 {
-    host_answers::listed(registry_queries::list_realms(m, id, place, buffer), out)
+    host_answers::number(registry_queries::list_realms(m, id, place, buffer), out)
 }

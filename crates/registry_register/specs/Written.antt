@@ -1,6 +1,6 @@
 -- What a registration answers, and the words it leaves.
 use Prim.Native.Nat.{ℕ, _+_, _-_, _/_}
-use mathlib.Core.Path.{_≡_, refl, ap}
+use mathlib.Core.Path.{_≡_, refl}
 use mathlib.Core.List.{List, [], _∷_}
 use mathlib.Core.Option.{Option}
 use lib.ListN.{length}
@@ -20,15 +20,9 @@ use Rattle.memory_entry.specs.Entries.{filledPlace}
 use Rattle.memory_entry.specs.Filled.{filled-size}
 use Rattle.memory_entry.specs.declared.Entry.{Entry}
 use Rattle.registry_checks.specs.Verdicts.{verdict}
-use Rattle.registry_checks.specs.declared.Checked.{Checked}
-use Rattle.registry_checks.specs.declared.Checked.the-variants as checked
+use Rattle.rules.specs.declared.Done.{Done}
+use Rattle.rules.specs.declared.Done.the-variants as done
 use Rattle.registry_prepare.specs.Parts.{tagOf, wordOf}
-use Rattle.registry_register.specs.declared.Registered.{Registered}
-use Rattle.registry_register.specs.declared.Registered.the-variants as registered
-
-abbrev pub registeredAnswer : Registered → Answer
-registeredAnswer (registered.Id n) = Accepted (n ∷ [])
-registeredAnswer (registered.Refused n) = Refused n []
 
 -- the rules' definition of what is lent
 abbrev pub definition : Parent → Port → List ℕ → List ℕ → List ℕ → ℕ → Definition
@@ -72,16 +66,16 @@ addedTo m (adds q vs) =
 addedTo m (removes id vs) = m
 
 -- The late checks and what is written where they pass, by a count of dependencies and the lent lists.
-abbrev pub lateVerdict : List ℕ → ℕ → List ℕ → Checked
+abbrev pub lateVerdict : List ℕ → ℕ → List ℕ → Done
 lateVerdict m count claims = verdict (roomChecks (view m) count (rowsInUse (view m) + (count + length claims / 2)))
 
-abbrev pub answerBy : Checked → ℕ → Answer
-answerBy checked.Passed id = Accepted (id ∷ [])
-answerBy (checked.Refused n) id = Refused n []
+abbrev pub answerBy : Done → ℕ → Answer
+answerBy done.Accepted id = Accepted (id ∷ [])
+answerBy (done.Refused n) id = Refused n []
 
-abbrev pub leftBy : Checked → List ℕ → List ℕ → List ℕ
-leftBy checked.Passed m new = new
-leftBy (checked.Refused n) m new = m
+abbrev pub leftBy : Done → List ℕ → List ℕ → List ℕ
+leftBy done.Accepted m new = new
+leftBy (done.Refused n) m new = m
 
 unfoldable pub settledAnswer : List ℕ → ℕ → List ℕ → Answer
 settledAnswer m count claims = answerBy (lateVerdict m count claims) (word m nextWord)
@@ -111,10 +105,3 @@ added-size m (adds q vs) = at (freeAt m)
     at None = refl
     at (At p) = filled-size m p _ _ _ _
 added-size m (removes id vs) = refl
-
--- Any two outcomes that the promise of a registration allows are equal.
-pub registered-exact : (a b : Registered) → registeredAnswer a ≡ registeredAnswer b → a ≡ b
-registered-exact (registered.Id n) (registered.Id k) e = let j : n ≡ k = cc in ap registered.Id j
-registered-exact (registered.Id n) (registered.Refused k) e = cc
-registered-exact (registered.Refused n) (registered.Id k) e = cc
-registered-exact (registered.Refused n) (registered.Refused k) e = let j : n ≡ k = cc in ap registered.Refused j

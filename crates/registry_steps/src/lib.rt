@@ -1,12 +1,13 @@
 // Document 01, "Phases": each step looks the id up once, and the table of phases and steps says where it leads.
 ghost use Rattle.rules.specs.Phases.{begin, fail, unload};
+ghost use Rattle.rules.specs.Answers.{doneAnswer};
 ghost use Rattle.memory.specs.View.{view};
 ghost use Rattle.memory.specs.Known.{storedLife};
-ghost use Rattle.memory_life.specs.Told.{Meets, doneAnswer};
+ghost use Rattle.memory_life.specs.Told.{Meets};
 ghost use Rattle.registry_steps.specs.Answers.{begunAnswer};
 use memory::Place;
 use memory::WORDS;
-use memory_life::Done;
+use rules::Done;
 use registry_table::Cell;
 use registry_table::Step;
 use rules::Generation;
