@@ -1,17 +1,18 @@
 // An answer's line, byte by byte, in a lent text. A function gives the place up to which the text is written then.
 ghost use mathlib.Core.Path.{_≡_};
 ghost use lib.ListN.{length, take};
-ghost use Rattle.slot.specs.Slots.{episodeOf, identityOf, decisionOf, slotOf, decidedOf};
+ghost use Rattle.rules.specs.Answers.{optionOf};
+ghost use Rattle.slot.specs.Slots.{identityOf, decisionOf, slotOf, decidedOf};
 ghost use Rattle.console_answer.specs.Pages.{upTo, putOn, numberOn, numbersOn};
 ghost use Rattle.console_answer.specs.Answers.{okWord, toldIn, answerIn, refusalOn, answerOn, orNoneOn, answerOrNoneOn, saysYes, answerYesNoOn};
 ghost use Rattle.console_answer.specs.Slots.{generationOn, identityOn, decisionOn, slotOn, decidedOn};
 use host_answers::ANSWER;
+use rules::Done;
+use rules::Optional;
 use slot::Decided;
 use slot::Decision;
-use slot::Episode;
 use slot::Identity;
 use slot::Slot;
-use slot::Verdict;
 
 // Room for the longest answer: `ok`, a hundred numbers of 20 digits, each behind a space, and byte 10.
 pub const ROOM: usize = 2103;
@@ -170,12 +171,12 @@ pub fn front(bytes: &[u8], most: usize) -> &[u8]
     &bytes[..most]
 }
 
-fn episode(text: &mut [u8; ROOM], from: usize, generation: Episode) -> usize
-    ensures { λ r. ⌜ upTo (now (text .exit)) r ≡ generationOn (upTo (now (text .entry)) from) (episodeOf generation) ⌝ }
+fn episode(text: &mut [u8; ROOM], from: usize, generation: Optional) -> usize
+    ensures { λ r. ⌜ upTo (now (text .exit)) r ≡ generationOn (upTo (now (text .entry)) from) (optionOf generation) ⌝ }
 {
     match generation {
-        Episode::Of(n) => number(text, from, n),
-        Episode::None => put(text, from, b" none"),
+        Optional::Is(n) => number(text, from, n),
+        Optional::None => put(text, from, b" none"),
     }
 }
 
@@ -218,7 +219,7 @@ pub fn shown(text: &mut [u8; ROOM], decided: Decided) -> usize
     let slot = decided.slot;
     let verdict = decided.verdict;
     match verdict {
-        Verdict::Taken => ok(text, slot),
-        Verdict::Refused(why) => no(text, why),
+        Done::Accepted => ok(text, slot),
+        Done::Refused(why) => no(text, why),
     }
 }

@@ -48,7 +48,7 @@ pub extern "C" fn vaskelbi_slot_assign(
     ensures { λ r. ⌜ Decides (rules.assign (slotOf (slotAt (now (slot .entry)))) (identified domain parent id))
         (now (slot .entry)) r (now (slot .exit)) ⌝ }
 {
-    host_answers::verdict(slot_words::assign(
+    host_answers::done(slot_words::assign(
         slot,
         Identity {
             domain: domain,
@@ -62,12 +62,12 @@ pub extern "C" fn vaskelbi_slot_assign(
 pub extern "C" fn vaskelbi_slot_reject(slot: &mut [u64; SLOT]) -> u64
     ensures { λ r. ⌜ Decides (rules.reject (slotOf (slotAt (now (slot .entry))))) (now (slot .entry)) r (now (slot .exit)) ⌝ }
 {
-    host_answers::verdict(slot_words::reject(slot))
+    host_answers::done(slot_words::reject(slot))
 }
 
 #[no_mangle]
 pub extern "C" fn vaskelbi_slot_cancel(slot: &mut [u64; SLOT]) -> u64
     ensures { λ r. ⌜ Decides (rules.cancel (slotOf (slotAt (now (slot .entry))))) (now (slot .entry)) r (now (slot .exit)) ⌝ }
 {
-    host_answers::verdict(slot_words::cancel(slot))
+    host_answers::done(slot_words::cancel(slot))
 }

@@ -18,7 +18,7 @@ pub extern "C" fn vaskelbi_list_dependencies(
     ensures { λ r. ⌜ ListsAndTells (now (m .entry)) (Write (Listed Dependencies id place) (now (buffer .entry)))
         (now (out .entry)) r (now (out .exit)) (now (buffer .exit)) ⌝ }
 {
-    host_answers::listed(
+    host_answers::number(
         registry_queries::list_dependencies(m, id, place, buffer),
         out,
     )
@@ -35,7 +35,7 @@ pub extern "C" fn vaskelbi_list_provisions(
     ensures { λ r. ⌜ ListsAndTells (now (m .entry)) (Write (Listed Provisions id place) (now (buffer .entry)))
         (now (out .entry)) r (now (out .exit)) (now (buffer .exit)) ⌝ }
 {
-    host_answers::listed(registry_queries::list_provisions(m, id, place, buffer), out)
+    host_answers::number(registry_queries::list_provisions(m, id, place, buffer), out)
 }
 
 #[no_mangle]
@@ -49,5 +49,5 @@ pub extern "C" fn vaskelbi_list_realms(
     ensures { λ r. ⌜ ListsAndTells (now (m .entry)) (Write (Listed RealmRows id place) (now (buffer .entry)))
         (now (out .entry)) r (now (out .exit)) (now (buffer .exit)) ⌝ }
 {
-    host_answers::listed(registry_queries::list_realms(m, id, place, buffer), out)
+    host_answers::number(registry_queries::list_realms(m, id, place, buffer), out)
 }

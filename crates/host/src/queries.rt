@@ -76,7 +76,7 @@ pub extern "C" fn vaskelbi_root(m: &[u64; WORDS], id: u64, out: &mut [u64; ANSWE
 pub extern "C" fn vaskelbi_id_from(m: &[u64; WORDS], number: u64, out: &mut [u64; ANSWER]) -> u64
     ensures { λ r. ⌜ Tells (answer (now (m .entry)) (Ask (IdFrom number))) (now (out .entry)) r (now (out .exit)) ⌝ }
 {
-    host_answers::above(memory_places::id_from(m, number), out)
+    host_answers::optional(memory_places::id_from(m, number), out)
 }
 
 #[no_mangle]

@@ -24,7 +24,7 @@ pub extern "C" fn vaskelbi_register(
         (definition None (port key realm) (now (realms .entry)) (now (dependencies .entry)) (now (provisions .entry)) payload))
         (now (out .entry)) r (now (out .exit)) (now (m .exit)) ⌝ }
 {
-    host_answers::registered(
+    host_answers::number(
         registry_register::register(
             m,
             memory::Parent::None,
@@ -58,7 +58,7 @@ pub extern "C" fn vaskelbi_register_child(
         (definition (Of parent) (port key realm) (now (realms .entry)) (now (dependencies .entry)) (now (provisions .entry)) payload))
         (now (out .entry)) r (now (out .exit)) (now (m .exit)) ⌝ }
 {
-    host_answers::registered(
+    host_answers::number(
         registry_register::register(
             m,
             memory::Parent::Of(parent),

@@ -44,7 +44,7 @@ pub extern "C" fn vaskelbi_visible(
 ) -> u64
     ensures { λ r. ⌜ Tells (answer (now (m .entry)) (Ask (Visible (port key realm)))) (now (out .entry)) r (now (out .exit)) ⌝ }
 {
-    host_answers::value(registry_values::visible(m, key, realm), out)
+    host_answers::optional(registry_values::visible(m, key, realm), out)
 }
 
 // A plugin's own value of a provision, or no number.

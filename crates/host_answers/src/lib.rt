@@ -2,39 +2,26 @@
 ghost use mathlib.Core.Path.{_≡_};
 ghost use mathlib.Core.List.{[], _∷_};
 ghost use Rattle.rules.specs.Queries.{rootNumbers};
-ghost use Rattle.memory_life.specs.Told.{doneAnswer, whetherAnswer};
-ghost use Rattle.registry_queries.specs.Answers.{numberAnswer, perhapsAnswer, portAnswer, rootAnswer};
+ghost use Rattle.rules.specs.Answers.{doneAnswer, whetherAnswer, numberAnswer, optionAnswer};
+ghost use Rattle.registry_queries.specs.Answers.{perhapsAnswer, portAnswer, rootAnswer};
 ghost use Rattle.ports.specs.Answers.{resolvedAnswer};
-ghost use Rattle.ports_listed.specs.Answers.{listedAnswer};
-ghost use Rattle.memory_places.specs.Changes.{aboveAnswer};
-ghost use Rattle.registry_register.specs.Written.{registeredAnswer};
 ghost use Rattle.registry_steps.specs.Answers.{begunAnswer};
 ghost use Rattle.registry_replace.specs.Answers.{replacedAnswer};
 ghost use Rattle.registry_admit.specs.Answers.{admittedAnswer, admitsAnswer, calledAnswer};
 ghost use Rattle.registry_retire.specs.Answers.{childAnswer};
-ghost use Rattle.registry_values.specs.Answers.{readingAnswer, valueAnswer};
-ghost use Rattle.slot.specs.Slots.{verdictOf};
+ghost use Rattle.registry_values.specs.Answers.{readingAnswer};
 ghost use Rattle.host_answers.specs.Told.{statusOf, counted, Tells};
 
 // A count and up to six numbers.
 pub const ANSWER: usize = 7;
 
 // An answer without numbers: its status says all.
-pub fn done(a: memory_life::Done) -> u64
+pub fn done(a: rules::Done) -> u64
     ensures { λ r. ⌜ r ≡ statusOf (doneAnswer a) ⌝ }
 {
     match a {
-        memory_life::Done::Accepted => 0,
-        memory_life::Done::Refused(why) => why,
-    }
-}
-
-pub fn verdict(a: slot::Verdict) -> u64
-    ensures { λ r. ⌜ r ≡ statusOf (verdictOf a) ⌝ }
-{
-    match a {
-        slot::Verdict::Taken => 0,
-        slot::Verdict::Refused(why) => why,
+        rules::Done::Accepted => 0,
+        rules::Done::Refused(why) => why,
     }
 }
 
@@ -109,22 +96,22 @@ fn six(a: u64, b: u64, c: u64, d: u64, e: u64, f: u64, out: &mut [u64; ANSWER]) 
     0
 }
 
-pub fn whether(a: memory_life::Whether, out: &mut [u64; ANSWER]) -> u64
+pub fn whether(a: rules::Whether, out: &mut [u64; ANSWER]) -> u64
     ensures { λ r. ⌜ Tells (whetherAnswer a) (now (out .entry)) r (now (out .exit)) ⌝ }
 {
     match a {
-        memory_life::Whether::Yes => one(1, out),
-        memory_life::Whether::No => one(0, out),
-        memory_life::Whether::Refused(why) => why,
+        rules::Whether::Yes => one(1, out),
+        rules::Whether::No => one(0, out),
+        rules::Whether::Refused(why) => why,
     }
 }
 
-pub fn number(a: registry_queries::Number, out: &mut [u64; ANSWER]) -> u64
+pub fn number(a: rules::Number, out: &mut [u64; ANSWER]) -> u64
     ensures { λ r. ⌜ Tells (numberAnswer a) (now (out .entry)) r (now (out .exit)) ⌝ }
 {
     match a {
-        registry_queries::Number::Is(n) => one(n, out),
-        registry_queries::Number::Refused(why) => why,
+        rules::Number::Is(n) => one(n, out),
+        rules::Number::Refused(why) => why,
     }
 }
 
@@ -166,30 +153,12 @@ pub fn resolved(a: ports::Resolved, out: &mut [u64; ANSWER]) -> u64
     }
 }
 
-pub fn listed(a: ports_listed::Listed, out: &mut [u64; ANSWER]) -> u64
-    ensures { λ r. ⌜ Tells (listedAnswer a) (now (out .entry)) r (now (out .exit)) ⌝ }
+pub fn optional(a: rules::Optional, out: &mut [u64; ANSWER]) -> u64
+    ensures { λ r. ⌜ Tells (optionAnswer a) (now (out .entry)) r (now (out .exit)) ⌝ }
 {
     match a {
-        ports_listed::Listed::Count(n) => one(n as u64, out),
-        ports_listed::Listed::Refused(why) => why,
-    }
-}
-
-pub fn above(a: memory_places::Above, out: &mut [u64; ANSWER]) -> u64
-    ensures { λ r. ⌜ Tells (aboveAnswer a) (now (out .entry)) r (now (out .exit)) ⌝ }
-{
-    match a {
-        memory_places::Above::Id(n) => one(n, out),
-        memory_places::Above::None => none(out),
-    }
-}
-
-pub fn registered(a: registry_register::Registered, out: &mut [u64; ANSWER]) -> u64
-    ensures { λ r. ⌜ Tells (registeredAnswer a) (now (out .entry)) r (now (out .exit)) ⌝ }
-{
-    match a {
-        registry_register::Registered::Id(n) => one(n, out),
-        registry_register::Registered::Refused(why) => why,
+        rules::Optional::Is(n) => one(n, out),
+        rules::Optional::None => none(out),
     }
 }
 
@@ -270,15 +239,6 @@ pub fn reading(a: registry_values::Reading, out: &mut [u64; ANSWER]) -> u64
     match a {
         registry_values::Reading::Is(value, provider) => two(value, provider, out),
         registry_values::Reading::Refused(why) => why,
-    }
-}
-
-pub fn value(a: memory_values::Value, out: &mut [u64; ANSWER]) -> u64
-    ensures { λ r. ⌜ Tells (valueAnswer a) (now (out .entry)) r (now (out .exit)) ⌝ }
-{
-    match a {
-        memory_values::Value::Is(v) => one(v, out),
-        memory_values::Value::None => none(out),
     }
 }
 

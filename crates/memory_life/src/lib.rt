@@ -15,19 +15,6 @@ use rules::Generation;
 use rules::Phase;
 use rules::Root;
 
-// What an operation without a value answers.
-pub enum Done {
-    Accepted,
-    Refused(u64),
-}
-
-// What a yes or no question answers.
-pub enum Whether {
-    Yes,
-    No,
-    Refused(u64),
-}
-
 // A phase by its number; any number above 3 is read as 3.
 pub fn phase_of(w: u64) -> Phase
     ensures { λ r. ⌜ r ≡ phaseOf w ⌝ }

@@ -14,9 +14,10 @@ use Rattle.rules.specs.Queries.{lower as lowerId}
 use Rattle.rules.specs.Limits.{maxPluginRows}
 use Rattle.memory.specs.Layout.{occupancy, taken, idAt, depsAt, provsAt, places}
 use Rattle.memory_places.specs.Rows.{rowsAt, rowsBy, rowsFrom}
-use Rattle.memory_places.specs.Lowest.{idOf, lowestOf, lowest-here, lowest-not, lowest-free}
-use Rattle.memory_places.specs.declared.Above.{Above}
-use Rattle.memory_places.specs.declared.Above.the-variants.{Id, None}
+use Rattle.memory_places.specs.Lowest.{lowestOf, lowest-here, lowest-not, lowest-free}
+use Rattle.rules.specs.declared.Optional.{Optional}
+use Rattle.rules.specs.declared.Optional.the-variants.{Is, None}
+use Rattle.rules.specs.Answers.{optionOf}
 
 -- Rows, four places at a time: what is counted, and what is left.
 abbrev pub Counted : List ℕ → ℕ → ℕ → ℕ → Type 0
@@ -108,12 +109,12 @@ pub id-end : (number : ℕ) (m : List ℕ) (i : ℕ) (o : Option ℕ) → i ≤ 
 id-end number m i o h t = let s : i ≡ 0 = omega arith in rw s at (t .1)
 
 -- The lower of two ids, of which the second may be missing.
-module _ (id : ℕ) (other : Above) where
-  pub lower-first : (n : ℕ) → other ≡ Id n → id < n → some id ≡ lowerId id (idOf other)
+module _ (id : ℕ) (other : Optional) where
+  pub lower-first : (n : ℕ) → other ≡ Is n → id < n → some id ≡ lowerId id (optionOf other)
   lower-first n e h = rw (e, lt-ltb id n h)
 
-  pub lower-second : (n : ℕ) → other ≡ Id n → n ≤ id → some n ≡ lowerId id (idOf other)
+  pub lower-second : (n : ℕ) → other ≡ Is n → n ≤ id → some n ≡ lowerId id (optionOf other)
   lower-second n e h = rw (e, le-ltb id n h)
 
-  pub lower-alone : other ≡ None → some id ≡ lowerId id (idOf other)
+  pub lower-alone : other ≡ None → some id ≡ lowerId id (optionOf other)
   lower-alone e = rw e

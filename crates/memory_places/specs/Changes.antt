@@ -1,16 +1,13 @@
 -- The lowest free place, the occupancy word with a place taken or freed, and what an answer says.
 use Prim.Native.Nat.{ℕ, zero, suc, _+_, _-_, _^_}
 use mathlib.Core.Bool.{_||_}
-use mathlib.Core.List.{List, [], _∷_}
+use mathlib.Core.List.{List}
 use lib.Dec.{leb}
 use lib.ListN.{set}
 use Rattle.rules.specs.Basics.{pick}
-use Rattle.rules.specs.Outcomes.{Answer, Accepted}
 use Rattle.memory.specs.Layout.{occupancy, taken, places, occupancyWord}
 use Rattle.memory.specs.declared.Place.{Place}
 use Rattle.memory.specs.declared.Place.the-variants.{At, None}
-use Rattle.memory_places.specs.declared.Above.{Above}
-use Rattle.memory_places.specs.declared.Above.the-variants as above
 
 -- the first free one of n places from i on
 unfoldable pub freeFrom : ℕ → List ℕ → ℕ → Place
@@ -27,7 +24,3 @@ occupiedAt m p = pick (taken m p || leb places p) m (set m occupancyWord (occupa
 -- a place that is free changes nothing
 unfoldable pub vacatedAt : List ℕ → ℕ → List ℕ
 vacatedAt m p = pick (taken m p) (set m occupancyWord (occupancy m - 2 ^ p)) m
-
-abbrev pub aboveAnswer : Above → Answer
-aboveAnswer (above.Id n) = Accepted (n ∷ [])
-aboveAnswer above.None = Accepted []

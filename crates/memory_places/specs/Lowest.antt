@@ -1,9 +1,9 @@
 -- The lowest id from a number on, place by place.
 use Prim.Native.Nat.{ℕ, suc, _+_, _<_, _≤_}
-use mathlib.Core.Path.{_≡_, refl, ap, _∙_}
+use mathlib.Core.Path.{_≡_, refl, ap}
 use mathlib.Core.Bool.{true, false}
 use mathlib.Core.List.{List}
-use mathlib.Core.Option.{Option, none, some}
+use mathlib.Core.Option.{Option, none}
 use borrow.Author.Tests.{le-leb, lt-leb}
 use Rattle.rules.specs.Basics.{one}
 use Rattle.rules.specs.Holds.{held}
@@ -11,13 +11,8 @@ use Rattle.rules.specs.Outcomes.{Accepted, answerOf}
 use Rattle.rules.specs.Queries.{lower, lowestFrom, idFrom}
 use Rattle.memory.specs.Layout.{taken, idAt, places}
 use Rattle.memory.specs.View.{pluginAt, placeAt, placesFrom, view}
-use Rattle.memory_places.specs.Changes.{aboveAnswer}
-use Rattle.memory_places.specs.declared.Above.{Above}
-use Rattle.memory_places.specs.declared.Above.the-variants.{Id, None}
-
-abbrev pub idOf : Above → Option ℕ
-idOf (Id n) = some n
-idOf None = none
+use Rattle.rules.specs.declared.Optional.{Optional}
+use Rattle.rules.specs.Answers.{optionOf, optionAnswer}
 
 -- of n places from i on
 unfoldable pub lowestOf : ℕ → ℕ → List ℕ → ℕ → Option ℕ
@@ -40,10 +35,6 @@ module _ (number : ℕ) (n : ℕ) (m : List ℕ) (i : ℕ) where
   unfolding lowestOf placesFrom placeAt
   lowest-free f = rw f
 
-answer-one : (r : Above) → aboveAnswer r ≡ Accepted (one (idOf r))
-answer-one (Id n) = refl
-answer-one None = refl
-
-pub lowest-view : (number : ℕ) (m : List ℕ) (r : Above) → idOf r ≡ lowestOf number places m 0 → aboveAnswer r ≡ answerOf (idFrom (view m) number)
+pub lowest-view : (number : ℕ) (m : List ℕ) (r : Optional) → optionOf r ≡ lowestOf number places m 0 → optionAnswer r ≡ answerOf (idFrom (view m) number)
 unfolding lowestOf idFrom view
-lowest-view number m r e = answer-one r ∙ ap (λ o. Accepted (one o)) e
+lowest-view number m r e = ap (λ o. Accepted (one o)) e

@@ -6,21 +6,16 @@ ghost use Rattle.rules.specs.Holds.{count, rowsInUse};
 ghost use Rattle.rules.specs.Outcomes.{answerOf};
 ghost use Rattle.rules.specs.Queries.{idFrom, lower as lowerId};
 ghost use Rattle.rules.specs.Limits.{maxPluginRows};
+ghost use Rattle.rules.specs.Answers.{optionOf, optionAnswer};
 ghost use Rattle.memory.specs.Layout.{occupancy, memoryWords, places};
 ghost use Rattle.memory.specs.View.{view};
-ghost use Rattle.memory_places.specs.Changes.{freeAt, occupiedAt, vacatedAt, aboveAnswer};
-ghost use Rattle.memory_places.specs.Lowest.{idOf};
+ghost use Rattle.memory_places.specs.Changes.{freeAt, occupiedAt, vacatedAt};
 ghost use Rattle.memory_places.specs.Rows.{rowsBy, rowsFrom};
 use memory::Place;
 use memory::WORDS;
 use memory::layout;
 use memory::layout::PLACES;
-
-// The lowest registered id at or above a number, or nothing.
-pub enum Above {
-    Id(u64),
-    None,
-}
+use rules::Optional;
 
 // How many plugins are registered.
 pub fn registered(m: &[u64; WORDS]) -> u64
@@ -105,10 +100,10 @@ pub fn rows_in_use(m: &[u64; WORDS]) -> usize
 }
 
 // The lowest registered id at or above a number.
-pub fn id_from(m: &[u64; WORDS], number: u64) -> Above
-    ensures { λ r. ⌜ aboveAnswer r ≡ answerOf (idFrom (view (now (m .entry))) number) ⌝ }
+pub fn id_from(m: &[u64; WORDS], number: u64) -> Optional
+    ensures { λ r. ⌜ optionAnswer r ≡ answerOf (idFrom (view (now (m .entry))) number) ⌝ }
 {
-    let mut found = Above::None;
+    let mut found = Optional::None;
     let mut i: usize = PLACES;
     while 0 < i {
         i -= 1;
@@ -123,12 +118,18 @@ pub fn id_from(m: &[u64; WORDS], number: u64) -> Above
 }
 
 // The lower of two ids, of which the second may be missing.
-fn lower(id: u64, other: Above) -> Above
-    ensures { λ r. ⌜ idOf r ≡ lowerId id (idOf other) ⌝ }
+fn lower(id: u64, other: Optional) -> Optional
+    ensures { λ r. ⌜ optionOf r ≡ lowerId id (optionOf other) ⌝ }
 {
     match other {
-        Above::Id(n) => { if id < n { Above::Id(id) } else { Above::Id(n) } }
-        Above::None => Above::Id(id),
+        Optional::Is(n) => {
+            if id < n {
+                Optional::Is(id)
+            } else {
+                Optional::Is(n)
+            }
+        }
+        Optional::None => Optional::Is(id),
     }
 }
 

@@ -1,7 +1,6 @@
 -- What is read of a plugin's values, and the words with one set.
 use Prim.Native.Nat.{ℕ, _+_, _*_, _^_}
 use mathlib.Core.List.{List, [], _∷_}
-use mathlib.Core.Option.{Option, none, some}
 use lib.Dec.{eqb}
 use lib.ListN.{set}
 use Rattle.rules.specs.Basics.{pick, isNone}
@@ -11,12 +10,6 @@ use Rattle.memory.specs.Layout.{word, placeWords, maskWord, valuesWord}
 use Rattle.memory_places.specs.Bits.{bit}
 use Rattle.ports.specs.declared.Found.{Found}
 use Rattle.ports.specs.declared.Found.the-variants.{At, None}
-use Rattle.memory_values.specs.declared.Value.{Value}
-use Rattle.memory_values.specs.declared.Value.the-variants as value
-
-abbrev pub valueOf : Value → Option ℕ
-valueOf (value.Is n) = some n
-valueOf value.None = none
 
 -- the mask of the values there are, and its bit of provision j
 abbrev pub maskAt : List ℕ → ℕ → ℕ

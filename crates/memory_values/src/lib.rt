@@ -7,21 +7,18 @@ ghost use Rattle.rules.specs.Holds.{port};
 ghost use Rattle.rules.specs.Ports.{pairs};
 ghost use Rattle.rules.specs.Values.{valueIn};
 ghost use Rattle.rules.specs.Limits.{maxProvisionKeys};
+ghost use Rattle.rules.specs.Answers.{optionOf};
 ghost use Rattle.memory.specs.View.{valueAt, pluginAt};
 ghost use Rattle.memory.specs.Layout.{placeWords, places, maskWord};
-ghost use Rattle.memory_values.specs.Values.{maskBit, valueOf, portFrom, lackFrom, withValue};
+ghost use Rattle.memory_values.specs.Values.{maskBit, portFrom, lackFrom, withValue};
 use memory::WORDS;
 use memory::layout;
 use memory::layout::LOW_HALF;
 use memory::layout::PLACE_WORDS;
 use memory::layout::PLACES;
 use ports::Found;
+use rules::Optional;
 use rules::limits;
-
-pub enum Value {
-    Is(u64),
-    None,
-}
 
 // Whether a provision has a value: its bit in the mask.
 fn has_value(m: &[u64; WORDS], place: usize, provision: usize) -> bool
@@ -32,15 +29,15 @@ fn has_value(m: &[u64; WORDS], place: usize, provision: usize) -> bool
 }
 
 // The value of a provision, or nothing.
-pub fn value_at(m: &[u64; WORDS], place: usize, provision: usize) -> Value
-    ensures { λ r. ⌜ valueOf r ≡ valueAt (now (m .entry)) (place % places) (provision % maxProvisionKeys) ⌝ }
+pub fn value_at(m: &[u64; WORDS], place: usize, provision: usize) -> Optional
+    ensures { λ r. ⌜ optionOf r ≡ valueAt (now (m .entry)) (place % places) (provision % maxProvisionKeys) ⌝ }
 {
     if has_value(m, place, provision) {
         let b = place % PLACES * PLACE_WORDS;
         let j = provision % limits::PROVISION_KEYS;
-        Value::Is(m[b + layout::VALUES + j])
+        Optional::Is(m[b + layout::VALUES + j])
     } else {
-        Value::None
+        Optional::None
     }
 }
 
@@ -61,11 +58,11 @@ pub fn place_of(ports: &[u64], key: u64, realm: u64) -> Found
 }
 
 // The value of a port among the plugin's provisions, or nothing.
-pub fn value_of(m: &[u64; WORDS], place: usize, key: u64, realm: u64) -> Value
-    ensures { λ r. ⌜ valueOf r ≡ valueIn (port key realm) (pluginAt (now (m .entry)) (place % places) .provisions) ⌝ }
+pub fn value_of(m: &[u64; WORDS], place: usize, key: u64, realm: u64) -> Optional
+    ensures { λ r. ⌜ optionOf r ≡ valueIn (port key realm) (pluginAt (now (m .entry)) (place % places) .provisions) ⌝ }
 {
     let Found::At(j) = place_of(memory_lists::provision_words(m, place), key, realm) else {
-        return Value::None;
+        return Optional::None;
     };
     value_at(m, place, j)
 }

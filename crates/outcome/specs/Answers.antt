@@ -3,38 +3,18 @@ use mathlib.Core.Path.{_≡_, refl, ap}
 use Rattle.rules.specs.declared.Root.{Root}
 use Rattle.rules.specs.declared.Root.the-variants.{Unissued, Queued, Spent}
 use Rattle.rules.specs.Queries.{rootNumbers}
-use Rattle.registry_queries.specs.Answers.{numberAnswer, rootAnswer}
-use Rattle.registry_queries.specs.declared.Number.{Number}
-use Rattle.registry_queries.specs.declared.Number.the-variants as number
+use Rattle.registry_queries.specs.Answers.{rootAnswer}
 use Rattle.registry_queries.specs.declared.ARoot.{ARoot}
 use Rattle.registry_queries.specs.declared.ARoot.the-variants as root
 use Rattle.memory.specs.Writes.{parentId}
 use Rattle.memory.specs.declared.Parent.{Parent}
 use Rattle.memory.specs.declared.Parent.the-variants as parent
-use Rattle.memory_places.specs.Changes.{aboveAnswer}
-use Rattle.memory_places.specs.declared.Above.{Above}
-use Rattle.memory_places.specs.declared.Above.the-variants as above
 use Rattle.registry_retire.specs.Answers.{childAnswer}
 use Rattle.registry_retire.specs.declared.Child.{Child}
 use Rattle.registry_retire.specs.declared.Child.the-variants as child
 use Rattle.registry_steps.specs.Answers.{begunAnswer}
 use Rattle.registry_steps.specs.declared.Begun.{Begun}
 use Rattle.registry_steps.specs.declared.Begun.the-variants as begun
-use Rattle.memory_values.specs.Values.{valueOf}
-use Rattle.memory_values.specs.declared.Value.{Value}
-use Rattle.memory_values.specs.declared.Value.the-variants as value
-
-pub number-exact : (a b : Number) → numberAnswer a ≡ numberAnswer b → a ≡ b
-number-exact (number.Is n) (number.Is k) e = let j : n ≡ k = cc in ap number.Is j
-number-exact (number.Is n) (number.Refused k) e = cc
-number-exact (number.Refused n) (number.Is k) e = cc
-number-exact (number.Refused n) (number.Refused k) e = let j : n ≡ k = cc in ap number.Refused j
-
-pub above-exact : (a b : Above) → aboveAnswer a ≡ aboveAnswer b → a ≡ b
-above-exact (above.Id n) (above.Id k) e = let j : n ≡ k = cc in ap above.Id j
-above-exact (above.Id n) above.None e = cc
-above-exact above.None (above.Id k) e = cc
-above-exact above.None above.None e = refl
 
 pub child-exact : (a b : Child) → childAnswer a ≡ childAnswer b → a ≡ b
 child-exact (child.Of d p i) (child.Of d′ p′ i′) e =
@@ -87,10 +67,3 @@ parent-exact (parent.Of n) (parent.Of k) e = let j : n ≡ k = cc in ap parent.O
 parent-exact (parent.Of n) parent.None e = cc
 parent-exact parent.None (parent.Of k) e = cc
 parent-exact parent.None parent.None e = refl
-
--- a value as the words hold it
-pub held-exact : (a b : Value) → valueOf a ≡ valueOf b → a ≡ b
-held-exact (value.Is v) (value.Is w) e = let j : v ≡ w = cc in ap value.Is j
-held-exact (value.Is v) value.None e = cc
-held-exact value.None (value.Is w) e = cc
-held-exact value.None value.None e = refl

@@ -7,9 +7,6 @@ use Rattle.outcome.specs.Equations.{by-equation, by-three, by-two, memor
 pub host-answers-done : One host_answers.done.ended host_answers.done.Reads.Learnt
 host-answers-done κs a r s ms ns p q = by-equation p q
 
-pub host-answers-verdict : One host_answers.verdict.ended host_answers.verdict.Reads.Learnt
-host-answers-verdict κs a r s ms ns p q = by-equation p q
-
 pub host-answers-whether : One host_answers.whether.ended host_answers.whether.Reads.Learnt
 host-answers-whether κs a r s ms ns p q = by-two p q
 
@@ -28,14 +25,8 @@ host-answers-root κs a r s ms ns p q = by-two p q
 pub host-answers-resolved : One host_answers.resolved.ended host_answers.resolved.Reads.Learnt
 host-answers-resolved κs a r s ms ns p q = by-two p q
 
-pub host-answers-listed : One host_answers.listed.ended host_answers.listed.Reads.Learnt
-host-answers-listed κs a r s ms ns p q = by-two p q
-
-pub host-answers-above : One host_answers.above.ended host_answers.above.Reads.Learnt
-host-answers-above κs a r s ms ns p q = by-two p q
-
-pub host-answers-registered : One host_answers.registered.ended host_answers.registered.Reads.Learnt
-host-answers-registered κs a r s ms ns p q = by-two p q
+pub host-answers-optional : One host_answers.optional.ended host_answers.optional.Reads.Learnt
+host-answers-optional κs a r s ms ns p q = by-two p q
 
 pub host-answers-begun : One host_answers.begun.ended host_answers.begun.Reads.Learnt
 host-answers-begun κs a r s ms ns p q = by-two p q
@@ -54,9 +45,6 @@ host-answers-child κs a r s ms ns p q = by-two p q
 
 pub host-answers-reading : One host_answers.reading.ended host_answers.reading.Reads.Learnt
 host-answers-reading κs a r s ms ns p q = by-two p q
-
-pub host-answers-value : One host_answers.value.ended host_answers.value.Reads.Learnt
-host-answers-value κs a r s ms ns p q = by-two p q
 
 pub host-answers-yes-or-no : One host_answers.«yes_or_no».ended host_answers.«yes_or_no».Reads.Learnt
 host-answers-yes-or-no κs a r s ms ns p q = by-two p q

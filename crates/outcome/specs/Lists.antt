@@ -1,8 +1,8 @@
 -- Each promise of these crates allows one outcome: the forms that the rules and the code share, and lists of keys and ports.
-use Rattle.ports_listed.specs.Answers.{answer-exact}
 use Rattle.ports.specs.Answers.{resolved-exact}
 use Rattle.slot.specs.Exact.{decided-exact, slot-exact}
 use Rattle.rules.proofs as rules
+use Rattle.rules.specs.Answers.{number-exact}
 use Rattle.slot.proofs as slot
 use Rattle.ports_listed.proofs as ports_listed
 use Rattle.ports.proofs as ports
@@ -39,7 +39,7 @@ pub slot-Slot-cancel : One slot.Slot.cancel.ended slot.Slot.cancel.Reads.Learnt
 slot-Slot-cancel κs a r s ms ns p q = one-outcome decided-exact p q
 
 pub ports-listed-list-ports : One ports_listed.«list_ports».ended ports_listed.«list_ports».Reads.Learnt
-ports-listed-list-ports κs a r s ms ns p q = one-with-memory answer-exact p q
+ports-listed-list-ports κs a r s ms ns p q = one-with-memory number-exact p q
 
 pub ports-bad-realms : One ports.«bad_realms».ended ports.«bad_realms».Reads.Learnt
 ports-bad-realms κs a r s ms ns p q = by-equation p q

@@ -11,12 +11,11 @@ use contract.Monad.{Fun, fact}
 use denote.Ref.{now}
 use denote.Triple.Entry.{Args}
 use denote.Triple.Clauses.{AtExit}
+use Rattle.rules.specs.Answers.{done-exact, whether-exact, number-exact}
 use Rattle.registry_replace.specs.Recipes.{changeOf}
 use Rattle.registry_replace.specs.declared.Replaced.{Replaced}
 use Rattle.registry_admit.specs.Answers.{admits-exact, admitted-exact, called-exact}
 use Rattle.registry_queries.specs.Answers.{perhaps-exact, port-exact}
-use Rattle.ports_listed.specs.Answers.{answer-exact}
-use Rattle.memory_life.specs.Told.{done-exact, whether-exact}
 use Rattle.registry_replace.specs.Answers.{replaced-exact}
 use Rattle.registry_queries.proofs as registry_queries
 use Rattle.registry_retire.proofs as registry_retire
@@ -28,7 +27,7 @@ use Rattle.registry_live.proofs as registry_live
 use Rattle.registry_admit.proofs as registry_admit
 use Rattle.outcome.specs.One.{One, Promise}
 use Rattle.outcome.specs.Equations.{by-equation, memory-alone, one-outcome, one-with-memory}
-use Rattle.outcome.specs.Answers.{begun-exact, child-exact, number-exact, root-exact}
+use Rattle.outcome.specs.Answers.{begun-exact, child-exact, root-exact}
 
 pub registry-queries-parent : One registry_queries.parent.ended registry_queries.parent.Reads.Learnt
 registry-queries-parent κs a r s ms ns p q = one-outcome perhaps-exact p q
@@ -58,13 +57,13 @@ pub registry-queries-dependency-port : One registry_queries.«dependency_port».
 registry-queries-dependency-port κs a r s ms ns p q = one-outcome port-exact p q
 
 pub registry-queries-list-dependencies : One registry_queries.«list_dependencies».ended registry_queries.«list_dependencies».Reads.Learnt
-registry-queries-list-dependencies κs a r s ms ns p q = one-with-memory answer-exact p q
+registry-queries-list-dependencies κs a r s ms ns p q = one-with-memory number-exact p q
 
 pub registry-queries-list-provisions : One registry_queries.«list_provisions».ended registry_queries.«list_provisions».Reads.Learnt
-registry-queries-list-provisions κs a r s ms ns p q = one-with-memory answer-exact p q
+registry-queries-list-provisions κs a r s ms ns p q = one-with-memory number-exact p q
 
 pub registry-queries-list-realms : One registry_queries.«list_realms».ended registry_queries.«list_realms».Reads.Learnt
-registry-queries-list-realms κs a r s ms ns p q = one-with-memory answer-exact p q
+registry-queries-list-realms κs a r s ms ns p q = one-with-memory number-exact p q
 
 pub registry-retire-retire : One registry_retire.retire.ended registry_retire.retire.Reads.Learnt
 registry-retire-retire κs a r s ms ns p q = one-with-memory done-exact p q

@@ -1,8 +1,7 @@
 -- Each promise of these crates allows one outcome: values, settling, offers and registration.
+use Rattle.rules.specs.Answers.{done-exact, whether-exact, number-exact, option-exact, option-answer-exact}
 use Rattle.registry_queries.specs.Answers.{perhaps-exact, port-exact}
-use Rattle.memory_life.specs.Told.{done-exact, whether-exact}
-use Rattle.registry_register.specs.Written.{registered-exact}
-use Rattle.registry_values.specs.Answers.{reading-exact, value-exact}
+use Rattle.registry_values.specs.Answers.{reading-exact}
 use Rattle.memory_values.proofs as memory_values
 use Rattle.registry_ready_finish.proofs as registry_ready_finish
 use Rattle.registry_values.proofs as registry_values
@@ -11,16 +10,15 @@ use Rattle.registry_checks.proofs as registry_checks
 use Rattle.registry_register.proofs as registry_register
 use Rattle.outcome.specs.One.{One}
 use Rattle.outcome.specs.Equations.{by-equation, memory-alone, one-outcome, one-with-memory}
-use Rattle.outcome.specs.Answers.{held-exact}
 
 pub memory-values-value-at : One memory_values.«value_at».ended memory_values.«value_at».Reads.Learnt
-memory-values-value-at κs a r s ms ns p q = one-outcome held-exact p q
+memory-values-value-at κs a r s ms ns p q = one-outcome option-exact p q
 
 pub memory-values-place-of : One memory_values.«place_of».ended memory_values.«place_of».Reads.Learnt
 memory-values-place-of κs a r s ms ns p q = by-equation p q
 
 pub memory-values-value-of : One memory_values.«value_of».ended memory_values.«value_of».Reads.Learnt
-memory-values-value-of κs a r s ms ns p q = one-outcome held-exact p q
+memory-values-value-of κs a r s ms ns p q = one-outcome option-exact p q
 
 pub memory-values-first-lacking : One memory_values.«first_lacking».ended memory_values.«first_lacking».Reads.Learnt
 memory-values-first-lacking κs a r s ms ns p q = by-equation p q
@@ -41,7 +39,7 @@ pub registry-values-read : One registry_values.read.ended registry_values.read.R
 registry-values-read κs a r s ms ns p q = one-outcome reading-exact p q
 
 pub registry-values-visible : One registry_values.visible.ended registry_values.visible.Reads.Learnt
-registry-values-visible κs a r s ms ns p q = one-outcome value-exact p q
+registry-values-visible κs a r s ms ns p q = one-outcome option-answer-exact p q
 
 pub registry-values-own : One registry_values.own.ended registry_values.own.Reads.Learnt
 registry-values-own κs a r s ms ns p q = one-outcome perhaps-exact p q
@@ -68,4 +66,4 @@ pub registry-checks-late-verdict : One registry_checks.«late_verdict».ended re
 registry-checks-late-verdict κs a r s ms ns p q = by-equation p q
 
 pub registry-register-register : One registry_register.register.ended registry_register.register.Reads.Learnt
-registry-register-register κs a r s ms ns p q = one-with-memory registered-exact p q
+registry-register-register κs a r s ms ns p q = one-with-memory number-exact p q

@@ -1,6 +1,6 @@
 -- Each promise of these crates allows one outcome: a registry's words, and a slot's.
 use denote.Ref.{now}
-use Rattle.slot.specs.Exact.{verdict-exact}
+use Rattle.rules.specs.Answers.{done-exact, option-answer-exact}
 use Rattle.memory.proofs as memory
 use Rattle.memory_lists.proofs as memory_lists
 use Rattle.slot_words.proofs as slot_words
@@ -12,7 +12,7 @@ use Rattle.memory_entry.proofs as memory_entry
 use Rattle.memory_providers.proofs as memory_providers
 use Rattle.outcome.specs.One.{One, OneSeen}
 use Rattle.outcome.specs.Equations.{by-equation, memory-alone, one-outcome, one-with-memory}
-use Rattle.outcome.specs.Answers.{above-exact, parent-exact}
+use Rattle.outcome.specs.Answers.{parent-exact}
 
 pub memory-Life-with-phase : One memory.Life.«with_phase».ended memory.Life.«with_phase».Reads.Learnt
 memory-Life-with-phase κs a r s ms ns p q = by-equation p q
@@ -90,13 +90,13 @@ pub slot-words-store : One slot_words.store.ended slot_words.store.Reads.Learnt
 slot-words-store κs a r s ms ns p q = memory-alone p q
 
 pub slot-words-assign : One slot_words.assign.ended slot_words.assign.Reads.Learnt
-slot-words-assign κs a r s ms ns p q = one-with-memory verdict-exact p q
+slot-words-assign κs a r s ms ns p q = one-with-memory done-exact p q
 
 pub slot-words-reject : One slot_words.reject.ended slot_words.reject.Reads.Learnt
-slot-words-reject κs a r s ms ns p q = one-with-memory verdict-exact p q
+slot-words-reject κs a r s ms ns p q = one-with-memory done-exact p q
 
 pub slot-words-cancel : One slot_words.cancel.ended slot_words.cancel.Reads.Learnt
-slot-words-cancel κs a r s ms ns p q = one-with-memory verdict-exact p q
+slot-words-cancel κs a r s ms ns p q = one-with-memory done-exact p q
 
 pub memory-life-phase-of : One memory_life.«phase_of».ended memory_life.«phase_of».Reads.Learnt
 memory-life-phase-of κs a r s ms ns p q = by-equation p q
@@ -129,7 +129,7 @@ pub memory-places-rows-in-use : One memory_places.«rows_in_use».ended memory_p
 memory-places-rows-in-use κs a r s ms ns p q = by-equation p q
 
 pub memory-places-id-from : One memory_places.«id_from».ended memory_places.«id_from».Reads.Learnt
-memory-places-id-from κs a r s ms ns p q = one-outcome above-exact p q
+memory-places-id-from κs a r s ms ns p q = one-outcome option-answer-exact p q
 
 pub memory-rows-free-place : One memory_rows.«free_place».ended memory_rows.«free_place».Reads.Learnt
 memory-rows-free-place κs a r s ms ns p q = memory-alone p q

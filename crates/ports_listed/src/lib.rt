@@ -4,13 +4,10 @@ ghost use mathlib.Core.List.{_++_};
 ghost use Prim.Native.Nat.{_≤_};
 ghost use lib.ListN.{length, drop};
 ghost use Rattle.rules.specs.Ports.{pairs, flat};
-ghost use Rattle.ports_listed.specs.Answers.{listedAnswer, Lists};
+ghost use Rattle.rules.specs.Answers.{numberAnswer};
+ghost use Rattle.ports_listed.specs.Answers.{Lists};
+use rules::Number;
 use rules::refusal;
-
-pub enum Listed {
-    Count(usize),
-    Refused(u64),
-}
 
 // The pair writer: the whole pairs of a list go to the front of out; its rest stays.
 fn put_pairs(ports: &[u64], out: &mut [u64])
@@ -25,16 +22,16 @@ fn put_pairs(ports: &[u64], out: &mut [u64])
 }
 
 // 23 if the place is past the end or the room from it to the end is too small; nothing is written then.
-pub fn list_ports(ports: &[u64], buffer: &mut [u64], place: usize) -> Listed
-    ensures { λ r. ⌜ Lists (pairs (now (ports .entry))) place (now (buffer .entry)) (listedAnswer r) (now (buffer .exit)) ⌝ }
+pub fn list_ports(ports: &[u64], buffer: &mut [u64], place: usize) -> Number
+    ensures { λ r. ⌜ Lists (pairs (now (ports .entry))) place (now (buffer .entry)) (numberAnswer r) (now (buffer .exit)) ⌝ }
 {
     let count = ports.len() / 2;
     if buffer.len() < place {
-        return Listed::Refused(refusal::SHORT_BUFFER);
+        return Number::Refused(refusal::SHORT_BUFFER);
     }
     if buffer.len() - place < count * 2 {
-        return Listed::Refused(refusal::SHORT_BUFFER);
+        return Number::Refused(refusal::SHORT_BUFFER);
     }
     put_pairs(ports, &mut buffer[place..]);
-    Listed::Count(count)
+    Number::Is(count as u64)
 }

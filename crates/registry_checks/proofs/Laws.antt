@@ -25,8 +25,8 @@ use Rattle.memory.specs.declared.Place.{Place}
 use Rattle.memory.specs.declared.Place.the-variants.{At, None}
 use Rattle.ports_resolved.specs.Keys.{keysRepeat}
 use Rattle.ports_resolved.specs.Answers.{keys-repeat-in}
-use Rattle.registry_checks.specs.declared.Checked.{Checked}
-use Rattle.registry_checks.specs.declared.Checked.the-variants.{Passed, Refused}
+use Rattle.rules.specs.declared.Done.{Done}
+use Rattle.rules.specs.declared.Done.the-variants.{Accepted, Refused}
 use Rattle.registry_checks.specs.declared.Early.{Early}
 use Rattle.registry_checks.specs.declared.Early.the-variants as early
 use Rattle.registry_checks.specs.Verdicts.{verdict, under, placeAbove}
@@ -38,7 +38,7 @@ unfolding view
 next-of m n e = e
 
 module _ (m : List ℕ) (u d c n : ℕ) (e : n ≡ word m nextWord) where
-  abbrev room : Checked
+  abbrev room : Done
   room = verdict (roomChecks (view m) d (u + (d + c)))
 
   pub late-no-id : n ≡ last → Refused 9 ≡ room
@@ -66,7 +66,7 @@ module _ (m : List ℕ) (u d c n : ℕ) (e : n ≡ word m nextWord) where
         unfolding verdict
         late-rows o = rw (some-id, some-place, le-ltb maxDependencies d l, lt-ltb maxRows (u + (d + c)) o)
 
-        pub late-pass : u + (d + c) ≤ maxRows → Passed ≡ room
+        pub late-pass : u + (d + c) ≤ maxRows → Accepted ≡ room
         unfolding verdict
         late-pass o = rw (some-id, some-place, le-ltb maxDependencies d l, le-ltb maxRows (u + (d + c)) o)
 
@@ -86,7 +86,7 @@ module _ (m : List ℕ) (p : Parent) where
 
     -- by the mark and the phase of a found parent
     module _ (i : ℕ) (e : findAt m id ≡ At i) (l : Life) (g : l ≡ lifeAt m (i % places)) where
-      known : of-parent ≡ under (At i) (pick (l .retired) (Refused 2) (pick (isUnloading (l .phase)) (Refused 3) Passed))
+      known : of-parent ≡ under (At i) (pick (l .retired) (Refused 2) (pick (isUnloading (l .phase)) (Refused 3) Accepted))
       unfolding verdict pluginAt
       known =
           let same : l ≡ lifeAt m i = g ∙ ap (lifeAt m) (at-place m id i e) in
@@ -134,10 +134,10 @@ module _ (r : Registry) (d : Definition) (at : Place) where
             z ∙ sym (ap (under at) (rest ∙ v))
 
         module _ (q : Place) (z : p ≡ early.Passed q) where
-          passed : verdict (parentChecks r (d .parent)) ≡ Passed
+          passed : verdict (parentChecks r (d .parent)) ≡ Accepted
           passed = under-passed at _ q (sym f ∙ z) .0
 
-          last-check : verdict (askedChecks r d) ≡ pick (keysRepeat (d .dependencies)) (Refused 6) Passed
+          last-check : verdict (askedChecks r d) ≡ pick (keysRepeat (d .dependencies)) (Refused 6) Accepted
           unfolding verdict
           last-check = rest ∙ verdict-then (parentChecks r (d .parent)) six passed ∙ rw (keys-repeat-in (realmsOf (d .realms)) (d .dependencies))
 
@@ -148,7 +148,7 @@ module _ (r : Registry) (d : Definition) (at : Place) where
 
           pub early-pass : keysRepeat (d .dependencies) ≡ false → p ≡ asks
           early-pass t =
-              let v : verdict (askedChecks r d) ≡ Passed = last-check ∙ rw t in
+              let v : verdict (askedChecks r d) ≡ Accepted = last-check ∙ rw t in
               f ∙ ap (under at) (passed ∙ sym v)
 
 -- 7, 8
@@ -162,6 +162,6 @@ module _ (r : Registry) (ports : List Port) (b : Bool) (e : b ≡ repeats ports)
     unfolding verdict
     claim-8 u = rw (sym e ∙ t, sym f ∙ u)
 
-    pub claim-pass : d ≡ false → Passed ≡ verdict (claimChecks r ports)
+    pub claim-pass : d ≡ false → Accepted ≡ verdict (claimChecks r ports)
     unfolding verdict
     claim-pass u = rw (sym e ∙ t, sym f ∙ u)

@@ -11,22 +11,22 @@ use Rattle.rules.specs.Registration.{Definition, claimed, dependenciesOf, newPl
 use Rattle.rules.specs.Laws.Tests.{by-test}
 use Rattle.rules.specs.Laws.Tests as tests
 use Rattle.memory.specs.declared.Place.{Place}
-use Rattle.registry_checks.specs.declared.Checked.{Checked}
-use Rattle.registry_checks.specs.declared.Checked.the-variants.{Passed, Refused}
+use Rattle.rules.specs.declared.Done.{Done}
+use Rattle.rules.specs.declared.Done.the-variants.{Accepted, Refused}
 use Rattle.registry_checks.specs.declared.Early.the-variants as early
 use Rattle.registry_checks.specs.Verdicts.{verdict, under}
 
 -- a run that refuses does not pass
-clash : {A : Type 0} (n : ℕ) → Refused n ≡ Passed → A
+clash : {A : Type 0} (n : ℕ) → Refused n ≡ Accepted → A
 clash n e = let z : _≡_ {A = ℕ} 0 1 = cc in absurd (omega arith)
 
 -- what the early run says of the verdict and of the parent's place
-pub under-passed : (at : Place) (v : Checked) (k : Place) → under at v ≡ early.Passed k → (v ≡ Passed) × (at ≡ k)
-under-passed at Passed k e = (refl, cc)
+pub under-passed : (at : Place) (v : Done) (k : Place) → under at v ≡ early.Passed k → (v ≡ Accepted) × (at ≡ k)
+under-passed at Accepted k e = (refl, cc)
 under-passed at (Refused n) k e = (cc, cc)
 
-pub under-refused : (at : Place) (v : Checked) (n : ℕ) → under at v ≡ early.Refused n → v ≡ Refused n
-under-refused at Passed n e = cc
+pub under-refused : (at : Place) (v : Done) (n : ℕ) → under at v ≡ early.Refused n → v ≡ Refused n
+under-refused at Accepted n e = cc
 under-refused at (Refused k) n e = let j : k ≡ n = cc in ap Refused j
 
 -- two runs of checks, one after the other
@@ -37,7 +37,7 @@ verdict-first (c ∷ cs) ds n e =
     let ih = verdict-first cs ds n in
     by-test (c .test) (λ t. rw t (rw t at e)) (λ f. rw f (ih (rw f at e)))
 
-pub verdict-then : (cs ds : List Check) → verdict cs ≡ Passed → verdict (cs ++ ds) ≡ verdict ds
+pub verdict-then : (cs ds : List Check) → verdict cs ≡ Accepted → verdict (cs ++ ds) ≡ verdict ds
 unfolding verdict
 verdict-then [] ds e = refl
 verdict-then (c ∷ cs) ds e =
@@ -45,7 +45,7 @@ verdict-then (c ∷ cs) ds e =
     by-test (c .test) (λ t. clash _ (rw t at e)) (λ f. rw f (ih (rw f at e)))
 
 -- every test of a run that passes fails
-pub passes : (cs : List Check) → verdict cs ≡ Passed → tests.Passed cs
+pub passes : (cs : List Check) → verdict cs ≡ Accepted → tests.Passed cs
 unfolding verdict
 passes [] e = tt
 passes (c ∷ cs) e =
@@ -58,7 +58,7 @@ pub record RefusesWith (o : Outcome) (n : ℕ) : Type 0 where
   pub refused : o ≡ refuses refusal []
   pub numbered : number refusal ≡ n
 
-pub checked-pass : (cs : List Check) (o : Outcome) → verdict cs ≡ Passed → checked cs o ≡ o
+pub checked-pass : (cs : List Check) (o : Outcome) → verdict cs ≡ Accepted → checked cs o ≡ o
 unfolding verdict checked
 checked-pass [] o e = refl
 checked-pass (c ∷ cs) o e =
@@ -93,17 +93,17 @@ module _ (r : Registry) (d : Definition) where
   pub early-refuses : (n : ℕ) → verdict asks ≡ Refused n → RefusesWith (register r d) n
   early-refuses n e = refuses-with n (verdict-first asks (claims ++ room) n e)
 
-  module _ (e : verdict asks ≡ Passed) where
+  module _ (e : verdict asks ≡ Accepted) where
     pub claims-refuse : (n : ℕ) → verdict claims ≡ Refused n → RefusesWith (register r d) n
     claims-refuse n f = refuses-with n (verdict-then asks (claims ++ room) e ∙ verdict-first claims room n f)
 
-    module _ (f : verdict claims ≡ Passed) where
+    module _ (f : verdict claims ≡ Accepted) where
       all-early : verdict (registrationChecks r d) ≡ verdict room
       all-early = verdict-then asks (claims ++ room) e ∙ verdict-then claims room f
 
       pub late-refuses : (n : ℕ) → verdict room ≡ Refused n → RefusesWith (register r d) n
       late-refuses n g = refuses-with n (all-early ∙ g)
 
-      pub all-pass : verdict room ≡ Passed → register r d ≡ adds (newPlugin r d) (r .next ∷ [])
+      pub all-pass : verdict room ≡ Accepted → register r d ≡ adds (newPlugin r d) (r .next ∷ [])
       unfolding register
       all-pass g = checked-pass (registrationChecks r d) _ (all-early ∙ g)

@@ -11,20 +11,20 @@ use Rattle.memory.specs.declared.Parent.{Parent}
 use Rattle.memory.specs.declared.Parent.the-variants as parent
 use Rattle.memory.specs.declared.Place.{Place}
 use Rattle.memory.specs.declared.Place.the-variants.{None}
-use Rattle.registry_checks.specs.declared.Checked.{Checked}
-use Rattle.registry_checks.specs.declared.Checked.the-variants as checked
+use Rattle.rules.specs.declared.Done.{Done}
+use Rattle.rules.specs.declared.Done.the-variants as done
 use Rattle.registry_checks.specs.declared.Early.{Early}
 use Rattle.registry_checks.specs.declared.Early.the-variants as early
 
 -- passed, or the number of the first check that refuses
-unfoldable pub verdict : List Check → Checked
-verdict [] = checked.Passed
-verdict (c ∷ cs) = pick (c .test) (checked.Refused (number (c .refusal))) (verdict cs)
+unfoldable pub verdict : List Check → Done
+verdict [] = done.Accepted
+verdict (c ∷ cs) = pick (c .test) (done.Refused (number (c .refusal))) (verdict cs)
 
 -- the same under a parent at a place
-abbrev pub under : Place → Checked → Early
-under at checked.Passed = early.Passed at
-under at (checked.Refused n) = early.Refused n
+abbrev pub under : Place → Done → Early
+under at done.Accepted = early.Passed at
+under at (done.Refused n) = early.Refused n
 
 -- the parent's place; nowhere without a parent
 abbrev pub placeAbove : List ℕ → Parent → Place

@@ -9,15 +9,10 @@ ghost use Rattle.registry_checks.specs.Verdicts.{verdict, under, placeAb
 use memory::Parent;
 use memory::Place;
 use memory::WORDS;
+use rules::Done;
 use rules::Phase;
 use rules::limits;
 use rules::refusal;
-
-// What a run comes to: every check passes, or the first that refuses has this number.
-pub enum Checked {
-    Passed,
-    Refused(u64),
-}
 
 // The same of the early run, with the place of the parent; nowhere without one.
 pub enum Early {
@@ -79,40 +74,40 @@ pub fn early_verdict(
 }
 
 // 7, 8.
-pub fn claim_verdict(m: &[u64; WORDS], list: &[u64]) -> Checked
+pub fn claim_verdict(m: &[u64; WORDS], list: &[u64]) -> Done
     ensures { λ r. ⌜ r ≡ verdict (claimChecks (view (now (m .entry))) (pairs (now (list .entry)))) ⌝ }
 {
     if ports::repeated(list) {
-        return Checked::Refused(refusal::DUPLICATE_PROVISION);
+        return Done::Refused(refusal::DUPLICATE_PROVISION);
     }
     if memory_providers::one_provided(m, list) {
-        return Checked::Refused(refusal::TAKEN);
+        return Done::Refused(refusal::TAKEN);
     }
-    Checked::Passed
+    Done::Accepted
 }
 
 // 9, 10, 11, 12, where so many rows are in use.
-pub fn late_verdict(m: &[u64; WORDS], rows: usize, dependencies: usize, claims: usize) -> Checked
+pub fn late_verdict(m: &[u64; WORDS], rows: usize, dependencies: usize, claims: usize) -> Done
     ensures { λ r. ⌜ r ≡ verdict (roomChecks (view (now (m .entry))) dependencies (rows + (dependencies + claims))) ⌝ }
 {
     let registered = memory_places::registered(m);
     if memory::next_id(m) == u64::MAX {
-        return Checked::Refused(refusal::NO_ID);
+        return Done::Refused(refusal::NO_ID);
     }
     if limits::PLUGINS <= registered as usize {
-        return Checked::Refused(refusal::FULL);
+        return Done::Refused(refusal::FULL);
     }
     if limits::DEPENDENCIES < dependencies {
-        return Checked::Refused(refusal::TOO_LONG);
+        return Done::Refused(refusal::TOO_LONG);
     }
     if limits::ROWS < rows {
-        return Checked::Refused(refusal::NO_ROWS);
+        return Done::Refused(refusal::NO_ROWS);
     }
     if limits::ROWS - rows < dependencies {
-        return Checked::Refused(refusal::NO_ROWS);
+        return Done::Refused(refusal::NO_ROWS);
     }
     if limits::ROWS - rows - dependencies < claims {
-        return Checked::Refused(refusal::NO_ROWS);
+        return Done::Refused(refusal::NO_ROWS);
     }
-    Checked::Passed
+    Done::Accepted
 }

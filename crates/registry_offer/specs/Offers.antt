@@ -26,8 +26,9 @@ use Rattle.memory_lists.specs.Listed.{provided-at}
 use Rattle.memory_life.specs.Told.{life-found}
 use Rattle.ports.specs.declared.Found.{Found}
 use Rattle.ports.specs.declared.Found.the-variants as found
-use Rattle.memory_values.specs.declared.Value.{Value}
-use Rattle.memory_values.specs.Values.{valueOf, portFrom, withValue}
+use Rattle.rules.specs.declared.Optional.{Optional}
+use Rattle.rules.specs.Answers.{optionOf}
+use Rattle.memory_values.specs.Values.{portFrom, withValue}
 use Rattle.memory_values.specs.Firsts.{port-there, port-nothing, port-below, provisions-at, value-there}
 use Rattle.registry_offer.specs.Rules.{closed, withOffered, offers}
 use Rattle.registry_offer.specs.Words.{valuePut, portPut, offeredTo}
@@ -94,7 +95,7 @@ module _ (m : List ℕ) (id : ℕ) (q : Port) (v : ℕ) where
       unfolding checked
       offered-undeclared n = refused Undeclared (offer-found ∙ rw (closed-is ∙ o, undeclared m i q (found-is ∙ n)))
 
-      module _ (j : ℕ) (t : f ≡ found.At j) (x : Value) (y : valueOf x ≡ valueAt m (i % places) (j % maxProvisionKeys)) (c : Bool) (z : c ≡ isSome (valueOf x)) where
+      module _ (j : ℕ) (t : f ≡ found.At j) (x : Optional) (y : optionOf x ≡ valueAt m (i % places) (j % maxProvisionKeys)) (c : Bool) (z : c ≡ isSome (optionOf x)) where
         given-is : isSome (valueIn q (pluginAt m i .provisions)) ≡ c
         given-is =
             let u = found-is ∙ t in

@@ -3,15 +3,14 @@ ghost use mathlib.Core.Path.{_≡_};
 ghost use mathlib.Core.Bool.{not, _&&_};
 ghost use Rattle.rules.specs.Basics.{isSome};
 ghost use Rattle.rules.specs.Holds.{port, isLoading};
-ghost use Rattle.memory_life.specs.Told.{doneAnswer};
-ghost use Rattle.memory_values.specs.Values.{valueOf};
+ghost use Rattle.rules.specs.Answers.{doneAnswer, optionOf};
 ghost use Rattle.registry_offer.specs.Words.{Offers};
 use memory::Life;
 use memory::Place;
 use memory::WORDS;
-use memory_life::Done;
-use memory_values::Value;
 use ports::Found;
+use rules::Done;
+use rules::Optional;
 use rules::Phase;
 use rules::refusal;
 
@@ -28,12 +27,12 @@ fn is_closed(life: Life) -> bool
     }
 }
 
-fn is_given(value: Value) -> bool
-    ensures { λ r. ⌜ r ≡ isSome (valueOf value) ⌝ }
+fn is_given(value: Optional) -> bool
+    ensures { λ r. ⌜ r ≡ isSome (optionOf value) ⌝ }
 {
     match value {
-        Value::Is(_) => true,
-        Value::None => false,
+        Optional::Is(_) => true,
+        Optional::None => false,
     }
 }
 

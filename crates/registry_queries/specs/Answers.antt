@@ -4,18 +4,12 @@ use mathlib.Core.List.{[], _∷_}
 use Rattle.rules.specs.Outcomes.{Answer, Refused, Accepted}
 use Rattle.rules.specs.Ports.{flat}
 use Rattle.rules.specs.Queries.{rootNumbers}
-use Rattle.registry_queries.specs.declared.Number.{Number}
-use Rattle.registry_queries.specs.declared.Number.the-variants as number
 use Rattle.registry_queries.specs.declared.Perhaps.{Perhaps}
 use Rattle.registry_queries.specs.declared.Perhaps.the-variants as perhaps
 use Rattle.registry_queries.specs.declared.APort.{APort}
 use Rattle.registry_queries.specs.declared.APort.the-variants as aport
 use Rattle.registry_queries.specs.declared.ARoot.{ARoot}
 use Rattle.registry_queries.specs.declared.ARoot.the-variants as aroot
-
-abbrev pub numberAnswer : Number → Answer
-numberAnswer (number.Is n) = Accepted (n ∷ [])
-numberAnswer (number.Refused n) = Refused n []
 
 abbrev pub perhapsAnswer : Perhaps → Answer
 perhapsAnswer (perhaps.Is n) = Accepted (n ∷ [])

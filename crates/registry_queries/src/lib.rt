@@ -8,20 +8,15 @@ ghost use Rattle.rules.specs.Lists.{list, Dependencies, Provisions, RealmRows};
 ghost use Rattle.rules.specs.Outcomes.{answerOf, lentAfter, Meets};
 ghost use Rattle.rules.specs.Queries.{askPlugin, Parent, Anchor, PhaseOf, RetiredMark, Generation, Revision, Payload, RootOf};
 ghost use Rattle.rules.specs.Limits.{maxDependencies};
-ghost use Rattle.ports_listed.specs.Answers.{listedAnswer};
+ghost use Rattle.rules.specs.Answers.{numberAnswer};
 ghost use Rattle.memory.specs.View.{view};
-ghost use Rattle.registry_queries.specs.Answers.{numberAnswer, perhapsAnswer, portAnswer, rootAnswer};
+ghost use Rattle.registry_queries.specs.Answers.{perhapsAnswer, portAnswer, rootAnswer};
 use memory::Place;
 use memory::WORDS;
-use ports_listed::Listed;
+use rules::Number;
 use rules::Port;
 use rules::Root;
 use rules::refusal;
-
-pub enum Number {
-    Is(u64),
-    Refused(u64),
-}
 
 pub enum Perhaps {
     Is(u64),
@@ -158,32 +153,32 @@ pub fn dependency_port(m: &[u64; WORDS], id: u64, key: u64) -> APort
 }
 
 // Dependencies, provisions and realm rows, listed into a lent buffer from a place.
-pub fn list_dependencies(m: &[u64; WORDS], id: u64, place: usize, buffer: &mut [u64]) -> Listed
+pub fn list_dependencies(m: &[u64; WORDS], id: u64, place: usize, buffer: &mut [u64]) -> Number
     ensures { λ r. ⌜ Meets lentAfter (list (view (now (m .entry))) Dependencies id place (now (buffer .entry)))
-        (now (buffer .entry)) (listedAnswer r) (now (buffer .exit)) ⌝ }
+        (now (buffer .entry)) (numberAnswer r) (now (buffer .exit)) ⌝ }
 {
     let Place::At(at) = memory::find(m, id) else {
-        return Listed::Refused(refusal::UNKNOWN);
+        return Number::Refused(refusal::UNKNOWN);
     };
     ports_listed::list_ports(memory_lists::dependency_words(m, at), buffer, place)
 }
 
-pub fn list_provisions(m: &[u64; WORDS], id: u64, place: usize, buffer: &mut [u64]) -> Listed
+pub fn list_provisions(m: &[u64; WORDS], id: u64, place: usize, buffer: &mut [u64]) -> Number
     ensures { λ r. ⌜ Meets lentAfter (list (view (now (m .entry))) Provisions id place (now (buffer .entry)))
-        (now (buffer .entry)) (listedAnswer r) (now (buffer .exit)) ⌝ }
+        (now (buffer .entry)) (numberAnswer r) (now (buffer .exit)) ⌝ }
 {
     let Place::At(at) = memory::find(m, id) else {
-        return Listed::Refused(refusal::UNKNOWN);
+        return Number::Refused(refusal::UNKNOWN);
     };
     ports_listed::list_ports(memory_lists::provision_words(m, at), buffer, place)
 }
 
-pub fn list_realms(m: &[u64; WORDS], id: u64, place: usize, buffer: &mut [u64]) -> Listed
+pub fn list_realms(m: &[u64; WORDS], id: u64, place: usize, buffer: &mut [u64]) -> Number
     ensures { λ r. ⌜ Meets lentAfter (list (view (now (m .entry))) RealmRows id place (now (buffer .entry)))
-        (now (buffer .entry)) (listedAnswer r) (now (buffer .exit)) ⌝ }
+        (now (buffer .entry)) (numberAnswer r) (now (buffer .exit)) ⌝ }
 {
     let Place::At(at) = memory::find(m, id) else {
-        return Listed::Refused(refusal::UNKNOWN);
+        return Number::Refused(refusal::UNKNOWN);
     };
     ports_listed::list_ports(memory_lists::realm_words(m, at), buffer, place)
 }

@@ -2,17 +2,17 @@
 ghost use mathlib.Core.Path.{_≡_};
 ghost use Rattle.rules.specs.Outcomes.{Meets};
 ghost use Rattle.rules.specs.Phases.{isSpent, ready, finish};
+ghost use Rattle.rules.specs.Answers.{doneAnswer};
 ghost use Rattle.memory.specs.View.{view};
 ghost use Rattle.memory.specs.Known.{storedLife};
-ghost use Rattle.memory_life.specs.Told.{doneAnswer};
 ghost use Rattle.registry_ready_finish.specs.Finished.{finishedTo};
 use memory::Life;
 use memory::Place;
 use memory::WORDS;
-use memory_life::Done;
 use ports::Found;
 use registry_table::Cell;
 use registry_table::Step;
+use rules::Done;
 use rules::Root;
 use rules::refusal;
 

@@ -21,8 +21,8 @@ use Rattle.memory_places.specs.Free.{free-at, count-full}
 use Rattle.memory_entry.specs.Entries.{filledPlace}
 use Rattle.memory_entry.specs.declared.Entry.{Entry}
 use Rattle.rules.specs.Registration.{roomChecks}
-use Rattle.registry_checks.specs.declared.Checked.{Checked}
-use Rattle.registry_checks.specs.declared.Checked.the-variants as checked
+use Rattle.rules.specs.declared.Done.{Done}
+use Rattle.rules.specs.declared.Done.the-variants as done
 use Rattle.registry_checks.specs.Verdicts.{verdict}
 use Rattle.registry_checks.specs.Runs.{passes}
 use Rattle.registry_register.specs.Written.{newEntry, lateVerdict, settledAnswer, settledWords}
@@ -33,17 +33,17 @@ all-rows l n h = take-all (length l) l (omega arith) ∙ sym (take-all (n * 2) l
 
 -- The late checks refuse, or the plugin is written.
 module _ (m : List ℕ) (parent : Option ℕ) (payload count : ℕ) (ds cs zs : List ℕ) (u : ℕ) (i : u ≡ rowsInUse (view m))
-    (v : Checked) (given : v ≡ verdict (roomChecks (view m) count (u + (count + length cs / 2)))) where
+    (v : Done) (given : v ≡ verdict (roomChecks (view m) count (u + (count + length cs / 2)))) where
   e : v ≡ lateVerdict m count cs
   e = given ∙ ap (λ x. verdict (roomChecks (view m) count (x + (count + length cs / 2)))) i
 
-  pub settle-refuses : (n : ℕ) → v ≡ checked.Refused n → (Refused n [] ≡ settledAnswer m count cs) × (m ≡ settledWords m parent payload count ds cs zs)
+  pub settle-refuses : (n : ℕ) → v ≡ done.Refused n → (Refused n [] ≡ settledAnswer m count cs) × (m ≡ settledWords m parent payload count ds cs zs)
   unfolding settledAnswer settledWords
   settle-refuses n z =
-      let f : lateVerdict m count cs ≡ checked.Refused n = sym e ∙ z in
+      let f : lateVerdict m count cs ≡ done.Refused n = sym e ∙ z in
       (rw f, rw f)
 
-  module _ (z : v ≡ checked.Passed) where
+  module _ (z : v ≡ done.Accepted) where
     passed : Passed (roomChecks (view m) count (rowsInUse (view m) + (count + length cs / 2)))
     passed = passes (roomChecks (view m) count (rowsInUse (view m) + (count + length cs / 2))) (sym e ∙ z)
 
@@ -63,7 +63,7 @@ module _ (m : List ℕ) (parent : Option ℕ) (payload count : ℕ) (ds cs zs : 
         → (Accepted (n .id ∷ []) ≡ settledAnswer m count cs) × (m′ ≡ settledWords m parent payload count ds cs zs)
     unfolding settledAnswer settledWords
     settle-writes at f b g n h m′ s =
-        let t : lateVerdict m count cs ≡ checked.Passed = sym e ∙ z in
+        let t : lateVerdict m count cs ≡ done.Accepted = sym e ∙ z in
         let p : at % places ≡ at = mod-eq-of-lt (free-at m at f .below) in
         let k : n ≡ newEntry m parent payload count (length cs / 2 - 1) (length zs / 2) = h ∙ ap (λ x. newEntry m parent payload count x (length zs / 2)) g in
         (rw t (ap (λ (x : Entry). Accepted (x .id ∷ [])) k), rw (t, f) (s ∙ ap (λ x. filledPlace m x n ds cs zs) p ∙ ap (λ x. filledPlace m at x ds cs zs) k))

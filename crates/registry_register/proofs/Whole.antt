@@ -35,15 +35,16 @@ use Rattle.ports_resolved.specs.Answers.{map-resolve, claims-law}
 use Rattle.ports_inherited.specs.declared.Dependencies.{Dependencies}
 use Rattle.ports_inherited.specs.Blocks.{fitted}
 use Rattle.ports_inherited.specs.Answers.{dependency-law, fitted-law, fitted-long}
-use Rattle.registry_checks.specs.declared.Checked.{Checked}
-use Rattle.registry_checks.specs.declared.Checked.the-variants as checked
+use Rattle.rules.specs.declared.Done.{Done}
+use Rattle.rules.specs.declared.Done.the-variants as done
 use Rattle.registry_checks.specs.declared.Early.{Early}
 use Rattle.registry_checks.specs.declared.Early.the-variants as early
 use Rattle.registry_checks.specs.Verdicts.{verdict, under, placeAbove}
 use Rattle.registry_checks.specs.Runs.{under-passed, under-refused, passes, RefusesWith, asks, claims, room, early-refuses, claims-refuse, late-refuses, all-pass}
 use Rattle.registry_register.specs.Parts.{dependenciesAt}
-use Rattle.registry_register.specs.Written.{registeredAnswer, definition, newEntry, writtenAt, addedTo, lateVerdict, settledAnswer, settledWords}
-use Rattle.registry_register.specs.declared.Registered.{Registered}
+use Rattle.registry_register.specs.Written.{definition, newEntry, writtenAt, addedTo, lateVerdict, settledAnswer, settledWords}
+use Rattle.rules.specs.declared.Number.{Number}
+use Rattle.rules.specs.Answers.{numberAnswer}
 
 -- a list that is too long is refused by its count too
 room-fitted : (r : Registry) (u : ℕ) (l : List Port) (c : ℕ)
@@ -87,7 +88,7 @@ module _ (m : List ℕ) (parent : Parent) (anchor : Port) (zs ks vs : List ℕ) 
 
     module _ (above : Place) (passed : v ≡ early.Passed above) (c : Claimed) (made : c ≡ claimsOf 0 (pairs zs) anchor vs)
         (cw : List ℕ) (front : cw ≡ take (c .count * 2) (c .ports)) where
-      e : verdict (asks r d) ≡ checked.Passed
+      e : verdict (asks r d) ≡ done.Accepted
       e = under-passed (placeAbove m parent) (verdict (asks r d)) above (sym said ∙ passed) .0
 
       place : placeAbove m parent ≡ above
@@ -118,18 +119,18 @@ module _ (m : List ℕ) (parent : Parent) (anchor : Port) (zs ks vs : List ℕ) 
       claim-count : length cw / 2 ≡ length (claimed d)
       claim-count = omega (arith, ap length claim-words, length-flat (claimed d))
 
-      module _ (t : Checked) (f : t ≡ verdict (claimChecks r (pairs cw))) where
+      module _ (t : Done) (f : t ≡ verdict (claimChecks r (pairs cw))) where
         taken : t ≡ verdict (claims r d)
         taken = f ∙ ap (λ ps. verdict (claimChecks r ps)) claim-ports
 
-        pub claims-told : (n : ℕ) → t ≡ checked.Refused n → (Refused n [] ≡ answerOf (register r d)) × (m ≡ addedTo m (register r d))
+        pub claims-told : (n : ℕ) → t ≡ done.Refused n → (Refused n [] ≡ answerOf (register r d)) × (m ≡ addedTo m (register r d))
         claims-told n z = refused n (claims-refuse r d e n (sym taken ∙ z))
 
-        module _ (free : t ≡ checked.Passed) (pw : List ℕ) (rest : pw ≡ part cw 2 (length cw))
+        module _ (free : t ≡ done.Accepted) (pw : List ℕ) (rest : pw ≡ part cw 2 (length cw))
             (iw : List ℕ) (rows : iw ≡ dependenciesAt m above)
             (l : Dependencies) (listed : l ≡ fitted (dependencyList (realmsWith 0 zs) (pairs pw) (take maxDependencyKeys ks) (pairs iw)))
             (dw : List ℕ) (first : dw ≡ take (l .count * 2) (l .ports)) where
-          none-taken : verdict (claims r d) ≡ checked.Passed
+          none-taken : verdict (claims r d) ≡ done.Accepted
           none-taken = sym taken ∙ free
 
           provisions : pairs pw ≡ resolved d vs
@@ -149,7 +150,7 @@ module _ (m : List ℕ) (parent : Parent) (anchor : Port) (zs ks vs : List ℕ) 
               ∙ room-fitted r (rowsInUse r) (dependenciesOf r d) (length (claimed d))
               ∙ ap (λ n. verdict (roomChecks r (length (dependenciesOf r d)) (rowsInUse r + n))) (sym new-rows)
 
-          module _ (z : lateVerdict m (l .count) cw ≡ checked.Passed) where
+          module _ (z : lateVerdict m (l .count) cw ≡ done.Accepted) where
             accepted : register r d ≡ adds (newPlugin r d) (r .next ∷ [])
             accepted = all-pass r d e none-taken (sym late-is ∙ z)
 
@@ -177,12 +178,12 @@ module _ (m : List ℕ) (parent : Parent) (anchor : Port) (zs ks vs : List ℕ) 
             written = λ i.
                 writtenAt m (freeAt m) (newEntry m (parentId parent) payload (list-count i) (provision-count i) (sym (length-pairs zs) i)) (list-words i) (all-claims i) (realm-words i)
 
-          pub settled-told : (x : Registered) → registeredAnswer x ≡ settledAnswer m (l .count) cw
+          pub settled-told : (x : Number) → numberAnswer x ≡ settledAnswer m (l .count) cw
               → (m′ : List ℕ) → m′ ≡ settledWords m (parentId parent) payload (l .count) dw cw zs
-              → (registeredAnswer x ≡ answerOf (register r d)) × (m′ ≡ addedTo m (register r d))
+              → (numberAnswer x ≡ answerOf (register r d)) × (m′ ≡ addedTo m (register r d))
           unfolding settledAnswer settledWords view
           settled-told x a m′ b = by (lateVerdict m (l .count) cw) refl
             where
-              by : (v : Checked) → lateVerdict m (l .count) cw ≡ v → (registeredAnswer x ≡ answerOf (register r d)) × (m′ ≡ addedTo m (register r d))
-              by checked.Passed z = (a ∙ rw z (rw (accepted z)), b ∙ rw z (written z ∙ ap (addedTo m) (sym (accepted z))))
-              by (checked.Refused n) z = let w = refused n (late-refuses r d e none-taken n (sym late-is ∙ z)) in (a ∙ rw z (w .0), b ∙ rw z (w .1))
+              by : (v : Done) → lateVerdict m (l .count) cw ≡ v → (numberAnswer x ≡ answerOf (register r d)) × (m′ ≡ addedTo m (register r d))
+              by done.Accepted z = (a ∙ rw z (rw (accepted z)), b ∙ rw z (written z ∙ ap (addedTo m) (sym (accepted z))))
+              by (done.Refused n) z = let w = refused n (late-refuses r d e none-taken n (sym late-is ∙ z)) in (a ∙ rw z (w .0), b ∙ rw z (w .1))

@@ -1,6 +1,6 @@
 -- What a registration answers, and the words it leaves.
 use Prim.Native.Nat.{ℕ, _+_, _-_, _/_}
-use mathlib.Core.Path.{_≡_, refl, ap}
+use mathlib.Core.Path.{_≡_, refl}
 use mathlib.Core.List.{List, [], _∷_}
 use mathlib.Core.Option.{Option}
 use lib.ListN.{length}
@@ -21,15 +21,9 @@ use Rattle.memory_entry.specs.Entries.{filledPlace}
 use Rattle.memory_entry.specs.Filled.{filled-size}
 use Rattle.memory_entry.specs.declared.Entry.{Entry}
 use Rattle.registry_checks.specs.Verdicts.{verdict}
-use Rattle.registry_checks.specs.declared.Checked.{Checked}
-use Rattle.registry_checks.specs.declared.Checked.the-variants as checked
+use Rattle.rules.specs.declared.Done.{Done}
+use Rattle.rules.specs.declared.Done.the-variants as done
 use Rattle.registry_register.specs.Parts.{tagOf, wordOf}
-use Rattle.registry_register.specs.declared.Registered.{Registered}
-use Rattle.registry_register.specs.declared.Registered.the-variants as registered
-
-abbrev pub registeredAnswer : Registered → Answer
-registeredAnswer (registered.Id n) = Accepted (n ∷ [])
-registeredAnswer (registered.Refused n) = Refused n []
 
 -- the rules' definition of what is lent
 abbrev pub definition : Parent → Port → List ℕ → List ℕ → List ℕ → ℕ → Definition
@@ -74,16 +68,16 @@ abbrev pub addedTo : List ℕ → Outcome → List ℕ
 addedTo = leftBy adding
 
 -- The late checks and what is written where they pass, by a count of dependencies and the lent lists.
-abbrev pub lateVerdict : List ℕ → ℕ → List ℕ → Checked
+abbrev pub lateVerdict : List ℕ → ℕ → List ℕ → Done
 lateVerdict m count claims = verdict (roomChecks (view m) count (rowsInUse (view m) + (count + length claims / 2)))
 
-abbrev pub answerBy : Checked → ℕ → Answer
-answerBy checked.Passed id = Accepted (id ∷ [])
-answerBy (checked.Refused n) id = Refused n []
+abbrev pub answerBy : Done → ℕ → Answer
+answerBy done.Accepted id = Accepted (id ∷ [])
+answerBy (done.Refused n) id = Refused n []
 
-abbrev pub wordsBy : Checked → List ℕ → List ℕ → List ℕ
-wordsBy checked.Passed m new = new
-wordsBy (checked.Refused n) m new = m
+abbrev pub wordsBy : Done → List ℕ → List ℕ → List ℕ
+wordsBy done.Accepted m new = new
+wordsBy (done.Refused n) m new = m
 
 unfoldable pub settledAnswer : List ℕ → ℕ → List ℕ → Answer
 settledAnswer m count claims = answerBy (lateVerdict m count claims) (word m nextWord)
@@ -106,10 +100,3 @@ written-size m (At p) e dependencies claims realms = filled-size m p e dependenc
 
 pub added-sized : Sized adding
 added-sized = adding-sized _ λ m q. written-size m (freeAt m) _ _ _ _
-
--- Any two outcomes that the promise of a registration allows are equal.
-pub registered-exact : (a b : Registered) → registeredAnswer a ≡ registeredAnswer b → a ≡ b
-registered-exact (registered.Id n) (registered.Id k) e = let j : n ≡ k = cc in ap registered.Id j
-registered-exact (registered.Id n) (registered.Refused k) e = cc
-registered-exact (registered.Refused n) (registered.Id k) e = cc
-registered-exact (registered.Refused n) (registered.Refused k) e = let j : n ≡ k = cc in ap registered.Refused j

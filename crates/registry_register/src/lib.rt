@@ -7,25 +7,21 @@ ghost use Prim.Native.Nat.{_*_, _-_};
 ghost use lib.ListN.{take};
 ghost use Rattle.rules.specs.Holds.{rowsInUse};
 ghost use Rattle.rules.specs.Registration.{register};
+ghost use Rattle.rules.specs.Answers.{numberAnswer};
 ghost use Rattle.memory.specs.Layout.{word, nextWord};
 ghost use Rattle.memory.specs.View.{view};
 ghost use Rattle.memory.specs.Writes.{parentId};
 ghost use Rattle.registry_register.specs.Parts.{dependenciesAt, tagOf, wordOf};
-ghost use Rattle.registry_register.specs.Written.{registeredAnswer, definition, newEntry, Settles, addedTo};
+ghost use Rattle.registry_register.specs.Written.{definition, newEntry, Settles, addedTo};
 use memory::Parent;
 use memory::Place;
 use memory::WORDS;
 use memory_entry::Entry;
-use registry_checks::Checked;
 use registry_checks::Early;
+use rules::Done;
+use rules::Number;
 use rules::Port;
 use rules::refusal;
-
-// The new id, or a refusal.
-pub enum Registered {
-    Id(u64),
-    Refused(u64),
-}
 
 // The dependency rows of the parent at this place; none without a parent.
 fn inherited(m: &[u64; WORDS], parent: Place) -> &[u64]
@@ -110,17 +106,17 @@ fn settle(
     dependencies: &[u64],
     claims: &[u64],
     realms: &[u64],
-) -> Registered
+) -> Number
     ensures { λ r. ⌜ Settles (now (m .entry)) (parentId parent) payload count
-        (now (dependencies .entry)) (now (claims .entry)) (now (realms .entry)) (registeredAnswer r) (now (m .exit)) ⌝ }
+        (now (dependencies .entry)) (now (claims .entry)) (now (realms .entry)) (numberAnswer r) (now (m .exit)) ⌝ }
 {
     let claimed = claims.len() / 2;
     let rows = memory_places::rows_in_use(m);
-    if let Checked::Refused(n) = registry_checks::late_verdict(m, rows, count, claimed) {
-        return Registered::Refused(n);
+    if let Done::Refused(n) = registry_checks::late_verdict(m, rows, count, claimed) {
+        return Number::Refused(n);
     }
     let Place::At(at) = memory_places::lowest_free(m) else {
-        return Registered::Refused(refusal::FULL);
+        return Number::Refused(refusal::FULL);
     };
     let e = entry(
         m,
@@ -132,7 +128,7 @@ fn settle(
         realms.len() / 2,
     );
     memory_entry::fill_place(m, at, e, dependencies, claims, realms);
-    Registered::Id(e.id)
+    Number::Is(e.id)
 }
 
 // 4, 5, the parent's 1, 2, 3, then 6; 7, 8; 9, 10, 11, 12. It answers the new id.
@@ -144,19 +140,19 @@ pub fn register(
     dependencies: &[u64],
     provisions: &[u64],
     payload: u64,
-) -> Registered
+) -> Number
     ensures { λ r. ⌜ Meets addedTo (register (view (now (m .entry)))
         (definition parent anchor (now (realms .entry)) (now (dependencies .entry)) (now (provisions .entry)) payload))
-        (now (m .entry)) (registeredAnswer r) (now (m .exit)) ⌝ }
+        (now (m .entry)) (numberAnswer r) (now (m .exit)) ⌝ }
 {
     let above = match registry_checks::early_verdict(m, parent, realms, dependencies, provisions) {
         Early::Passed(place) => place,
-        Early::Refused(n) => return Registered::Refused(n),
+        Early::Refused(n) => return Number::Refused(n),
     };
     let claimed = ports_resolved::claims(realms, Port::DEFAULT_REALM, anchor, provisions);
     let claims = first_rows(&claimed.ports, claimed.count);
-    if let Checked::Refused(n) = registry_checks::claim_verdict(m, claims) {
-        return Registered::Refused(n);
+    if let Done::Refused(n) = registry_checks::claim_verdict(m, claims) {
+        return Number::Refused(n);
     }
     let provided = memory_lists::some_words(claims, 2, claims.len());
     let list = ports_inherited::dependency_list(

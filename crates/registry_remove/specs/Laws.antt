@@ -18,9 +18,9 @@ use Rattle.memory.specs.declared.Life.{Life}
 use Rattle.memory.specs.declared.Place.the-variants.{At, None}
 use Rattle.memory.specs.Layout.{places}
 use Rattle.memory_rows.specs.Moves.{freedPlace}
-use Rattle.memory_life.specs.Told.{doneAnswer}
-use Rattle.memory_life.specs.declared.Done.{Done}
-use Rattle.memory_life.specs.declared.Done.the-variants as done
+use Rattle.rules.specs.declared.Done.{Done}
+use Rattle.rules.specs.declared.Done.the-variants as done
+use Rattle.rules.specs.Answers.{doneAnswer}
 use Rattle.registry_remove.specs.Words.{removedFrom}
 
 -- an answer, and the words after a removal

@@ -6,17 +6,17 @@ ghost use Rattle.rules.specs.Outcomes.{Meets};
 ghost use Rattle.rules.specs.Basics.{any};
 ghost use Rattle.rules.specs.Holds.{plugins, isIdle};
 ghost use Rattle.rules.specs.Retirement.{isChildOf, remove};
+ghost use Rattle.rules.specs.Answers.{doneAnswer};
 ghost use Rattle.memory.specs.Layout.{domainWord};
 ghost use Rattle.memory.specs.View.{view};
 ghost use Rattle.memory.specs.Writes.{puts};
-ghost use Rattle.memory_life.specs.Told.{doneAnswer};
 ghost use Rattle.registry_remove.specs.Words.{removedFrom};
 use memory::Life;
 use memory::Place;
 use memory::WORDS;
 use memory::layout;
 use memory::layout::PLACES;
-use memory_life::Done;
+use rules::Done;
 use rules::refusal;
 
 // Open: domain, first id and next id, and all places free.

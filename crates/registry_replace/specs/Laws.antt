@@ -18,13 +18,14 @@ use Rattle.memory.specs.Known.{at-place, at-known, none-known}
 use Rattle.memory.specs.declared.Life.{Life}
 use Rattle.memory.specs.declared.Place.the-variants.{At, None}
 use Rattle.memory.specs.Layout.{places}
-use Rattle.memory_life.specs.Told.{life-found, whetherAnswer}
+use Rattle.memory_life.specs.Told.{life-found}
 use Rattle.registry_replace.specs.Answers.{replacedAnswer}
 use Rattle.registry_replace.specs.Recipes.{changeOf, was-last, not-last, recipeOf, fitsBehind, fits-sum}
 use Rattle.registry_replace.specs.Words.{replacing, replacedIn, replaced-at}
 use Rattle.registry_replace.specs.declared.Change.{Change}
 use Rattle.registry_replace.specs.declared.Replaced.the-variants as replaced
-use Rattle.memory_life.specs.declared.Whether.the-variants as whether
+use Rattle.rules.specs.declared.Whether.the-variants as whether
+use Rattle.rules.specs.Answers.{whetherAnswer}
 
 -- what a replacement comes to once the plugin is found
 abbrev tested : ℕ → Plugin → Outcome

@@ -2,14 +2,14 @@
 ghost use mathlib.Core.Path.{_≡_};
 ghost use Rattle.rules.specs.Outcomes.{answerOf, Meets};
 ghost use Rattle.rules.specs.Replacement.{replace, fits};
+ghost use Rattle.rules.specs.Answers.{whetherAnswer};
 ghost use Rattle.memory.specs.View.{view};
-ghost use Rattle.memory_life.specs.Told.{whetherAnswer};
 ghost use Rattle.registry_replace.specs.Answers.{replacedAnswer};
 ghost use Rattle.registry_replace.specs.Recipes.{changeOf, fitsBehind};
 ghost use Rattle.registry_replace.specs.Words.{replacedIn};
 use memory::Place;
 use memory::WORDS;
-use memory_life::Whether;
+use rules::Whether;
 use rules::refusal;
 
 // What a replacement changes of a plugin.

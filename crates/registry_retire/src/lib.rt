@@ -2,13 +2,13 @@
 ghost use mathlib.Core.Path.{_≡_};
 ghost use Rattle.rules.specs.Outcomes.{answerOf, Meets};
 ghost use Rattle.rules.specs.Retirement.{retire, retireChild, childIdentity};
+ghost use Rattle.rules.specs.Answers.{doneAnswer};
 ghost use Rattle.memory.specs.View.{view};
 ghost use Rattle.memory.specs.Known.{storedLife};
-ghost use Rattle.memory_life.specs.Told.{doneAnswer};
 ghost use Rattle.registry_retire.specs.Answers.{identified, childAnswer};
 use memory::Place;
 use memory::WORDS;
-use memory_life::Done;
+use rules::Done;
 use rules::refusal;
 
 // A child identity, none, or a refusal.

@@ -2,15 +2,15 @@
 ghost use mathlib.Core.Path.{_≡_};
 ghost use Rattle.rules.specs.Outcomes.{Meets};
 ghost use Rattle.rules.specs.Phases.{begin, fail, unload};
+ghost use Rattle.rules.specs.Answers.{doneAnswer};
 ghost use Rattle.memory.specs.View.{view};
 ghost use Rattle.memory.specs.Known.{storedLife};
-ghost use Rattle.memory_life.specs.Told.{doneAnswer};
 ghost use Rattle.registry_steps.specs.Answers.{begunAnswer};
 use memory::Place;
 use memory::WORDS;
-use memory_life::Done;
 use registry_table::Cell;
 use registry_table::Step;
+use rules::Done;
 use rules::Generation;
 use rules::refusal;
 

@@ -28,9 +28,10 @@ use Rattle.memory_providers.specs.Providers.{providerAt, provider-view, provide
 use Rattle.ports.specs.Places.{length-pairs, pairs-get}
 use Rattle.ports.specs.declared.Found.{Found}
 use Rattle.ports.specs.declared.Found.the-variants as found
-use Rattle.memory_values.specs.declared.Value.{Value}
-use Rattle.memory_values.specs.declared.Value.the-variants as value
-use Rattle.memory_values.specs.Values.{valueOf, lackFrom}
+use Rattle.rules.specs.declared.Optional.{Optional}
+use Rattle.rules.specs.declared.Optional.the-variants as optional
+use Rattle.rules.specs.Answers.{optionOf}
+use Rattle.memory_values.specs.Values.{lackFrom}
 use Rattle.memory_values.specs.Firsts.{provisions-at, few-words, lack-nothing, lack-within, lack-answer}
 use Rattle.registry_values.specs.Rules.{servedAnswer, givenBy, asks, reads, owns, lacks, fits, declared, tells}
 
@@ -39,14 +40,14 @@ pub told-as : (b c : Bool) → b ≡ c → Accepted (yesNo c ∷ []) ≡ Accepte
 told-as b c e = rw e
 
 -- What the plugin of a place gives.
-module _ (m : List ℕ) (i : ℕ) (q : Port) (x : Value) (h : valueOf x ≡ valueIn q (pluginAt m i .provisions)) where
-  pub gives-value : (n : ℕ) → x ≡ value.Is n → (k : ℕ) → k ≡ idAt m i → Accepted (n ∷ k ∷ []) ≡ givenBy (pluginAt m i) q
+module _ (m : List ℕ) (i : ℕ) (q : Port) (x : Optional) (h : optionOf x ≡ valueIn q (pluginAt m i .provisions)) where
+  pub gives-value : (n : ℕ) → x ≡ optional.Is n → (k : ℕ) → k ≡ idAt m i → Accepted (n ∷ k ∷ []) ≡ givenBy (pluginAt m i) q
   unfolding givenBy servedAnswer pluginAt
-  gives-value n e k g = rw (g, sym h ∙ ap valueOf e)
+  gives-value n e k g = rw (g, sym h ∙ ap optionOf e)
 
-  pub gives-nothing : x ≡ value.None → Refused (number Missing) [] ≡ givenBy (pluginAt m i) q
+  pub gives-nothing : x ≡ optional.None → Refused (number Missing) [] ≡ givenBy (pluginAt m i) q
   unfolding givenBy servedAnswer
-  gives-nothing e = rw (sym h ∙ ap valueOf e)
+  gives-nothing e = rw (sym h ∙ ap optionOf e)
 
 -- Whether it runs.
 module _ (m : List ℕ) (i : ℕ) (life : Life) (l : life ≡ lifeAt m i) (b : Bool) (k : b ≡ (isLoading (life .phase) || isActive (life .phase))) where
@@ -104,7 +105,7 @@ module _ (m : List ℕ) (q : Port) (x : Place) (h : x ≡ providerAt m q) where
     pub visible-waiting : b ≡ false → Accepted [] ≡ answerOf (visible (view m) q)
     visible-waiting f = sym (seen-is (At i) n ∙ rw (active-is ∙ f))
 
-    pub visible-value : b ≡ true → (v : Value) → valueOf v ≡ valueIn q (pluginAt m (i % places) .provisions) → Accepted (one (valueOf v)) ≡ answerOf (visible (view m) q)
+    pub visible-value : b ≡ true → (v : Optional) → optionOf v ≡ valueIn q (pluginAt m (i % places) .provisions) → Accepted (one (optionOf v)) ≡ answerOf (visible (view m) q)
     visible-value t v g =
         ap (λ (y : Option ℕ). Accepted (one y)) (g ∙ ap (λ j. valueIn q (pluginAt m j .provisions)) place-is)
         ∙ sym (seen-is (At i) n ∙ rw (active-is ∙ t))
@@ -139,9 +140,9 @@ module _ (m : List ℕ) (id i : ℕ) (e : findAt m id ≡ At i) where
   found-at : (f : Plugin → Outcome) → known (view m) id f ≡ f (pluginAt m (i % places))
   found-at f = at-known m id i e f ∙ ap (λ j. f (pluginAt m j)) (sym (at-place m id i e))
 
-  pub own-answer : (q : Port) (x y : Value) → valueOf x ≡ valueIn q (pluginAt m (i % places) .provisions) → x ≡ y → Accepted (one (valueOf y)) ≡ answerOf (own (view m) id q)
+  pub own-answer : (q : Port) (x y : Optional) → optionOf x ≡ valueIn q (pluginAt m (i % places) .provisions) → x ≡ y → Accepted (one (optionOf y)) ≡ answerOf (own (view m) id q)
   unfolding own
-  own-answer q x y h n = ap (λ (z : Option ℕ). Accepted (one z)) (sym (ap valueOf n) ∙ h) ∙ sym (ap answerOf (found-at (owns q)))
+  own-answer q x y h n = ap (λ (z : Option ℕ). Accepted (one z)) (sym (ap optionOf n) ∙ h) ∙ sym (ap answerOf (found-at (owns q)))
 
   pub matching-answer : (l ws : List ℕ) → ws ≡ provPart m (i % places) → (b : Bool) → b ≡ (not (oddLength l) && samePorts (pairs l) (pairs ws))
       → (a : Answer) → a ≡ Accepted (yesNo b ∷ []) → a ≡ answerOf (matching (view m) id l)

@@ -8,20 +8,20 @@ ghost use Rattle.rules.specs.Holds.{port};
 ghost use Rattle.rules.specs.Outcomes.{Accepted, answerOf};
 ghost use Rattle.rules.specs.Values.{read, visible, own, missing, matching, declares};
 ghost use Rattle.rules.specs.Limits.{maxProvisionKeys};
+ghost use Rattle.rules.specs.Answers.{whetherAnswer, optionAnswer};
 ghost use Rattle.memory.specs.View.{pluginAt, view};
 ghost use Rattle.memory.specs.Layout.{places};
-ghost use Rattle.memory_life.specs.Told.{whetherAnswer};
 ghost use Rattle.registry_queries.specs.Answers.{perhapsAnswer, portAnswer};
-ghost use Rattle.registry_values.specs.Answers.{readingAnswer, valueAnswer};
+ghost use Rattle.registry_values.specs.Answers.{readingAnswer};
 ghost use Rattle.registry_values.specs.Rules.{givenBy, declared};
 use memory::Place;
 use memory::WORDS;
-use memory_life::Whether;
-use memory_values::Value;
 use ports::Found;
 use registry_queries::APort;
 use registry_queries::Perhaps;
+use rules::Optional;
 use rules::Port;
+use rules::Whether;
 use rules::refusal;
 
 // The value and its provider's id, or a refusal.
@@ -36,8 +36,8 @@ fn given(m: &[u64; WORDS], place: usize, key: u64, realm: u64) -> Reading
 {
     let value = memory_values::value_of(m, place, key, realm);
     match value {
-        Value::Is(v) => Reading::Is(v, memory::id(m, place)),
-        Value::None => Reading::Refused(refusal::MISSING),
+        Optional::Is(v) => Reading::Is(v, memory::id(m, place)),
+        Optional::None => Reading::Refused(refusal::MISSING),
     }
 }
 
@@ -61,16 +61,16 @@ pub fn read(m: &[u64; WORDS], id: u64, key: u64, realm: u64) -> Reading
 }
 
 // The Active provider's value of a port, or nothing.
-pub fn visible(m: &[u64; WORDS], key: u64, realm: u64) -> Value
-    ensures { λ r. ⌜ valueAnswer r ≡ answerOf (visible (view (now (m .entry))) (port key realm)) ⌝ }
+pub fn visible(m: &[u64; WORDS], key: u64, realm: u64) -> Optional
+    ensures { λ r. ⌜ optionAnswer r ≡ answerOf (visible (view (now (m .entry))) (port key realm)) ⌝ }
 {
     let Place::At(from) = memory_providers::provider(m, key, realm) else {
-        return Value::None;
+        return Optional::None;
     };
     if registry_needs::is_active(memory_life::load(m, from)) {
         return memory_values::value_of(m, from, key, realm);
     }
-    Value::None
+    Optional::None
 }
 
 // A plugin's own value of a provision, or nothing.
@@ -82,8 +82,8 @@ pub fn own(m: &[u64; WORDS], id: u64, key: u64, realm: u64) -> Perhaps
     };
     let value = memory_values::value_of(m, at, key, realm);
     match value {
-        Value::Is(v) => Perhaps::Is(v),
-        Value::None => Perhaps::None,
+        Optional::Is(v) => Perhaps::Is(v),
+        Optional::None => Perhaps::None,
     }
 }
 

@@ -4,6 +4,7 @@ pub mod Holds
 pub mod Generations
 pub mod Refusals
 pub mod Outcomes
+pub mod Answers
 pub mod Ports
 pub mod Dependencies
 pub mod Registration

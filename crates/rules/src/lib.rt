@@ -54,6 +54,31 @@ impl Generation {
     }
 }
 
+// What an operation without a value answers.
+pub enum Done {
+    Accepted,
+    Refused(u64),
+}
+
+// What a yes or no question answers.
+pub enum Whether {
+    Yes,
+    No,
+    Refused(u64),
+}
+
+// What an operation with one number answers.
+pub enum Number {
+    Is(u64),
+    Refused(u64),
+}
+
+// A number or none.
+pub enum Optional {
+    Is(u64),
+    None,
+}
+
 pub enum Phase {
     Idle,
     Loading,

@@ -1,27 +1,18 @@
 -- A slot of the source as document 01's, and what an answer says.
 use mathlib.Core.List.{[]}
-use mathlib.Core.Option.{Option, none, some}
-use Prim.Native.Nat.{ℕ}
-use Rattle.rules.specs.Outcomes.{Answer, Refused, Accepted}
+use Rattle.rules.specs.Outcomes.{Refused}
 use Rattle.rules.specs.Refusals.{number, InvalidState}
 use Rattle.rules.specs.Retirement as retirement
 use Rattle.rules.specs.Slot as rules
 use Rattle.slot.specs.declared.Identity.{Identity}
-use Rattle.slot.specs.declared.Episode.{Episode}
-use Rattle.slot.specs.declared.Episode.the-variants.{Of, None}
 use Rattle.slot.specs.declared.Decision.{Decision}
 use Rattle.slot.specs.declared.Decision.the-variants.{Pending, Assigned, Failed, Cancelled}
 use Rattle.slot.specs.declared.Slot.{Slot}
-use Rattle.slot.specs.declared.Verdict.{Verdict}
-use Rattle.slot.specs.declared.Verdict.the-variants as verdict
+use Rattle.rules.specs.Answers.{doneAnswer, optionOf}
 use Rattle.slot.specs.declared.Decided.{Decided}
 
 abbrev pub identityOf : Identity → retirement.Identity
 identityOf c = record { domain = c .domain; parent = c .parent; id = c .id }
-
-abbrev pub episodeOf : Episode → Option ℕ
-episodeOf (Of g) = some g
-episodeOf None = none
 
 abbrev pub decisionOf : Decision → rules.Decision
 decisionOf Pending = rules.Pending
@@ -30,14 +21,10 @@ decisionOf Failed = rules.Failed
 decisionOf Cancelled = rules.Cancelled
 
 abbrev pub slotOf : Slot → rules.Slot
-slotOf s = record { domain = s .domain; parent = s .parent; generation = episodeOf (s .generation); decision = decisionOf (s .decision) }
-
-abbrev pub verdictOf : Verdict → Answer
-verdictOf verdict.Taken = Accepted []
-verdictOf (verdict.Refused n) = Refused n []
+slotOf s = record { domain = s .domain; parent = s .parent; generation = optionOf (s .generation); decision = decisionOf (s .decision) }
 
 abbrev pub decidedOf : Decided → rules.Decided
-decidedOf d = record { slot = slotOf (d .slot); answer = verdictOf (d .verdict) }
+decidedOf d = record { slot = slotOf (d .slot); answer = doneAnswer (d .verdict) }
 
 -- The slot as it was, with refusal 3.
 abbrev pub refusedOf : rules.Slot → rules.Decided

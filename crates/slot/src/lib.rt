@@ -5,6 +5,8 @@ ghost use mathlib.Core.List.{[]};
 ghost use Rattle.rules.specs.Outcomes.{Accepted};
 ghost use Rattle.rules.specs.Slot as rules;
 ghost use Rattle.slot.specs.Slots.{slotOf, identityOf, decisionOf, decidedOf, refusedOf};
+use rules::Done;
+use rules::Optional;
 use rules::refusal;
 
 // A child identity.
@@ -12,12 +14,6 @@ pub struct Identity {
     pub domain: u64,
     pub parent: u64,
     pub id: u64,
-}
-
-// The generation of a slot's origin, or none.
-pub enum Episode {
-    Of(u64),
-    None,
 }
 
 pub enum Decision {
@@ -30,18 +26,13 @@ pub enum Decision {
 pub struct Slot {
     pub domain: u64,
     pub parent: u64,
-    pub generation: Episode,
+    pub generation: Optional,
     pub decision: Decision,
-}
-
-pub enum Verdict {
-    Taken,
-    Refused(u64),
 }
 
 pub struct Decided {
     pub slot: Slot,
-    pub verdict: Verdict,
+    pub verdict: Done,
 }
 
 impl Slot {
@@ -51,7 +42,7 @@ impl Slot {
         Slot {
             domain: domain,
             parent: parent,
-            generation: Episode::Of(generation),
+            generation: Optional::Is(generation),
             decision: Decision::Pending,
         }
     }
@@ -62,7 +53,7 @@ impl Slot {
         Slot {
             domain: child.domain,
             parent: child.parent,
-            generation: Episode::None,
+            generation: Optional::None,
             decision: Decision::Assigned(child),
         }
     }
@@ -97,7 +88,7 @@ impl Slot {
     {
         Decided {
             slot: self,
-            verdict: Verdict::Refused(refusal::INVALID_STATE),
+            verdict: Done::Refused(refusal::INVALID_STATE),
         }
     }
 
@@ -126,7 +117,7 @@ impl Slot {
                 generation: generation,
                 decision: next,
             },
-            verdict: Verdict::Taken,
+            verdict: Done::Accepted,
         }
     }
 }

@@ -5,15 +5,16 @@ use mathlib.Core.List.{List, [], _∷_}
 use Rattle.rules.specs.Retirement as retirement
 use Rattle.rules.specs.Slot as rules
 use Rattle.slot.specs.declared.Identity.{Identity}
-use Rattle.slot.specs.declared.Episode.the-variants.{Of}
+use Rattle.rules.specs.declared.Optional.the-variants.{Is}
 use Rattle.slot.specs.declared.Decision.the-variants.{Cancelled}
-use Rattle.slot.specs.declared.Verdict.the-variants.{Taken, Refused}
+use Rattle.rules.specs.declared.Done.the-variants.{Accepted, Refused}
+use Rattle.rules.specs.Answers.{doneAnswer}
 use Rattle.slot.specs.declared.Decided.{Decided}
-use Rattle.slot.specs.Slots.{slotOf, verdictOf, decidedOf}
+use Rattle.slot.specs.Slots.{slotOf, decidedOf}
 use Rattle.memory.specs.Writes.{puts}
 use Rattle.slot_words.specs.Words.{episodeIn, decisionIn, hasWord, generationWord, decisionWord, childIn, putSlot, slotAfter, Decides}
 
-pub episode-rest : (n g : ℕ) → (n ≡ 0 → ⊥) → Of g ≡ episodeIn n g
+pub episode-rest : (n g : ℕ) → (n ≡ 0 → ⊥) → Is g ≡ episodeIn n g
 episode-rest zero g h = absurd (h refl)
 episode-rest (suc n) g h = refl
 
@@ -30,10 +31,10 @@ unfolding putSlot
 words-stored m s a g d k e f h i = rw (e, f, h, i)
 
 module _ (d : Decided) (m : List ℕ) where
-  pub taken : (m′ : List ℕ) → d .verdict ≡ Taken → m′ ≡ putSlot m (slotOf (d .slot)) → Decides (decidedOf d) m (verdictOf Taken) m′
+  pub taken : (m′ : List ℕ) → d .verdict ≡ Accepted → m′ ≡ putSlot m (slotOf (d .slot)) → Decides (decidedOf d) m (doneAnswer Accepted) m′
   unfolding slotAfter
   taken m′ e p = (rw e, rw e p)
 
-  pub refused : (n : ℕ) → d .verdict ≡ Refused n → Decides (decidedOf d) m (verdictOf (Refused n)) m
+  pub refused : (n : ℕ) → d .verdict ≡ Refused n → Decides (decidedOf d) m (doneAnswer (Refused n)) m
   unfolding slotAfter
   refused n e = (rw e, rw e)

@@ -13,19 +13,20 @@ use Rattle.rules.specs.Outcomes.{Answer, Refused, Accepted}
 use Rattle.rules.specs.Retirement as retirement
 use Rattle.rules.specs.Slot as rules
 use Rattle.slot.specs.declared.Identity.{Identity}
-use Rattle.slot.specs.declared.Episode.{Episode}
-use Rattle.slot.specs.declared.Episode.the-variants.{Of, None}
+use Rattle.rules.specs.declared.Optional.{Optional}
+use Rattle.rules.specs.declared.Optional.the-variants.{Is, None}
+use Rattle.rules.specs.Answers.{optionOf}
 use Rattle.slot.specs.declared.Decision.{Decision}
 use Rattle.slot.specs.declared.Decision.the-variants.{Pending, Assigned, Failed, Cancelled}
 use Rattle.slot.specs.declared.Slot.{Slot}
-use Rattle.slot.specs.Slots.{episodeOf, decisionOf, slotOf}
+use Rattle.slot.specs.Slots.{decisionOf, slotOf}
 use Rattle.memory.specs.Layout.{word}
 use Rattle.memory.specs.Writes.{puts}
 use Rattle.memory.specs.Frames.{puts-same}
 
-abbrev pub episodeIn : ℕ → ℕ → Episode
+abbrev pub episodeIn : ℕ → ℕ → Optional
 episodeIn zero g = None
-episodeIn (suc n) g = Of g
+episodeIn (suc n) g = Is g
 
 abbrev pub decisionIn : ℕ → Identity → Decision
 decisionIn zero c = Pending
@@ -89,7 +90,7 @@ pub decides : (d e : rules.Decided) (m : List ℕ) (a : Answer) (m′ : List ℕ
 decides d e m a m′ p w = (w .0 ∙ ap (λ (x : rules.Decided). x .answer) p, w .1 ∙ ap (slotAfter m) p)
 
 -- The codes.
-episode-code : (g : Option ℕ) → episodeOf (episodeIn (hasWord g) (generationWord g)) ≡ g
+episode-code : (g : Option ℕ) → optionOf (episodeIn (hasWord g) (generationWord g)) ≡ g
 episode-code none = refl
 episode-code (some g) = refl
 

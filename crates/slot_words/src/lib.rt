@@ -1,24 +1,25 @@
 // A child slot as eight words that a host keeps. Any words are read as a slot; what a slot lacks is stored as 0.
 ghost use mathlib.Core.Path.{_≡_};
 ghost use Rattle.rules.specs.Slot as rules;
-ghost use Rattle.slot.specs.Slots.{identityOf, episodeOf, decisionOf, slotOf, verdictOf, decidedOf};
+ghost use Rattle.rules.specs.Answers.{doneAnswer, optionOf};
+ghost use Rattle.slot.specs.Slots.{identityOf, decisionOf, slotOf, decidedOf};
 ghost use Rattle.slot_words.specs.Words.{episodeIn, decisionIn, slotAt, hasWord, generationWord, decisionWord, childIn, putSlot, Decides};
+use rules::Done;
+use rules::Optional;
 use slot::Decided;
 use slot::Decision;
-use slot::Episode;
 use slot::Identity;
 use slot::Slot;
-use slot::Verdict;
 
 // Domain, parent, whether there is a generation, generation, decision, and the assigned identity's three.
 pub const SLOT: usize = 8;
 
-fn episode_of(has: u64, generation: u64) -> Episode
+fn episode_of(has: u64, generation: u64) -> Optional
     ensures { λ r. ⌜ r ≡ episodeIn has generation ⌝ }
 {
     match has {
-        0 => Episode::None,
-        _ => Episode::Of(generation),
+        0 => Optional::None,
+        _ => Optional::Is(generation),
     }
 }
 
@@ -34,21 +35,21 @@ fn decision_of(w: u64, child: Identity) -> Decision
     }
 }
 
-fn has_word(e: Episode) -> u64
-    ensures { λ r. ⌜ r ≡ hasWord (episodeOf e) ⌝ }
+fn has_word(e: Optional) -> u64
+    ensures { λ r. ⌜ r ≡ hasWord (optionOf e) ⌝ }
 {
     match e {
-        Episode::Of(_) => 1,
-        Episode::None => 0,
+        Optional::Is(_) => 1,
+        Optional::None => 0,
     }
 }
 
-fn generation_word(e: Episode) -> u64
-    ensures { λ r. ⌜ r ≡ generationWord (episodeOf e) ⌝ }
+fn generation_word(e: Optional) -> u64
+    ensures { λ r. ⌜ r ≡ generationWord (optionOf e) ⌝ }
 {
     match e {
-        Episode::Of(generation) => generation,
-        Episode::None => 0,
+        Optional::Is(generation) => generation,
+        Optional::None => 0,
     }
 }
 
@@ -118,35 +119,35 @@ pub fn store(s: &mut [u64; SLOT], slot: Slot)
 }
 
 // A decision that was taken is stored; a refused one stores nothing.
-fn decided(s: &mut [u64; SLOT], d: Decided) -> Verdict
-    ensures { λ r. ⌜ Decides (decidedOf d) (now (s .entry)) (verdictOf r) (now (s .exit)) ⌝ }
+fn decided(s: &mut [u64; SLOT], d: Decided) -> Done
+    ensures { λ r. ⌜ Decides (decidedOf d) (now (s .entry)) (doneAnswer r) (now (s .exit)) ⌝ }
 {
     let verdict = d.verdict;
     match verdict {
-        Verdict::Taken => {
+        Done::Accepted => {
             store(s, d.slot);
-            Verdict::Taken
+            Done::Accepted
         }
-        Verdict::Refused(why) => Verdict::Refused(why),
+        Done::Refused(why) => Done::Refused(why),
     }
 }
 
-pub fn assign(s: &mut [u64; SLOT], child: Identity) -> Verdict
-    ensures { λ r. ⌜ Decides (rules.assign (slotOf (slotAt (now (s .entry)))) (identityOf child)) (now (s .entry)) (verdictOf r) (now (s .exit)) ⌝ }
+pub fn assign(s: &mut [u64; SLOT], child: Identity) -> Done
+    ensures { λ r. ⌜ Decides (rules.assign (slotOf (slotAt (now (s .entry)))) (identityOf child)) (now (s .entry)) (doneAnswer r) (now (s .exit)) ⌝ }
 {
     let slot = load(s);
     decided(s, slot.assign(child))
 }
 
-pub fn reject(s: &mut [u64; SLOT]) -> Verdict
-    ensures { λ r. ⌜ Decides (rules.reject (slotOf (slotAt (now (s .entry))))) (now (s .entry)) (verdictOf r) (now (s .exit)) ⌝ }
+pub fn reject(s: &mut [u64; SLOT]) -> Done
+    ensures { λ r. ⌜ Decides (rules.reject (slotOf (slotAt (now (s .entry))))) (now (s .entry)) (doneAnswer r) (now (s .exit)) ⌝ }
 {
     let slot = load(s);
     decided(s, slot.reject())
 }
 
-pub fn cancel(s: &mut [u64; SLOT]) -> Verdict
-    ensures { λ r. ⌜ Decides (rules.cancel (slotOf (slotAt (now (s .entry))))) (now (s .entry)) (verdictOf r) (now (s .exit)) ⌝ }
+pub fn cancel(s: &mut [u64; SLOT]) -> Done
+    ensures { λ r. ⌜ Decides (rules.cancel (slotOf (slotAt (now (s .entry))))) (now (s .entry)) (doneAnswer r) (now (s .exit)) ⌝ }
 {
     let slot = load(s);
     decided(s, slot.cancel())

@@ -1,14 +1,15 @@
 -- `id_from` meets its contract: what is found is the lowest id, at or above the number, of the places from i on.
 use native.Mathlib.Omega.{arith}
 use mathlib.Core.Path.{sym, _∙_}
-use Rattle.memory_places.specs.Lowest.{idOf, lowest-none, lowest-view}
+use Rattle.rules.specs.Answers.{optionOf}
+use Rattle.memory_places.specs.Lowest.{lowest-none, lowest-view}
 use Rattle.memory_places.proofs.Loops.{Passed, id-lower, id-not, id-free, id-end}
 use borrow.Author.Needs.{needs}
 use Rattle.memory_places.proofs.id_from.Statement.{statement}
 use Rattle.memory_places.proofs.id_from.Tie as tie
 
 abbrev Inv-loop : tie.InvT-loop
-Inv-loop m number found₀ i₀ found i = Passed number m i (idOf found)
+Inv-loop m number found₀ i₀ found i = Passed number m i (optionOf found)
 
 abbrev μ-loop : tie.MeasureT-loop
 μ-loop m number found₀ i₀ found i = i
