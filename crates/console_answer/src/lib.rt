@@ -7,12 +7,12 @@ ghost use Rattle.console_answer.specs.Pages.{upTo, putOn, numberOn, numb
 ghost use Rattle.console_answer.specs.Answers.{okWord, toldIn, answerIn, refusalOn, answerOn, orNoneOn, answerOrNoneOn, saysYes, answerYesNoOn};
 ghost use Rattle.console_answer.specs.Slots.{generationOn, identityOn, decisionOn, slotOn, decidedOn};
 use host_answers::ANSWER;
+use rules::Done;
+use rules::Optional;
 use slot::Decided;
 use slot::Decision;
-use rules::Optional;
 use slot::Identity;
 use slot::Slot;
-use rules::Done;
 
 // Room for the longest answer: `ok`, a hundred numbers of 20 digits, each behind a space, and byte 10.
 pub const ROOM: usize = 2103;

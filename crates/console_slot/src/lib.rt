@@ -6,10 +6,10 @@ ghost use Rattle.console_answer.specs.Pages.{upTo};
 ghost use Rattle.console_slot.specs.Turns.{turnOf, newSlot, withNone, withThree, turnedBy};
 ghost use Rattle.console_slot.specs.Lines.{Turns, turnedOr, slotLine};
 use console_answer::ROOM;
+use rules::Done;
 use slot::Decided;
 use slot::Identity;
 use slot::Slot;
-use rules::Done;
 
 // The place behind what was said, and the slot.
 pub struct Said {

@@ -8,9 +8,9 @@ ghost use Rattle.registry_offer.specs.Words.{Offers};
 use memory::Life;
 use memory::Place;
 use memory::WORDS;
+use ports::Found;
 use rules::Done;
 use rules::Optional;
-use ports::Found;
 use rules::Phase;
 use rules::refusal;
 

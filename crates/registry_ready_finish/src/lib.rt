@@ -9,10 +9,10 @@ ghost use Rattle.registry_ready_finish.specs.Finished.{finishedTo};
 use memory::Life;
 use memory::Place;
 use memory::WORDS;
-use rules::Done;
 use ports::Found;
 use registry_table::Cell;
 use registry_table::Step;
+use rules::Done;
 use rules::Root;
 use rules::refusal;
 

@@ -7,9 +7,9 @@ ghost use Rattle.memory_life.specs.Told.{Meets};
 ghost use Rattle.registry_steps.specs.Answers.{begunAnswer};
 use memory::Place;
 use memory::WORDS;
-use rules::Done;
 use registry_table::Cell;
 use registry_table::Step;
+use rules::Done;
 use rules::Generation;
 use rules::refusal;
 

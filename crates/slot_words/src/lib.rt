@@ -4,12 +4,12 @@ ghost use Rattle.rules.specs.Slot as rules;
 ghost use Rattle.rules.specs.Answers.{doneAnswer, optionOf};
 ghost use Rattle.slot.specs.Slots.{identityOf, decisionOf, slotOf, decidedOf};
 ghost use Rattle.slot_words.specs.Words.{episodeIn, decisionIn, slotAt, hasWord, generationWord, decisionWord, childIn, putSlot, Decides};
+use rules::Done;
+use rules::Optional;
 use slot::Decided;
 use slot::Decision;
-use rules::Optional;
 use slot::Identity;
 use slot::Slot;
-use rules::Done;
 
 // Domain, parent, whether there is a generation, generation, decision, and the assigned identity's three.
 pub const SLOT: usize = 8;

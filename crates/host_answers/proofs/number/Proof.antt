@@ -1,6 +1,6 @@
 -- `number` meets its contract: the number is told by `one`, and a refusal leaves the words as they are.
 use mathlib.Core.Path.{refl, ap}
-use Rattle.registry_queries.specs.Answers.{numberAnswer}
+use Rattle.rules.specs.Answers.{numberAnswer}
 use Rattle.host_answers.specs.Told.{statusOf, wordsOf, told}
 use borrow.Author.Needs.{needs}
 use Rattle.host_answers.proofs.number.Statement.{statement}

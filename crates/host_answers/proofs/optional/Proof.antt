@@ -1,6 +1,6 @@
 -- `optional` meets its contract: a number is told by `one`, and its lack by `none`.
 use mathlib.Core.Path.{ap}
-use Rattle.memory_places.specs.Changes.{optionAnswer}
+use Rattle.rules.specs.Answers.{optionAnswer}
 use Rattle.host_answers.specs.Told.{statusOf, wordsOf, told}
 use borrow.Author.Needs.{needs}
 use Rattle.host_answers.proofs.optional.Statement.{statement}

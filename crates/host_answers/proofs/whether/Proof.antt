@@ -1,6 +1,6 @@
 -- `whether` meets its contract: 1 for yes and 0 for no are told by `one`, and a refusal leaves the words as they are.
 use mathlib.Core.Path.{refl, ap}
-use Rattle.memory_life.specs.Told.{whetherAnswer}
+use Rattle.rules.specs.Answers.{whetherAnswer}
 use Rattle.host_answers.specs.Told.{statusOf, wordsOf, told}
 use borrow.Author.Needs.{needs}
 use Rattle.host_answers.proofs.whether.Statement.{statement}
