@@ -2,8 +2,9 @@
 ghost use mathlib.Core.Path.{_≡_};
 ghost use Prim.Native.Nat.{_%_, _<_};
 ghost use lib.Dec.{eqb};
+ghost use lib.ListN.{length};
 ghost use Rattle.rules.specs.Basics.{holds};
-ghost use Rattle.memory.specs.Layout.{word, occupancy, taken, idAt, places, domainWord, firstWord, nextWord};
+ghost use Rattle.memory.specs.Layout.{word, occupancy, taken, idAt, memoryWords, places, domainWord, firstWord, nextWord};
 ghost use Rattle.memory.specs.Lives.{changedLife, movedLife, begunLife, finishedLife, rootedLife, markedLife};
 ghost use Rattle.memory.specs.View.{parentAt};
 ghost use Rattle.memory.specs.Writes.{parentId, namesAt, findAt};
@@ -107,6 +108,19 @@ pub struct Words {
     pub root: u64,
     pub root_revision: u64,
     pub root_argument: u64,
+}
+
+// What the type of the memory says of its length, for a proof. It compiles to nothing.
+pub fn known(m: &[u64; WORDS])
+    ensures { λ _. ⌜ length (now (m .entry)) ≡ memoryWords ⌝ }
+{
+    let n = count(m);
+}
+
+fn count(words: &[u64]) -> usize
+    ensures { λ r. ⌜ r ≡ length (now (words .entry)) ⌝ }
+{
+    words.len()
 }
 
 pub fn domain(m: &[u64; WORDS]) -> u64

@@ -2,11 +2,10 @@
 ghost use mathlib.Core.Path.{_≡_};
 ghost use mathlib.Core.Bool.{_&&_};
 ghost use Prim.Native.Nat.{_<_, _%_};
-ghost use lib.ListN.{length};
 ghost use Rattle.rules.specs.Basics.{any, isSome};
 ghost use Rattle.rules.specs.Holds.{port, provides, provider};
 ghost use Rattle.rules.specs.Ports.{pairs};
-ghost use Rattle.memory.specs.Layout.{taken, memoryWords, places};
+ghost use Rattle.memory.specs.Layout.{taken, places};
 ghost use Rattle.memory.specs.View.{pluginAt, view};
 ghost use Rattle.memory_providers.specs.Providers.{providerAt, offeredPart, keyBits, wanted};
 use memory::Place;
@@ -54,19 +53,6 @@ pub fn provider(m: &[u64; WORDS], key: u64, realm: u64) -> Place
         i += 1;
     }
     Place::None
-}
-
-// What the type of the memory says of its length. It compiles to nothing.
-fn count(s: &[u64]) -> usize
-    ensures { λ r. ⌜ r ≡ length (now (s .entry)) ⌝ }
-{
-    s.len()
-}
-
-fn known(m: &[u64; WORDS])
-    ensures { λ _. ⌜ length (now (m .entry)) ≡ memoryWords ⌝ }
-{
-    let n = count(m);
 }
 
 // The anchor's words and, right behind it, those of the provisions.
@@ -134,7 +120,7 @@ fn offers_one(m: &[u64; WORDS], place: usize, claims: &[u64], bits: u64) -> bool
 pub fn one_provided(m: &[u64; WORDS], claims: &[u64]) -> bool
     ensures { λ r. ⌜ r ≡ any (λ q. isSome (provider (view (now (m .entry))) q)) (pairs (now (claims .entry))) ⌝ }
 {
-    known(m);
+    memory::known(m);
     let bits = key_bits(claims);
     let mut i: usize = 0;
     while i < PLACES {

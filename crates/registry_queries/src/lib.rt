@@ -1,13 +1,9 @@
 // R's getters as questions by id, the lookup of a dependency key, and document 01's "Lists", over the registry's memory. Nothing is changed.
 ghost use mathlib.Core.Path.{_≡_};
-ghost use Prim.Native.Nat.{_+_, _*_, _<_, _≤_};
-ghost use lib.ListN.{length, getD};
 ghost use Rattle.rules.specs.Dependencies.{dependencyPort};
-ghost use Rattle.rules.specs.Holds.{port};
 ghost use Rattle.rules.specs.Lists.{list, Dependencies, Provisions, RealmRows};
 ghost use Rattle.rules.specs.Outcomes.{answerOf, lentAfter, Meets};
 ghost use Rattle.rules.specs.Queries.{askPlugin, Parent, Anchor, PhaseOf, RetiredMark, Generation, Revision, Payload, RootOf};
-ghost use Rattle.rules.specs.Limits.{maxDependencies};
 ghost use Rattle.rules.specs.Answers.{numberAnswer};
 ghost use Rattle.memory.specs.View.{view};
 ghost use Rattle.registry_queries.specs.Answers.{perhapsAnswer, portAnswer, rootAnswer};
@@ -66,12 +62,7 @@ pub fn phase(m: &[u64; WORDS], id: u64) -> Number
     };
     let life = memory_life::load(m, at);
     let phase = life.phase;
-    match phase {
-        rules::Phase::Idle => Number::Is(0),
-        rules::Phase::Loading => Number::Is(1),
-        rules::Phase::Active => Number::Is(2),
-        rules::Phase::Unloading => Number::Is(3),
-    }
+    Number::Is(phase.number())
 }
 
 // 1 where the plugin is retired, else 0.
@@ -130,14 +121,6 @@ pub fn root(m: &[u64; WORDS], id: u64) -> ARoot
     ARoot::Is(root)
 }
 
-// The port of a row of a dependency list.
-fn port_of(ports: &[u64], row: usize) -> Port
-    requires { ⌜ (row * 2 + 1 < length (now ports)) × (length (now ports) ≤ maxDependencies * 2) ⌝ }
-    ensures { λ r. ⌜ r ≡ port (getD (now (ports .entry)) (row * 2) 0) (getD (now (ports .entry)) (row * 2 + 1) 0) ⌝ }
-{
-    Port::new(ports[row * 2], ports[row * 2 + 1])
-}
-
 // The first port of the dependency list with the key.
 pub fn dependency_port(m: &[u64; WORDS], id: u64, key: u64) -> APort
     ensures { λ r. ⌜ portAnswer r ≡ answerOf (dependencyPort (view (now (m .entry))) id key) ⌝ }
@@ -145,11 +128,11 @@ pub fn dependency_port(m: &[u64; WORDS], id: u64, key: u64) -> APort
     let Place::At(at) = memory::find(m, id) else {
         return APort::Refused(refusal::UNKNOWN);
     };
-    let ports = memory_lists::dependency_words(m, at);
-    let ports::Found::At(i) = ports::first_port(ports, key) else {
+    let list = memory_lists::dependency_words(m, at);
+    let ports::Found::At(i) = ports::first_port(list, key) else {
         return APort::None;
     };
-    APort::Is(port_of(ports, i))
+    APort::Is(ports::port_at(list, i))
 }
 
 // Dependencies, provisions and realm rows, listed into a lent buffer from a place.
