@@ -1,0 +1,20 @@
+-- The name, then the value.
+use Rattle.text_lines.specs.Laid.{laid-then}
+use borrow.Author.Needs.{needs}
+use Rattle.text_lines.proofs.number_line.Statement.{statement}
+use Rattle.text_lines.proofs.number_line.Tie as tie
+
+put-requires : tie.Need-put-requires
+put-requires c κs = search needs
+
+number-requires : tie.Need-number-requires
+number-requires c κs = search needs
+
+same-length : tie.Need-same-length
+same-length c = search needs
+
+returns : tie.Need-returns
+returns c = laid-then (c .before .before .before .before .before .before .put .ensures) (c .before .before .number .ensures)
+
+pub number-line-spec : {M : Type 1} → statement M
+number-line-spec = tie.close (tie.spec put-requires number-requires same-length returns)

@@ -1,0 +1,145 @@
+// The lines of the registry's text. Bytes go to a place of a lent text, and the place behind them comes back. Those past the text's
+// end go nowhere and count all the same: the same functions write a text, and on an empty one tell how long it is.
+ghost use mathlib.Core.Path.{_≡_};
+ghost use mathlib.Core.List.{[], _∷_, _++_};
+ghost use Prim.Native.Nat.{_+_, min};
+ghost use Rattle.rules.specs.Basics.{last};
+ghost use Rattle.rules.specs.Ports.{pairs};
+ghost use Rattle.text_lines.specs.Laid.{Laid};
+ghost use Rattle.text_lines.specs.Lines.{ended, orNone, pair, triple, perhapsOf, rootLines, portLines};
+use rules::Root;
+
+// A number, or none.
+pub enum Perhaps {
+    Is(u64),
+    Nothing,
+}
+
+fn least(a: usize, b: usize) -> usize
+    ensures { λ r. ⌜ r ≡ min a b ⌝ }
+{
+    if a < b { a } else { b }
+}
+
+// The place so many bytes behind another, at most 2^64 − 1: no text reaches there.
+fn behind(at: usize, count: usize) -> usize
+    ensures { λ r. ⌜ r ≡ min (at + count) last ⌝ }
+{
+    if usize::MAX - count < at {
+        return usize::MAX;
+    }
+    at + count
+}
+
+pub fn put(text: &mut [u8], at: usize, bytes: &[u8]) -> usize
+    ensures { λ r. ⌜ Laid (now (bytes .entry)) at (now (text .entry)) (now (text .exit)) r ⌝ }
+{
+    let end = behind(at, bytes.len());
+    let stop = least(end, text.len());
+    let mut place = at;
+    let mut i: usize = 0;
+    while place < stop {
+        text[place] = bytes[i];
+        place += 1;
+        i += 1;
+    }
+    end
+}
+
+fn put_byte(text: &mut [u8], at: usize, byte: u8) -> usize
+    ensures { λ r. ⌜ Laid (byte ∷ []) at (now (text .entry)) (now (text .exit)) r ⌝ }
+{
+    if at < text.len() {
+        text[at] = byte;
+    }
+    behind(at, 1)
+}
+
+// A number, and the byte that ends it.
+pub fn number(text: &mut [u8], at: usize, n: u64, end: u8) -> usize
+    ensures { λ r. ⌜ Laid (ended n end) at (now (text .entry)) (now (text .exit)) r ⌝ }
+{
+    let mut scratch = [0u8; 20];
+    let digits = text_decimal::write_decimal(n, &mut scratch);
+    let place = put(text, at, digits);
+    put_byte(text, place, end)
+}
+
+// A number or `none`, and the line's end.
+fn number_or_none(text: &mut [u8], at: usize, value: Perhaps) -> usize
+    ensures { λ r. ⌜ Laid (orNone (perhapsOf value)) at (now (text .entry)) (now (text .exit)) r ⌝ }
+{
+    match value {
+        Perhaps::Is(n) => number(text, at, n, b'\n'),
+        Perhaps::Nothing => put(text, at, b"none\n"),
+    }
+}
+
+// Two numbers parted by a comma, and the line's end.
+fn number_pair(text: &mut [u8], at: usize, a: u64, b: u64) -> usize
+    ensures { λ r. ⌜ Laid (pair a b) at (now (text .entry)) (now (text .exit)) r ⌝ }
+{
+    let second = number(text, at, a, b',');
+    number(text, second, b, b'\n')
+}
+
+// A line: a name with its equals sign, and behind it a number, a number or none, a pair, a pair with a number or none.
+pub fn number_line(text: &mut [u8], at: usize, name: &[u8], n: u64) -> usize
+    ensures { λ r. ⌜ Laid (now (name .entry) ++ ended n 10) at (now (text .entry)) (now (text .exit)) r ⌝ }
+{
+    let value = put(text, at, name);
+    number(text, value, n, b'\n')
+}
+
+pub fn perhaps_line(text: &mut [u8], at: usize, name: &[u8], value: Perhaps) -> usize
+    ensures { λ r. ⌜ Laid (now (name .entry) ++ orNone (perhapsOf value)) at (now (text .entry)) (now (text .exit)) r ⌝ }
+{
+    let place = put(text, at, name);
+    number_or_none(text, place, value)
+}
+
+pub fn pair_line(text: &mut [u8], at: usize, name: &[u8], a: u64, b: u64) -> usize
+    ensures { λ r. ⌜ Laid (now (name .entry) ++ pair a b) at (now (text .entry)) (now (text .exit)) r ⌝ }
+{
+    let first = put(text, at, name);
+    number_pair(text, first, a, b)
+}
+
+pub fn triple_line(text: &mut [u8], at: usize, name: &[u8], a: u64, b: u64, value: Perhaps) -> usize
+    ensures { λ r. ⌜ Laid (now (name .entry) ++ triple a b (perhapsOf value)) at (now (text .entry)) (now (text .exit)) r ⌝ }
+{
+    let first = put(text, at, name);
+    let second = number(text, first, a, b',');
+    let third = number(text, second, b, b',');
+    number_or_none(text, third, value)
+}
+
+// The lines root and queued.
+pub fn root_lines(text: &mut [u8], at: usize, root: Root) -> usize
+    ensures { λ r. ⌜ Laid (rootLines root) at (now (text .entry)) (now (text .exit)) r ⌝ }
+{
+    match root {
+        Root::Unissued => put(text, at, b"root=0\nqueued=none\n"),
+        Root::Queued(revision, argument) => pair_line(
+            text,
+            at,
+            b"root=1\nqueued=",
+            revision,
+            argument,
+        ),
+        Root::Spent => put(text, at, b"root=2\nqueued=none\n"),
+    }
+}
+
+// A line for each port of a list that is lent as key, realm, key, realm.
+pub fn port_lines(text: &mut [u8], at: usize, name: &[u8], ports: &[u64]) -> usize
+    ensures { λ r. ⌜ Laid (portLines (now (name .entry)) (pairs (now (ports .entry)))) at (now (text .entry)) (now (text .exit)) r ⌝ }
+{
+    let mut place = at;
+    let mut i: usize = 1;
+    while i < ports.len() {
+        place = pair_line(text, place, name, ports[i - 1], ports[i]);
+        i += 2;
+    }
+    place
+}
