@@ -1,5 +1,5 @@
 -- Words are numbers of at most 2^64 − 1, so what they say has a text, and that is short.
-use Prim.Native.Nat.{ℕ, zero, suc, _+_, _*_, _≤_, _<_}
+use Prim.Native.Nat.{ℕ, zero, suc, _+_, _*_, _/_, _%_, _^_, _≤_, _<_}
 use Prim.Native.String.{String}
 use native.Mathlib.Omega.{arith}
 use mathlib.Core.Path.{_≡_, refl, ap, subst}
@@ -7,6 +7,7 @@ use mathlib.Core.Bool.{Bool, true, false}
 use mathlib.Core.List.{List, [], _∷_}
 use mathlib.Core.Option.{none, some}
 use mathlib.Core.Logic.{inl, inr}
+use lib.Dec.{eqb}
 use lib.ListN.{length, getD, take, drop, length-take, length-drop}
 use Rattle.rules.specs.Basics.{last, pick}
 use Rattle.rules.specs.declared.Port.{Port}
@@ -21,7 +22,7 @@ use Rattle.text_form.specs.Lines.{line, numberOrNone}
 use Rattle.text_laws.specs.Fit.{Narrow, text-fits}
 use Rattle.text_laws.specs.Rising.{restFrom, rest-past}
 use Rattle.text_laws.specs.Sizes.{Lists, any-text, text-most}
-use Rattle.memory.specs.Layout.{word, taken, part, provPart, realmPart, depPart}
+use Rattle.memory.specs.Layout.{word, taken, startAt, depsAt, provsAt, realmsAt, rowWord, anchorWord, part, provPart, realmPart, depPart}
 use Rattle.memory.specs.View.{parentOf, parentAt, rootOf, lifeAt, decoded, wordsAt, valueAt, valued, pluginAt, placeAt, placesFrom, view}
 use Rattle.ports.specs.Places.{length-pairs}
 
@@ -47,7 +48,7 @@ small-part m from n h = small-take n (drop from m) (small-drop from m h)
 module _ (m : List ℕ) (P : Plugin → Type 0) (all : (i : ℕ) → P (pluginAt m i)) where
   held-all : (n i : ℕ) (p : Plugin) → In p (held (placesFrom n m i)) → P p
   unfolding placesFrom placeAt
-  held-all zero i p ()
+  held-all zero i p w = absurd w
   held-all (suc n) i p w = go (taken m i) (held-all n (i + 1) p) w
     where
       here : {q : Plugin} → q ≡ p → P q → P p
@@ -84,7 +85,7 @@ root-fits (suc (suc tag)) v a h k = tt
 module _ (m : List ℕ) (h : Small m) where
   value-fits : (i j : ℕ) → numberOrNone .Fits (valueAt m i j)
   unfolding valueAt
-  value-fits i j = option-fits _ (word m (i * 72 + 24 + j)) (h (i * 72 + 24 + j))
+  value-fits i j = option-fits (eqb (word m (i * 72 + 23) / 2 ^ j % 2) 1) (word m (i * 72 + 24 + j)) (h (i * 72 + 24 + j))
 
   provisions-fit : (i j : ℕ) (l : List ℕ) → Small l → FitAll (line "prov" keyRealmValue) (valued m i j (pairs l))
   provisions-fit i j [] s = tt
@@ -128,12 +129,12 @@ module _ (m : List ℕ) (i : ℕ) where
                 (
                   root-fits (word m (i * 72 + 16)) (word m (i * 72 + 17)) (word m (i * 72 + 18)) (h (i * 72 + 17)) (h (i * 72 + 18)),
                   (
-                    (h _, h _),
+                    (h (anchorWord m i), h (anchorWord m i + 1)),
                     (
-                      ((omega (arith, few-realms), ports-fit "realm" (realmPart m i) (small-part m _ _ h)), refl),
+                      ((omega (arith, few-realms), ports-fit "realm" (realmPart m i) (small-part m (i * 72 + 39) (realmsAt m i * 2) h)), refl),
                       (
-                        (omega (arith, few-deps), ports-fit "dep" (depPart m i) (small-part m _ _ h)),
-                        (omega (arith, few-provs), provisions-fit m h i 0 (provPart m i) (small-part m _ _ h)),
+                        (omega (arith, few-deps), ports-fit "dep" (depPart m i) (small-part m (rowWord (startAt m i)) (depsAt m i * 2) h)),
+                        (omega (arith, few-provs), provisions-fit m h i 0 (provPart m i) (small-part m (anchorWord m i + 2) (provsAt m i * 2) h)),
                       ),
                     ),
                   ),
@@ -165,10 +166,10 @@ module _ (m : List ℕ) (h : Small m) where
   pub words-most : length (textOf (view m)) ≤ 110 + 1399 * count (view m) + 46 * rowsInUse (view m)
   words-most = text-most (view m) words-fit (view-all m Lists (lists-few m))
 
+  below : (i : ℕ) → pluginAt m i .id < last + 1
+  unfolding pluginAt
+  below i = omega (arith, h (i * 72 + 8))
+
   -- No id is above the last number.
   pub last-rest : restFrom (view m) (last + 1) ≡ []
   last-rest = rest-past (view m) (last + 1) (view-all m (λ p. p .id < last + 1) below)
-    where
-      below : (i : ℕ) → pluginAt m i .id < last + 1
-      unfolding pluginAt
-      below i = omega (arith, h (i * 72 + 8))
