@@ -21,7 +21,7 @@ use Rattle.text_form.specs.Forms.{FitAll}
 use Rattle.text_form.specs.Lines.{line, numberOrNone}
 use Rattle.text_laws.specs.Fit.{Narrow, text-fits}
 use Rattle.text_laws.specs.Rising.{restFrom, rest-past}
-use Rattle.text_laws.specs.Sizes.{Lists, any-text, text-most}
+use Rattle.text_laws.specs.Sizes.{Lists, any-text, text-most, rows-most, held-most}
 use Rattle.memory.specs.Layout.{word, taken, startAt, depsAt, provsAt, realmsAt, rowWord, anchorWord, part, provPart, realmPart, depPart}
 use Rattle.memory.specs.View.{parentOf, parentAt, rootOf, lifeAt, decoded, wordsAt, valueAt, valued, pluginAt, placeAt, placesFrom, view}
 use Rattle.ports.specs.Places.{length-pairs}
@@ -146,6 +146,20 @@ module _ (m : List ℕ) (i : ℕ) where
       ),
     ),
   )
+
+-- On any words there are no more plugins and rows than this.
+module _ (m : List ℕ) where
+  pub all-places : length (view m .places) ≡ 32
+  unfolding view placesFrom
+  all-places = refl
+
+  pub few-plugins : count (view m) ≤ 32
+  unfolding count
+  few-plugins = omega (arith, held-most (view m .places), all-places)
+
+  pub few-rows : rowsInUse (view m) ≤ 2048
+  unfolding rowsInUse
+  few-rows = omega (arith, rows-most (plugins (view m)) (view-all m Lists (lists-few m)), held-most (view m .places), all-places)
 
 -- A registry's words fit its text, which is no longer than this.
 module _ (m : List ℕ) (h : Small m) where
