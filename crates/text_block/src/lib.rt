@@ -2,7 +2,6 @@
 // modulo 32. Bytes past the text's end go nowhere and count all the same.
 ghost use mathlib.Core.Path.{_≡_};
 ghost use Prim.Native.Nat.{_%_};
-ghost use Rattle.rules.specs.Holds.{port};
 ghost use Rattle.rules.specs.Ports.{pairs};
 ghost use Rattle.memory.specs.View.{valueAt, pluginAt};
 ghost use Rattle.text_laws.specs.Parts.{blockOf};
@@ -121,7 +120,7 @@ fn provision_line(
     key: u64,
     realm: u64,
 ) -> usize
-    ensures { λ r. ⌜ Laid (provisionLine (record { port = port key realm; value = valueAt (now (m .entry)) (place % 32) (provision % 15) })) at (now (text .entry)) (now (text .exit)) r ⌝ }
+    ensures { λ r. ⌜ Laid (provisionLine key realm (valueAt (now (m .entry)) (place % 32) (provision % 15))) at (now (text .entry)) (now (text .exit)) r ⌝ }
 {
     text_lines::triple_line(text, at, b"prov=", key, realm, value(m, place, provision))
 }
