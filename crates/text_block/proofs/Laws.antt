@@ -1,14 +1,13 @@
 -- The bytes that the parts lay are a plugin's lines, where the values are those of its words.
-use Prim.Native.Nat.{ℕ, suc, _+_, _*_, _/_, _%_, _≤_, _<_}
+use Prim.Native.Nat.{ℕ, _+_, _*_, _/_, _%_, _≤_, _<_}
 use native.Mathlib.Nat.{mod-eq-of-lt}
 use native.Mathlib.Omega.{arith}
-use mathlib.Core.Path.{_≡_, refl, sym, ap, _∙_}
-use mathlib.Core.List.{List, [], _∷_, _++_}
+use mathlib.Core.Path.{_≡_, sym, ap}
+use mathlib.Core.List.{List, [], _++_}
 use mathlib.Core.Option.{Option}
 use lib.ListN.{length, getD, drop}
 use Rattle.rules.specs.Limits.{maxProvisionKeys}
 use Rattle.rules.specs.declared.Port.{Port}
-use Rattle.rules.specs.Holds.{port}
 use Rattle.rules.specs.Ports.{pairs}
 use Rattle.text_form.specs.Bytes.{bytes}
 use Rattle.text_laws.specs.Parts.{blockOf}
@@ -19,7 +18,7 @@ use Rattle.memory.specs.declared.Life.{Life}
 use Rattle.memory_values.specs.Firsts.{few-words}
 use Rattle.ports.specs.Places.{pairs-at, pairs-end, length-pairs}
 use Rattle.text_lines.specs.Lines.{ended, orNone, pair, portLines}
-use Rattle.text_block.specs.Parts.{nameLines, lifeLines, portsLines, listLines, provisionLine, provisionLines, provisionsLines, or-none, block-by-parts}
+use Rattle.text_block.specs.Parts.{nameLines, lifeLines, portsLines, listLines, provisionLine, provisionLines, provisionsLines, valued-length, or-none, block-by-parts}
 
 pub ports-bytes : (plural name ports : List ℕ) → (plural ++ ended (length ports / 2) 10) ++ portLines name (pairs ports) ≡ portsLines plural name (pairs ports)
 ports-bytes plural name ports = rw (length-pairs ports)
@@ -27,10 +26,6 @@ ports-bytes plural name ports = rw (length-pairs ports)
 -- the provisions from the j-th on, with their values
 abbrev pub provsFrom : List ℕ → ℕ → ℕ → List ℕ → List ℕ
 provsFrom m i j words = provisionLines (valued m i j (pairs (drop (j * 2) words)))
-
-valued-length : (m : List ℕ) (i j : ℕ) (qs : List Port) → length (valued m i j qs) ≡ length qs
-valued-length m i j [] = refl
-valued-length m i j (q ∷ qs) = ap suc (valued-length m i (j + 1) qs)
 
 module _ (m : List ℕ) (i : ℕ) where
   pub name-bytes : {n : ℕ} {o : Option ℕ} → n ≡ idAt m i → o ≡ pluginAt m i .parent → (bytes "id=" ++ ended n 10) ++ (bytes "parent=" ++ orNone o) ≡ nameLines (pluginAt m i)
@@ -48,7 +43,7 @@ module _ (m : List ℕ) (i : ℕ) where
   -- The j-th of the words' provisions, and no more of them.
   pub one-provision
       : (j : ℕ) {w : List ℕ} → w ≡ provPart m i → j < length w / 2
-      → provisionLine (record { port = port (getD w (j * 2) 0) (getD w (j * 2 + 1) 0); value = valueAt m i (j % maxProvisionKeys) }) ++ provsFrom m i (j + 1) w ≡ provsFrom m i j w
+      → provisionLine (getD w (j * 2) 0) (getD w (j * 2 + 1) 0) (valueAt m i (j % maxProvisionKeys)) ++ provsFrom m i (j + 1) w ≡ provsFrom m i j w
   unfolding provisionLines
   one-provision j {w} e h =
       let next : j * 2 + 2 ≡ (j + 1) * 2 = omega arith in

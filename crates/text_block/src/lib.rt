@@ -5,7 +5,6 @@ ghost use Prim.Native.Nat.{_%_};
 ghost use Rattle.memory.specs.Layout.{places};
 ghost use Rattle.rules.specs.Limits.{maxProvisionKeys};
 ghost use Rattle.rules.specs.Answers.{optionOf};
-ghost use Rattle.rules.specs.Holds.{port};
 ghost use Rattle.rules.specs.Ports.{pairs};
 ghost use Rattle.memory.specs.View.{valueAt, pluginAt};
 ghost use Rattle.text_laws.specs.Parts.{blockOf};
@@ -112,7 +111,7 @@ fn provision_line(
     key: u64,
     realm: u64,
 ) -> usize
-    ensures { λ r. ⌜ Laid (provisionLine (record { port = port key realm; value = valueAt (now (m .entry)) (place % places) (provision % maxProvisionKeys) })) at (now (text .entry)) (now (text .exit)) r ⌝ }
+    ensures { λ r. ⌜ Laid (provisionLine key realm (valueAt (now (m .entry)) (place % places) (provision % maxProvisionKeys))) at (now (text .entry)) (now (text .exit)) r ⌝ }
 {
     text_lines::triple_line(
         text,

@@ -2,7 +2,7 @@
 use Prim.Native.Nat.{ℕ, zero, suc, _+_, _*_, _/_, _%_, _^_, _≤_, _<_}
 use Prim.Native.String.{String}
 use native.Mathlib.Omega.{arith}
-use mathlib.Core.Path.{_≡_, refl, ap, subst}
+use mathlib.Core.Path.{_≡_, refl, subst}
 use mathlib.Core.Bool.{Bool, true, false}
 use mathlib.Core.List.{List, [], _∷_}
 use mathlib.Core.Option.{none, some}
@@ -10,21 +10,20 @@ use mathlib.Core.Logic.{inl, inr}
 use lib.Dec.{eqb}
 use lib.ListN.{length, getD, take, drop, length-take, length-drop}
 use Rattle.rules.specs.Basics.{last, pick}
-use Rattle.rules.specs.declared.Port.{Port}
 use Rattle.rules.specs.Holds.{Plugin, held, plugins, count, rowsInUse}
 use Rattle.rules.specs.Laws.Members.{In}
-use Rattle.rules.specs.Laws.Tests.{by-test}
 use Rattle.rules.specs.Ports.{pairs}
 use Rattle.rules.specs.Text.Values.{keyRealm, keyRealmValue, rootAndQueued}
 use Rattle.rules.specs.Text.{block, text, said, textOf}
 use Rattle.text_form.specs.Forms.{FitAll}
 use Rattle.text_form.specs.Lines.{line, numberOrNone}
-use Rattle.text_laws.specs.Fit.{Narrow, text-fits}
+use Rattle.text_laws.specs.Fit.{text-fits}
 use Rattle.text_laws.specs.Rising.{restFrom, rest-past}
-use Rattle.text_laws.specs.Sizes.{Lists, any-text, text-most}
+use Rattle.text_laws.specs.Sizes.{Lists, any-text, text-most, rows-most, held-most}
 use Rattle.memory.specs.Layout.{word, taken, startAt, depsAt, provsAt, realmsAt, rowWord, anchorWord, part, provPart, realmPart, depPart, placeWords, maskWord, valuesWord, idWord, tagWord, parentWord, generationWord, revisionWord, payloadWord, rootWord, rootRevisionWord, rootArgumentWord, realmRowsWord}
-use Rattle.memory.specs.View.{parentOf, parentAt, rootOf, lifeAt, decoded, wordsAt, valueAt, valued, pluginAt, placeAt, placesFrom, view}
+use Rattle.memory.specs.View.{parentOf, rootOf, lifeAt, decoded, valueAt, valued, pluginAt, placeAt, placesFrom, view}
 use Rattle.ports.specs.Places.{length-pairs}
+use Rattle.text_block.specs.Parts.{valued-length}
 
 -- Every word is a number of at most 2^64 − 1.
 abbrev pub Small : List ℕ → Type 0
@@ -92,10 +91,6 @@ module _ (m : List ℕ) (h : Small m) where
   provisions-fit i j (k ∷ []) s = tt
   provisions-fit i j (k ∷ r ∷ l) s = ((s 0, (s 1, value-fits i j)), provisions-fit i (j + 1) l (λ n. s (suc (suc n))))
 
-valued-length : (m : List ℕ) (i j : ℕ) (qs : List Port) → length (valued m i j qs) ≡ length qs
-valued-length m i j [] = refl
-valued-length m i j (q ∷ qs) = ap suc (valued-length m i (j + 1) qs)
-
 module _ (m : List ℕ) (i : ℕ) where
   few-realms : length (pairs (realmPart m i)) ≤ 16
   few-realms = rw (length-pairs (realmPart m i)) (simp (length-take, length-drop) (omega arith))
@@ -146,6 +141,20 @@ module _ (m : List ℕ) (i : ℕ) where
       ),
     ),
   )
+
+-- On any words there are no more plugins and rows than this.
+module _ (m : List ℕ) where
+  pub all-places : length (view m .places) ≡ 32
+  unfolding view placesFrom
+  all-places = refl
+
+  pub few-plugins : count (view m) ≤ 32
+  unfolding count
+  few-plugins = omega (arith, held-most (view m .places), all-places)
+
+  pub few-rows : rowsInUse (view m) ≤ 2048
+  unfolding rowsInUse
+  few-rows = omega (arith, rows-most (plugins (view m)) (view-all m Lists (lists-few m)), held-most (view m .places), all-places)
 
 -- A registry's words fit its text, which is no longer than this.
 module _ (m : List ℕ) (h : Small m) where
