@@ -1,1 +1,1 @@
-pub mod Drafting
+pub mod Definitions

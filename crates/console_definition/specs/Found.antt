@@ -5,7 +5,7 @@ use mathlib.Core.List.{List}
 use lib.ListN.{length}
 use Rattle.text_form.specs.Digits.{over}
 use Rattle.console_words.specs.Fronts.{Front}
-use Rattle.console_definition.specs.Draft.{Listed, ThreeLists}
+use Rattle.console_definition.specs.Definitions.{Listed, ThreeLists}
 use Rattle.console_definition.specs.declared.Counted.{Counted}
 use Rattle.console_definition.specs.declared.Lists.{Lists}
 

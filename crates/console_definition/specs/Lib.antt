@@ -1,3 +1,3 @@
-pub mod Draft
+pub mod Definitions
 pub mod Found
 pub mod Whole

@@ -2,7 +2,7 @@
 ghost use mathlib.Core.Path.{_≡_};
 ghost use mathlib.Core.Bool.{_&&_};
 ghost use lib.Dec.{eqb};
-ghost use Rattle.console_definition.specs.Draft.{underIn, numberIn, headIn, listBehind, listsIn};
+ghost use Rattle.console_definition.specs.Definitions.{underIn, numberIn, headIn, listBehind, listsIn};
 ghost use Rattle.console_definition.specs.Found.{Behind, Three};
 use text_decimal::Decimal;
 

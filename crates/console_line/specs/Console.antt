@@ -16,7 +16,7 @@ use Rattle.console_names.specs.Names.{placeAmong}
 use Rattle.console_names.specs.declared.Row.{Row}
 use Rattle.console_names.specs.declared.Row.the-variants as row
 use Rattle.console_names.specs.Table.{names, rowAt}
-use Rattle.console_slot.specs.Lines.{Turned, slotLine}
+use Rattle.console_slot.specs.Lines.{SlotAfter, slotLine}
 use Rattle.console_line.specs.Lines.{Done, badLine, orBad, registerLine}
 
 -- What a line says, and what it leaves.
@@ -29,7 +29,7 @@ pub record After : Type 0 where
 abbrev pub keepsSlot : Slot → Done → After
 keepsSlot s d = record { page = d .page; memory = d .memory; buffer = d .buffer; slot = s }
 
-abbrev pub keepsRegistry : List ℕ → List ℕ → Turned → After
+abbrev pub keepsRegistry : List ℕ → List ℕ → SlotAfter → After
 keepsRegistry m buffer t = record { page = t .page; memory = m; buffer = buffer; slot = t .slot }
 
 -- What stands behind a name, by the operation's row.

@@ -19,13 +19,13 @@ use Rattle.console_names.specs.declared.Held.{Held}
 use Rattle.console_names.specs.declared.Kind.{Kind}
 use Rattle.console_names.specs.declared.Kind.the-variants.{Show, Buffer, Lists, Registry}
 use Rattle.console_names.specs.Table.{Asked, takes, first, second, askedAt}
-use Rattle.console_definition.specs.Draft.{draftIn}
+use Rattle.console_definition.specs.Definitions.{definitionIn}
 use Rattle.console_show.specs.Spoken.{spokenOn}
 use Rattle.console_show.specs.Buffered.{between}
 use Rattle.console_show.specs.Shown.{shownOn}
 use Rattle.console_operations.specs.Asked.{whichOf}
 use Rattle.console_operations.specs.Carried.{statusBy, wordsBy, leftBy}
-use Rattle.console_register.specs.Enrolled.{enrolment}
+use Rattle.console_register.specs.Registrations.{registration}
 
 -- What a line says, and the registry's words and the buffer that it leaves.
 pub record Done : Type 0 where
@@ -72,5 +72,5 @@ orBad p m buffer place count kind (some l) = pick (takes count (length l)) (numb
 -- register
 abbrev pub registerLine : Page → List ℕ → List ℕ → List ℕ → ℕ → Done
 registerLine p m buffer line from =
-    let a = enrolment (draftIn line from) in
+    let a = registration (definitionIn line from) in
     record { page = askedLine p m Numbers a; memory = leftBy m a; buffer = buffer }

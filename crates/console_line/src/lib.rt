@@ -5,9 +5,9 @@ ghost use Rattle.console_answer.specs.Pages.{upTo};
 ghost use Rattle.console_names.specs.Behind.{numbersBehind};
 ghost use Rattle.console_names.specs.Table.{askedAt};
 ghost use Rattle.console_names.specs.declared.Values.the-variants.{Numbers};
-ghost use Rattle.console_definition.specs.Draft.{draftIn};
+ghost use Rattle.console_definition.specs.Definitions.{definitionIn};
 ghost use Rattle.console_operations.specs.Carried.{leftBy};
-ghost use Rattle.console_register.specs.Enrolled.{enrolment};
+ghost use Rattle.console_register.specs.Registrations.{registration};
 ghost use Rattle.console_line.specs.Lines.{Does, bad, listed, askedLine, numbersLine, orBad};
 ghost use Rattle.console_line.specs.Console.{Leaves, operate, answered, lineEnded};
 use console_answer::ROOM;
@@ -112,11 +112,11 @@ fn behind_line(
 
 fn register_line(m: &mut [u64; WORDS], bytes: &[u8], from: usize, text: &mut [u8; ROOM]) -> usize
     ensures said { λ r. ⌜ upTo (now (text .exit)) r
-        ≡ askedLine (upTo (now (text .entry)) 0) (now (m .entry)) Numbers (enrolment (draftIn (now (bytes .entry)) from)) ⌝ }
-    ensures left { λ r. ⌜ now (m .exit) ≡ leftBy (now (m .entry)) (enrolment (draftIn (now (bytes .entry)) from)) ⌝ }
+        ≡ askedLine (upTo (now (text .entry)) 0) (now (m .entry)) Numbers (registration (definitionIn (now (bytes .entry)) from)) ⌝ }
+    ensures left { λ r. ⌜ now (m .exit) ≡ leftBy (now (m .entry)) (registration (definitionIn (now (bytes .entry)) from)) ⌝ }
 {
     let mut out = [0u64; ANSWER];
-    let status = console_register::enrolled(m, bytes, from, &mut out);
+    let status = console_register::registered(m, bytes, from, &mut out);
     console_show::spoken(text, Values::Numbers, status, &out)
 }
 

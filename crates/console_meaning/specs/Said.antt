@@ -18,10 +18,10 @@ use Rattle.console_names.specs.declared.Kind.the-variants.{Show, Buffer, Lists,
 use Rattle.console_names.specs.declared.Row.{Row}
 use Rattle.console_names.specs.declared.Row.the-variants.{Slot, Register, Takes, Unknown}
 use Rattle.console_names.specs.Table.{Asked, Bad, Open, Stated, Told, Operation, first, second, operations, unknown, operationAt, rowAt, askedAt}
-use Rattle.console_definition.specs.Draft.{draftIn}
+use Rattle.console_definition.specs.Definitions.{definitionIn}
 use Rattle.console_show.specs.Spoken.{lineOn, spokenOn}
 use Rattle.console_operations.specs.Asked.{whichOf}
-use Rattle.console_register.specs.Enrolled.{enrolment}
+use Rattle.console_register.specs.Registrations.{registration}
 use Rattle.console_line.specs.Lines.{bad, listed, askedLine, numbersLine, registerLine}
 use Rattle.console_meaning.specs.Values.{Silent, ready-silent, fail-silent, unload-silent, finish-silent}
 use Rattle.console_meaning.specs.Values.{retire-silent, retire-child-silent, remove-silent, offer-silent}
@@ -110,9 +110,9 @@ plain-asked place l =
     ) place
 
 -- .. and a registration.
-pub plain-enrolment : (v : Values) (d : Option Definition) → Plain v (enrolment d)
-plain-enrolment v none = tt
-plain-enrolment v (some d) = tt
+pub plain-registration : (v : Values) (d : Option Definition) → Plain v (registration d)
+plain-registration v none = tt
+plain-registration v (some d) = tt
 
 module _ (p : Page) (m : List ℕ) where
   -- A line of numbers says the rules' answer, with the row's values;
@@ -121,8 +121,8 @@ module _ (p : Page) (m : List ℕ) where
   numbers-said buffer place count v l e = plainly p m v (askedAt place l) (subst (λ (r : Row). Plain (valuesBy r) (askedAt place l)) e (plain-asked place l))
 
   -- so does a registration's line,
-  pub register-said : (buffer line : List ℕ) (from : ℕ) → registerLine p m buffer line from .page ≡ saidOf p m Numbers (enrolment (draftIn line from))
-  register-said buffer line from = plainly p m Numbers (enrolment (draftIn line from)) (plain-enrolment Numbers (draftIn line from))
+  pub register-said : (buffer line : List ℕ) (from : ℕ) → registerLine p m buffer line from .page ≡ saidOf p m Numbers (registration (definitionIn line from))
+  register-said buffer line from = plainly p m Numbers (registration (definitionIn line from)) (plain-registration Numbers (definitionIn line from))
 
   -- and the line of a listing.
   pub listed-said : (buffer : List ℕ) (held : Held) (l : List ℕ)

@@ -20,9 +20,10 @@ use Rattle.rules.specs.Admission.{admit, admits, call}
 use Rattle.rules.specs.Retirement.{Identity, retireFound, retire, retireChild, identity, childIdentity, remove}
 use Rattle.rules.specs.Values.{valueIn, given, served, seen, firstMissing, offer, read, visible, own, missing, matching, declares}
 use Rattle.rules.specs.Lists.{listing, list}
+use Rattle.rules.specs.Text.{writeText}
 use Rattle.rules.specs.Queries.{Field, fieldOf, askPlugin, lowestFrom, idFrom}
 use Rattle.rules.specs.Steps.{Op, answerTo, Register, Begin, Ready, Fail, Unload, Finish, Replace, Admit, Call, Retire, RetireChild, Remove, Offer, Ask, Write}
-use Rattle.rules.specs.Questions.{ResolveKey, DependencyPort, Fits, Admits, ChildIdentity, Read, Visible, Own, FirstMissing, Matching, Declares, Listed, AskPlugin, AskRegistry, IdFrom}
+use Rattle.rules.specs.Questions.{ResolveKey, DependencyPort, Fits, Admits, ChildIdentity, Read, Visible, Own, FirstMissing, Matching, Declares, Listed, AskPlugin, AskRegistry, IdFrom, Text}
 use Rattle.rules.specs.Laws.Tests.{checked-elim, found-elim}
 use Rattle.console_show.specs.Shown.{valuesOf}
 use Rattle.console_show.specs.Told.{one-fits, field-fits}
@@ -103,7 +104,7 @@ few-seen q (some p) = few-picked (isActive (p .phase)) (one (valueIn q (p .provi
 
 -- No operation answers more than six numbers.
 pub few-values : (r : Registry) (o : Op) → length (valuesOf (answerTo r o)) ≤ 6
-unfolding resolveKey dependencyPort register begin ready fail unload finish replace fits admit admits call retire retireChild childIdentity remove offer read visible own missing matching declares listing list askPlugin idFrom
+unfolding resolveKey dependencyPort register begin ready fail unload finish replace fits admit admits call retire retireChild childIdentity remove offer read visible own missing matching declares listing list askPlugin idFrom writeText
 few-values r (Ask (ResolveKey realms key)) = few-checked _ _ (omega arith)
 few-values r (Ask (DependencyPort id key)) = few-known r id _ λ p. few-first key (p .dependencies)
 few-values r (Register d) = few-checked _ _ (omega arith)
@@ -129,6 +130,7 @@ few-values r (Ask (FirstMissing id)) = few-known r id _ λ p. few-missing (p .pr
 few-values r (Ask (Matching id ports)) = few-known r id _ λ p. omega arith
 few-values r (Ask (Declares id q)) = few-known r id _ λ p. omega arith
 few-values r (Write (Listed w id place) buffer) = few-known r id _ λ p. few-checked _ _ (omega arith)
+few-values r (Write Text buffer) = few-checked _ _ (omega arith)
 few-values r (Ask (AskPlugin f id)) = few-known r id _ λ p. few-field f p
 few-values r (Ask (AskRegistry t)) = omega arith
 few-values r (Ask (IdFrom n)) = few-one (lowestFrom n (plugins r))

@@ -1,7 +1,7 @@
 // The table of the console's operations, and the numbers behind a name.
 ghost use mathlib.Core.Path.{_≡_};
 ghost use lib.ListN.{getD, drop};
-ghost use Rattle.console_words.specs.Sense.{words};
+ghost use Rattle.console_words.specs.Parted.{words};
 ghost use Rattle.console_names.specs.Names.{placeAmong};
 ghost use Rattle.console_names.specs.Table.{names, rowAt, takes};
 ghost use Rattle.console_names.specs.Rows.{kindOf, rowOf};

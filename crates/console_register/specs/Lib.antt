@@ -1,1 +1,1 @@
-pub mod Enrolled
+pub mod Registrations

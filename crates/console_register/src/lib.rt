@@ -1,8 +1,8 @@
 // The console's registration: the definition that a line holds goes to the registry.
 ghost use Rattle.rules.specs.Holds.{port};
-ghost use Rattle.console_definition.specs.Draft.{drafted, listsIn, draftIn};
+ghost use Rattle.console_definition.specs.Definitions.{definitionOf, listsIn, definitionIn};
 ghost use Rattle.console_operations.specs.Carried.{Carried};
-ghost use Rattle.console_register.specs.Enrolled.{enrolment, underParent};
+ghost use Rattle.console_register.specs.Registrations.{registration, underParent};
 use console_definition::Head;
 use console_definition::Parent;
 use console_names::BAD;
@@ -49,7 +49,7 @@ fn with_lists(
     bytes: &[u8],
     out: &mut [u64; ANSWER],
 ) -> u64
-    ensures { λ r. ⌜ Carried (now (m .entry)) (enrolment (drafted under head (listsIn (now (bytes .entry)) (head .stop))))
+    ensures { λ r. ⌜ Carried (now (m .entry)) (registration (definitionOf under head (listsIn (now (bytes .entry)) (head .stop))))
         (now (out .entry)) r (now (out .exit)) (now (m .exit)) ⌝ }
 {
     if !head.found {
@@ -76,8 +76,8 @@ fn with_lists(
 }
 
 // What stands behind the word `register`.
-pub fn enrolled(m: &mut [u64; WORDS], bytes: &[u8], from: usize, out: &mut [u64; ANSWER]) -> u64
-    ensures { λ r. ⌜ Carried (now (m .entry)) (enrolment (draftIn (now (bytes .entry)) from)) (now (out .entry)) r (now (out .exit)) (now (m .exit)) ⌝ }
+pub fn registered(m: &mut [u64; WORDS], bytes: &[u8], from: usize, out: &mut [u64; ANSWER]) -> u64
+    ensures { λ r. ⌜ Carried (now (m .entry)) (registration (definitionIn (now (bytes .entry)) from)) (now (out .entry)) r (now (out .exit)) (now (m .exit)) ⌝ }
 {
     let under = console_definition::read_parent(bytes, from);
     let parent = under.parent;

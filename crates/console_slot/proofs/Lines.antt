@@ -8,19 +8,19 @@ use Rattle.console_words.specs.Words.{nextWord, bytesOf}
 use Rattle.console_words.specs.declared.Span.{Span}
 use Rattle.console_names.specs.Behind.{numbersBehind}
 use Rattle.console_answer.specs.Pages.{Page}
-use Rattle.console_slot.specs.Turns.{turnedBy}
-use Rattle.console_slot.specs.Lines.{Turned, Turns, turnedOr, slotLine}
+use Rattle.console_slot.specs.Operations.{decidedBy}
+use Rattle.console_slot.specs.Lines.{SlotAfter, LeavesSlot, decidedOr, slotLine}
 
-pub same-turn : (a b : Turned) (text : List ℕ) (place : ℕ) (slot : Slot) → a ≡ b → Turns b text place slot → Turns a text place slot
-same-turn a b text place slot e t = rw e t
+pub same-after : (a b : SlotAfter) (text : List ℕ) (place : ℕ) (slot : Slot) → a ≡ b → LeavesSlot b text place slot → LeavesSlot a text place slot
+same-after a b text place slot e t = rw e t
 
 module _ (p : Page) (s : Slot) (line : List ℕ) (from : ℕ) (w : Span) (e : w ≡ nextWord line from) where
-  pub no-turn : numbersBehind line (w .stop) ≡ none → slotLine p s line from ≡ turnedOr p s none
-  no-turn h =
+  pub bad-line : numbersBehind line (w .stop) ≡ none → slotLine p s line from ≡ decidedOr p s none
+  bad-line h =
       let k : numbersBehind line (nextWord line from .stop) ≡ none = rw e at h in
       rw k
 
-  pub a-turn : (l : List ℕ) → numbersBehind line (w .stop) ≡ some l → (t : Option Decided) → t ≡ turnedBy s (bytesOf line w) l → slotLine p s line from ≡ turnedOr p s t
-  a-turn l h t d =
+  pub named-line : (l : List ℕ) → numbersBehind line (w .stop) ≡ some l → (t : Option Decided) → t ≡ decidedBy s (bytesOf line w) l → slotLine p s line from ≡ decidedOr p s t
+  named-line l h t d =
       let k : numbersBehind line (nextWord line from .stop) ≡ some l = rw e at h in
       rw (k, d, e)

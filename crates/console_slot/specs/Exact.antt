@@ -2,15 +2,15 @@
 use mathlib.Core.Path.{_≡_, refl, ap}
 use Rattle.slot.specs.Slots.{decidedOf}
 use Rattle.slot.specs.Exact.{decided-exact}
-use Rattle.console_slot.specs.declared.Turn.{Turn}
-use Rattle.console_slot.specs.declared.Turn.the-variants.{Bad, Now}
-use Rattle.console_slot.specs.Turns.{turnOf}
+use Rattle.console_slot.specs.declared.Decides.{Decides}
+use Rattle.console_slot.specs.declared.Decides.the-variants.{Bad, Now}
+use Rattle.console_slot.specs.Operations.{decidesOf}
 
--- Two outcomes that the contract of turned allows are equal.
-pub turn-exact : (a b : Turn) → turnOf a ≡ turnOf b → a ≡ b
-turn-exact Bad Bad e = refl
-turn-exact Bad (Now d) e = cc
-turn-exact (Now d) Bad e = cc
-turn-exact (Now c) (Now d) e =
+-- Two outcomes that the contract of decided_by allows are equal.
+pub decides-exact : (a b : Decides) → decidesOf a ≡ decidesOf b → a ≡ b
+decides-exact Bad Bad e = refl
+decides-exact Bad (Now d) e = cc
+decides-exact (Now d) Bad e = cc
+decides-exact (Now c) (Now d) e =
     let f : decidedOf c ≡ decidedOf d = cc in
     ap Now (decided-exact c d f)

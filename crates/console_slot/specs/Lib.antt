@@ -1,3 +1,3 @@
-pub mod Turns
+pub mod Operations
 pub mod Exact
 pub mod Lines

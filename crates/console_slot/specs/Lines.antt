@@ -9,26 +9,26 @@ use Rattle.console_names.specs.Behind.{numbersBehind}
 use Rattle.console_answer.specs.Pages.{Page, upTo, putOn}
 use Rattle.console_answer.specs.Answers.{badWord}
 use Rattle.console_answer.specs.Slots.{decidedOn}
-use Rattle.console_slot.specs.Turns.{turnedBy}
+use Rattle.console_slot.specs.Operations.{decidedBy}
 
-pub record Turned : Type 0 where
+pub record SlotAfter : Type 0 where
   pub page : Page
   pub slot : Slot
 
 -- A text and a slot as a line leaves them.
-abbrev pub Turns : Turned → List ℕ → ℕ → Slot → Type 0
-Turns t text place slot = (upTo text place ≡ t .page) × (slot ≡ t .slot)
+abbrev pub LeavesSlot : SlotAfter → List ℕ → ℕ → Slot → Type 0
+LeavesSlot t text place slot = (upTo text place ≡ t .page) × (slot ≡ t .slot)
 
-abbrev pub turnedOr : Page → Slot → Option Decided → Turned
-turnedOr p s none = record { page = putOn p badWord; slot = s }
-turnedOr p s (some d) = record { page = decidedOn p d; slot = d .slot }
+abbrev pub decidedOr : Page → Slot → Option Decided → SlotAfter
+decidedOr p s none = record { page = putOn p badWord; slot = s }
+decidedOr p s (some d) = record { page = decidedOn p d; slot = d .slot }
 
-abbrev pub namedTurn : Page → Slot → List ℕ → Option (List ℕ) → Turned
-namedTurn p s name none = record { page = putOn p badWord; slot = s }
-namedTurn p s name (some l) = turnedOr p s (turnedBy s name l)
+abbrev pub namedLine : Page → Slot → List ℕ → Option (List ℕ) → SlotAfter
+namedLine p s name none = record { page = putOn p badWord; slot = s }
+namedLine p s name (some l) = decidedOr p s (decidedBy s name l)
 
 -- slot NAME N..
-abbrev pub slotLine : Page → Slot → List ℕ → ℕ → Turned
+abbrev pub slotLine : Page → Slot → List ℕ → ℕ → SlotAfter
 slotLine p s line from =
     let w = nextWord line from in
-    namedTurn p s (bytesOf line w) (numbersBehind line (w .stop))
+    namedLine p s (bytesOf line w) (numbersBehind line (w .stop))

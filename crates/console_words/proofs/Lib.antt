@@ -1,4 +1,4 @@
 pub mod Places
 pub mod Alike
-pub mod Gathering
+pub mod Runs
 pub mod Bytes

@@ -1,5 +1,5 @@
 pub mod Words
 pub mod Runs
-pub mod Sense
+pub mod Parted
 pub mod Fronts
 pub mod Bytes

@@ -1,6 +1,6 @@
 -- Each promise of these crates allows one outcome: the console.
 use denote.Ref.{now}
-use Rattle.console_slot.specs.Exact.{turn-exact}
+use Rattle.console_slot.specs.Exact.{decides-exact}
 use Rattle.console_words.proofs as console_words
 use Rattle.console_answer.proofs as console_answer
 use Rattle.console_names.proofs as console_names
@@ -12,7 +12,7 @@ use Rattle.console_register.proofs as console_register
 use Rattle.console_line.proofs as console_line
 use Rattle.outcome.specs.One.{One, OneSeen}
 use Rattle.outcome.specs.Equations.{by-equation, by-two, by-three, one-outcome}
-use Rattle.outcome.specs.Records.{gathered-one, leaves-one, numbered-one, page-one, spanned-one, three-one, turns-one}
+use Rattle.outcome.specs.Records.{gathered-one, leaves-one, numbered-one, page-one, spanned-one, three-one, leaves-slot-one}
 
 pub console-words-next-word : One console_words.«next_word».ended console_words.«next_word».Reads.Learnt
 console-words-next-word κs a r s ms ns p q = spanned-one p q
@@ -86,11 +86,11 @@ console-definition-read-head κs a r s ms ns p q = by-equation p q
 pub console-definition-three-lists : One console_definition.«three_lists».ended console_definition.«three_lists».Reads.Learnt
 console-definition-three-lists κs a r s ms ns p q = three-one p q
 
-pub console-slot-turned : One console_slot.turned.ended console_slot.turned.Reads.Learnt
-console-slot-turned κs a r s ms ns p q = one-outcome turn-exact p q
+pub console-slot-decided-by : One console_slot.«decided_by».ended console_slot.«decided_by».Reads.Learnt
+console-slot-decided-by κs a r s ms ns p q = one-outcome decides-exact p q
 
 pub console-slot-slot-line : One console_slot.«slot_line».ended console_slot.«slot_line».Reads.Learnt
-console-slot-slot-line κs a r s ms ns p q = turns-one p q
+console-slot-slot-line κs a r s ms ns p q = leaves-slot-one p q
 
 pub console-show-spoken : One console_show.spoken.ended console_show.spoken.Reads.Learnt
 console-show-spoken κs a r s ms ns p q = page-one p q
@@ -107,8 +107,8 @@ console-operations-carried-out κs a r s ms ns p q = by-three p q
 pub console-operations-listed : One console_operations.listed.ended console_operations.listed.Reads.Learnt
 console-operations-listed κs a r s ms ns p q = by-three p q
 
-pub console-register-enrolled : One console_register.enrolled.ended console_register.enrolled.Reads.Learnt
-console-register-enrolled κs a r s ms ns p q = by-three p q
+pub console-register-registered : One console_register.registered.ended console_register.registered.Reads.Learnt
+console-register-registered κs a r s ms ns p q = by-three p q
 
 pub console-line-answered : One console_line.answered.ended console_line.answered.Reads.Learnt
 console-line-answered κs a r s ms ns p q = leaves-one p q

@@ -13,11 +13,11 @@ use Rattle.console_words.specs.declared.Span.{Span}
 use Rattle.console_words.specs.declared.Run.{Run}
 use Rattle.console_names.specs.Behind.{Numbered}
 use Rattle.console_names.specs.declared.Behind.{Behind}
-use Rattle.console_definition.specs.Draft.{ThreeLists}
+use Rattle.console_definition.specs.Definitions.{ThreeLists}
 use Rattle.console_definition.specs.Found.{Three}
 use Rattle.console_definition.specs.declared.Lists.{Lists}
 use Rattle.console_answer.specs.Pages.{Page, upTo}
-use Rattle.console_slot.specs.Lines.{Turned, Turns}
+use Rattle.console_slot.specs.Lines.{SlotAfter, LeavesSlot}
 use Rattle.console_slot.specs.declared.Said.{Said}
 use Rattle.console_line.specs.Console.{After, Leaves}
 use Rattle.outcome.specs.Equations.{by-equation}
@@ -72,9 +72,9 @@ said-one : {r s : Said} → r .stop ≡ s .stop → slotOf (r .slot) ≡ slotOf 
 said-one {r} {s} e g = let d = slot-exact (r .slot) (s .slot) g in λ i. record { stop = e i; slot = d i }
 
 -- A slot's line: the text, and the slot.
-pub turns-one : {t : Turned} {o n : List ℕ} {r s : Said}
-    → Turns t o (r .stop) (slotOf (r .slot)) → Turns t n (s .stop) (slotOf (s .slot)) → (r ≡ s) × (o ≡ n)
-turns-one p q = let t = page-one (p .0) (q .0) in (said-one (t .0) (by-equation (p .1) (q .1)), t .1)
+pub leaves-slot-one : {t : SlotAfter} {o n : List ℕ} {r s : Said}
+    → LeavesSlot t o (r .stop) (slotOf (r .slot)) → LeavesSlot t n (s .stop) (slotOf (s .slot)) → (r ≡ s) × (o ≡ n)
+leaves-slot-one p q = let t = page-one (p .0) (q .0) in (said-one (t .0) (by-equation (p .1) (q .1)), t .1)
 
 -- A line of the console: the text, the memory, the buffer and the slot.
 pub leaves-one : {x : After} {o n m m′ b b′ : List ℕ} {r s : Said}

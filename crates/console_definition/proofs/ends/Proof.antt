@@ -1,5 +1,5 @@
 -- `ends` meets its contract: a list that is found ends if it stops at the line's end, and any other does not.
-use Rattle.console_definition.proofs.Drafting.{ends-if}
+use Rattle.console_definition.proofs.Definitions.{ends-if}
 use borrow.Author.Needs.{needs}
 use Rattle.console_definition.proofs.ends.Statement.{statement}
 use Rattle.console_definition.proofs.ends.Tie as tie

@@ -1,6 +1,6 @@
 -- `list_behind` meets its contract: the next word is the name, and its list is what `numbers` gathers, or the list is missing.
 use mathlib.Core.Path.{sym, _∙_}
-use Rattle.console_definition.proofs.Drafting.{list-here, list-missing}
+use Rattle.console_definition.proofs.Definitions.{list-here, list-missing}
 use borrow.Author.Needs.{needs}
 use Rattle.console_definition.proofs.list_behind.Statement.{statement}
 use Rattle.console_definition.proofs.list_behind.Tie as tie

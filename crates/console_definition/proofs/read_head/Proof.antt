@@ -1,5 +1,5 @@
 -- `read_head` meets its contract: three numbers are read, each from where the last stopped, and `all` says if each is one.
-use Rattle.console_definition.proofs.Drafting.{head-of}
+use Rattle.console_definition.proofs.Definitions.{head-of}
 use borrow.Author.Needs.{needs}
 use Rattle.console_definition.proofs.read_head.Statement.{statement}
 use Rattle.console_definition.proofs.read_head.Tie as tie

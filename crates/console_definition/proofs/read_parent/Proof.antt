@@ -1,7 +1,7 @@
 -- `read_parent` meets its contract: the next word is `none`, a number, or neither, and each is a case of the definition.
 use mathlib.Core.Path.{sym, ap, _∙_}
 use Rattle.text_decimal.specs.Numbers.{readOf}
-use Rattle.console_definition.proofs.Drafting.{nobody, parent-of, no-parent}
+use Rattle.console_definition.proofs.Definitions.{nobody, parent-of, no-parent}
 use borrow.Author.Needs.{needs}
 use Rattle.console_definition.proofs.read_parent.Statement.{statement}
 use Rattle.console_definition.proofs.read_parent.Tie as tie

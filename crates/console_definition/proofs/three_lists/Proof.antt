@@ -1,5 +1,5 @@
 -- `three_lists` meets its contract: each list is read from where the last stopped, and `ends` and `all` say if all are found.
-use Rattle.console_definition.proofs.Drafting.{three-of}
+use Rattle.console_definition.proofs.Definitions.{three-of}
 use borrow.Author.Needs.{needs}
 use Rattle.console_definition.proofs.three_lists.Statement.{statement}
 use Rattle.console_definition.proofs.three_lists.Tie as tie

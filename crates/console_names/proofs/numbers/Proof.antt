@@ -1,6 +1,6 @@
 -- `numbers` meets its contract: the run is as the call promises, and it is all there is exactly if it stops at the line's end.
 use native.Mathlib.Omega.{arith}
-use Rattle.console_names.proofs.Naming.{other-behind, none-behind}
+use Rattle.console_names.proofs.Names.{other-behind, none-behind}
 use borrow.Author.Needs.{needs}
 use Rattle.console_names.proofs.numbers.Statement.{statement}
 use Rattle.console_names.proofs.numbers.Tie as tie

@@ -1,5 +1,5 @@
 -- The names in the code's text are those of the table, in its order.
-use Rattle.console_words.specs.Sense.{wordsAfter}
+use Rattle.console_words.specs.Parted.{wordsAfter}
 use borrow.Author.Needs.{needs}
 use Rattle.console_names.proofs.operation.Statement.{statement}
 use Rattle.console_names.proofs.operation.Tie as tie

@@ -2,9 +2,9 @@
 use Prim.Native.Nat.{_+_, _-_, _≤_}
 use mathlib.Core.Path.{_≡_, sym, _∙_}
 use lib.ListN.{length, drop}
-use Rattle.console_words.specs.Sense.{words}
+use Rattle.console_words.specs.Parted.{words}
 use Rattle.console_names.specs.Names.{placeAmong}
-use Rattle.console_names.proofs.Naming.{past-names, no-name, this-name, other-name, not-before}
+use Rattle.console_names.proofs.Names.{past-names, no-name, this-name, other-name, not-before}
 use native.Mathlib.Omega.{arith}
 use borrow.Author.Needs.{needs}
 use Rattle.console_names.proofs.which.Statement.{statement}

@@ -3,7 +3,7 @@ use mathlib.Core.Path.{refl, ap}
 use Rattle.rules.specs.Holds.{port}
 use Rattle.console_operations.specs.Carried.{same}
 use Rattle.console_definition.specs.declared.Parent.{Parent}
-use Rattle.console_register.specs.Enrolled.{underParent}
+use Rattle.console_register.specs.Registrations.{underParent}
 use borrow.Author.Needs.{needs}
 use Rattle.console_register.proofs.register.Statement.{statement}
 use Rattle.console_register.proofs.register.Tie as tie

@@ -1,7 +1,7 @@
 -- `with_lists` meets its contract: a bad head or a list not found is bad, and else the arrays' fronts are the lists to register.
 use mathlib.Core.Path.{refl, sym, _∙_}
 use Rattle.console_operations.specs.Carried.{same}
-use Rattle.console_definition.specs.Draft.{listsIn}
+use Rattle.console_definition.specs.Definitions.{listsIn}
 use Rattle.console_words.specs.Fronts.{front-is}
 use Rattle.console_register.proofs.Laws.{no-head, no-lists, all-there, yes}
 use borrow.Author.Needs.{needs}

@@ -1,8 +1,8 @@
--- `with_three` meets its contract: the name is one of three words, each with its call's promise, or no turn.
+-- `with_three` meets its contract: the name is one of three words, each with its call's promise, or the line is bad.
 use mathlib.Core.Path.{sym, ap, _∙_}
 use mathlib.Core.Option.{some}
 use Rattle.slot.specs.Slots.{identityOf, slotOf}
-use Rattle.console_slot.proofs.Turning.{newTurn, is-pending, is-assigned, is-assign, no-turn}
+use Rattle.console_slot.proofs.Operations.{newDecides, is-pending, is-assigned, is-assign, no-name}
 use borrow.Author.Needs.{needs}
 use Rattle.console_slot.proofs.with_three.Statement.{statement}
 use Rattle.console_slot.proofs.with_three.Tie as tie
@@ -23,7 +23,7 @@ returns : tie.Need-returns
 returns c =
     let w = c .before .before .before in
     let st = w .before .before .before in
-    c .new-slot .ensures ∙ ap newTurn (c .before .pending .ensures) ∙ is-pending (slotOf (st .args .slot)) (st .args .name .now) (identityOf (st .args .child)) (sym (w .is-word .ensures) ∙ c .before .before .if1 .taken)
+    c .new-slot .ensures ∙ ap newDecides (c .before .pending .ensures) ∙ is-pending (slotOf (st .args .slot)) (st .args .name .now) (identityOf (st .args .child)) (sym (w .is-word .ensures) ∙ c .before .before .if1 .taken)
 
 slice-aggregate-is-word-2 : tie.Need-slice-aggregate-is-word-2
 slice-aggregate-is-word-2 c = search needs
@@ -42,7 +42,7 @@ returns-2 c =
     let w2 = c .before .before .before in
     let w = w2 .before .before .before in
     let st = w .before .before .before in
-    c .new-slot2 .ensures ∙ ap newTurn (c .before .assigned .ensures) ∙ is-assigned (slotOf (st .args .slot)) (st .args .name .now) (identityOf (st .args .child)) (sym (w .is-word .ensures) ∙ w2 .before .before .if1 .left) (sym (w2 .is-word2 .ensures) ∙ c .before .before .if2 .taken)
+    c .new-slot2 .ensures ∙ ap newDecides (c .before .assigned .ensures) ∙ is-assigned (slotOf (st .args .slot)) (st .args .name .now) (identityOf (st .args .child)) (sym (w .is-word .ensures) ∙ w2 .before .before .if1 .left) (sym (w2 .is-word2 .ensures) ∙ c .before .before .if2 .taken)
 
 slice-aggregate-is-word-3 : tie.Need-slice-aggregate-is-word-3
 slice-aggregate-is-word-3 c = search needs
@@ -67,7 +67,7 @@ returns-4 c =
     let w2 = w3 .before .before .before in
     let w = w2 .before .before .before in
     let st = w .before .before .before in
-    no-turn (slotOf (st .args .slot)) (st .args .name .now) (identityOf (st .args .child)) (sym (w .is-word .ensures) ∙ w2 .before .before .if1 .left) (sym (w2 .is-word2 .ensures) ∙ w3 .before .before .if2 .left) (sym (w3 .is-word3 .ensures) ∙ c .if3 .left)
+    no-name (slotOf (st .args .slot)) (st .args .name .now) (identityOf (st .args .child)) (sym (w .is-word .ensures) ∙ w2 .before .before .if1 .left) (sym (w2 .is-word2 .ensures) ∙ w3 .before .before .if2 .left) (sym (w3 .is-word3 .ensures) ∙ c .if3 .left)
 
 pub with-three-spec : {M : Type 1} → statement M
 with-three-spec =

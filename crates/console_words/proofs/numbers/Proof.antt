@@ -4,7 +4,7 @@ use mathlib.Core.Path.{_≡_, refl, sym, ap, _∙_}
 use lib.ListN.{length, take, drop}
 use Rattle.text_decimal.specs.Numbers.{readOf}
 use Rattle.console_words.specs.Runs.{runFrom}
-use Rattle.console_words.proofs.Gathering.{ahead, run-stop, run-next, run-full, gathered, stored}
+use Rattle.console_words.proofs.Runs.{ahead, run-stop, run-next, run-full, gathered, stored}
 use native.Mathlib.Omega.{arith}
 use borrow.Author.Needs.{needs}
 use Rattle.console_words.proofs.numbers.Statement.{statement}

@@ -1,11 +1,11 @@
--- `turned` meets its contract: no number, three numbers and any other count are the definition's cases.
+-- `decided_by` meets its contract: no number, three numbers and any other count are the definition's cases.
 use mathlib.Core.Path.{_∙_}
 use Rattle.slot.specs.Slots.{slotOf}
-use Rattle.console_slot.proofs.Turning.{no-number, three-numbers, other-count}
+use Rattle.console_slot.proofs.Operations.{no-number, three-numbers, other-count}
 use native.Mathlib.Omega.{arith}
 use borrow.Author.Needs.{needs}
-use Rattle.console_slot.proofs.turned.Statement.{statement}
-use Rattle.console_slot.proofs.turned.Tie as tie
+use Rattle.console_slot.proofs.decided_by.Statement.{statement}
+use Rattle.console_slot.proofs.decided_by.Tie as tie
 
 with-none-requires : tie.Need-with-none-requires
 with-none-requires c κs = search needs
@@ -38,8 +38,8 @@ returns-3 c =
     let st = e2 .before .before .before .before in
     c .with-three .ensures ∙ three-numbers (slotOf (st .args .slot)) (st .args .name .now) (st .args .list .now) (omega arith)
 
-pub turned-spec : {M : Type 1} → statement M
-turned-spec =
+pub decided-by-spec : {M : Type 1} → statement M
+decided-by-spec =
     tie.close
     (tie.spec
     with-none-requires

@@ -10,10 +10,10 @@ use Rattle.rules.specs.Basics.{sameNumbers}
 use Rattle.rules.specs.Retirement.{Identity}
 use Rattle.rules.specs.Slot as rules
 use Rattle.text_form.specs.Bytes.{bytes}
-use Rattle.console_slot.specs.Turns.{newSlot, withNone, withThree, turnedBy}
+use Rattle.console_slot.specs.Operations.{newSlot, withNone, withThree, decidedBy}
 
-abbrev pub newTurn : rules.Slot → Option rules.Decided
-newTurn s = some (newSlot s)
+abbrev pub newDecides : rules.Slot → Option rules.Decided
+newDecides s = some (newSlot s)
 
 module _ (s : rules.Slot) (name : List ℕ) where
   pub is-reject : sameNumbers name (bytes "reject") ≡ true → some (rules.reject s) ≡ withNone s name
@@ -44,26 +44,26 @@ module _ (s : rules.Slot) (name : List ℕ) (c : Identity) where
       unfolding withThree
       is-assign e = rw (n, m, e)
 
-      pub no-turn : sameNumbers name (bytes "assign") ≡ false → none ≡ withThree s name c
+      pub no-name : sameNumbers name (bytes "assign") ≡ false → none ≡ withThree s name c
       unfolding withThree
-      no-turn e = rw (n, m, e)
+      no-name e = rw (n, m, e)
 
 module _ (s : rules.Slot) (name : List ℕ) where
-  pub no-number : (l : List ℕ) → length l ≡ 0 → withNone s name ≡ turnedBy s name l
-  unfolding turnedBy
+  pub no-number : (l : List ℕ) → length l ≡ 0 → withNone s name ≡ decidedBy s name l
+  unfolding decidedBy
   no-number [] e = refl
   no-number (a ∷ l) e = absurd (omega arith)
 
-  pub three-numbers : (l : List ℕ) → length l ≡ 3 → withThree s name (record { domain = getD l 0 0; parent = getD l 1 0; id = getD l 2 0 }) ≡ turnedBy s name l
-  unfolding turnedBy
+  pub three-numbers : (l : List ℕ) → length l ≡ 3 → withThree s name (record { domain = getD l 0 0; parent = getD l 1 0; id = getD l 2 0 }) ≡ decidedBy s name l
+  unfolding decidedBy
   three-numbers [] e = absurd (omega arith)
   three-numbers (a ∷ []) e = absurd (omega arith)
   three-numbers (a ∷ b ∷ []) e = absurd (omega arith)
   three-numbers (a ∷ b ∷ c ∷ []) e = refl
   three-numbers (a ∷ b ∷ c ∷ d ∷ l) e = absurd (omega arith)
 
-  pub other-count : (l : List ℕ) → (length l ≡ 0 → ⊥) → (length l ≡ 3 → ⊥) → none ≡ turnedBy s name l
-  unfolding turnedBy
+  pub other-count : (l : List ℕ) → (length l ≡ 0 → ⊥) → (length l ≡ 3 → ⊥) → none ≡ decidedBy s name l
+  unfolding decidedBy
   other-count [] z t = absurd (z refl)
   other-count (a ∷ []) z t = refl
   other-count (a ∷ b ∷ []) z t = refl

@@ -102,14 +102,14 @@ given parent h l = record {
   payload = h .payload;
 }
 
-abbrev pub drafted : Parent → Head → ThreeLists → Option Definition
-drafted (Of id) h l = pick (h .found && l .found) (some (given (some id) h l)) none
-drafted None h l = pick (h .found && l .found) (some (given none h l)) none
-drafted Bad h l = none
+abbrev pub definitionOf : Parent → Head → ThreeLists → Option Definition
+definitionOf (Of id) h l = pick (h .found && l .found) (some (given (some id) h l)) none
+definitionOf None h l = pick (h .found && l .found) (some (given none h l)) none
+definitionOf Bad h l = none
 
 -- The registration that stands in a line from a place on; none where the line is no registration.
-unfoldable pub draftIn : List ℕ → ℕ → Option Definition
-draftIn line from =
+unfoldable pub definitionIn : List ℕ → ℕ → Option Definition
+definitionIn line from =
     let under = underIn line from in
     let head = headIn line (under .stop) in
-    drafted (under .parent) head (listsIn line (head .stop))
+    definitionOf (under .parent) head (listsIn line (head .stop))

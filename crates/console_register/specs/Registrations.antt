@@ -12,9 +12,9 @@ use Rattle.console_definition.specs.declared.Parent.the-variants.{Of, None, Bad
 use Rattle.console_names.specs.Table as asked
 use Rattle.console_names.specs.Table.{Asked, Told}
 
-abbrev pub enrolment : Option Definition → Asked
-enrolment none = asked.Bad
-enrolment (some d) = Told (Register d)
+abbrev pub registration : Option Definition → Asked
+registration none = asked.Bad
+registration (some d) = Told (Register d)
 
 -- The same by the parent's word.
 abbrev pub underParent : Parent → Port → List ℕ → List ℕ → List ℕ → ℕ → Asked

@@ -10,7 +10,7 @@ use borrow.Author.Tests.{lt-ltb, le-ltb}
 use Rattle.rules.specs.Basics.{sameNumbers}
 use Rattle.console_words.specs.Words.{spaces, nextWord, bytesOf}
 use Rattle.console_words.specs.declared.Span.{Span}
-use Rattle.console_words.specs.Sense.{words, wordsAfter, closed, next-of-words, no-next-word}
+use Rattle.console_words.specs.Parted.{words, wordsAfter, closed, next-of-words, no-next-word}
 use Rattle.console_words.specs.Runs.{runFrom, Gathered}
 use Rattle.console_words.specs.declared.Run.{Run}
 use Rattle.console_words.specs.Fronts.{Front, fronted}

@@ -16,7 +16,7 @@ use Rattle.console_words.specs.declared.Run.{Run}
 use Rattle.console_definition.specs.declared.Parent.the-variants.{Of, None, Bad}
 use Rattle.console_definition.specs.declared.Number.{Number}
 use Rattle.console_definition.specs.declared.Counted.{Counted}
-use Rattle.console_definition.specs.Draft.{wordFrom, parentIn, underIn, numberIn, headIn, Listed, listed, listBehind, three, listsIn}
+use Rattle.console_definition.specs.Definitions.{wordFrom, parentIn, underIn, numberIn, headIn, Listed, listed, listBehind, three, listsIn}
 use Rattle.console_words.specs.Fronts.{Front, fronted}
 use Rattle.console_definition.specs.Found.{countOf, Behind, Three}
 

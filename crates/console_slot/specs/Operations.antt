@@ -8,12 +8,12 @@ use Rattle.rules.specs.Retirement.{Identity}
 use Rattle.rules.specs.Slot as rules
 use Rattle.text_form.specs.Bytes.{bytes}
 use Rattle.slot.specs.Slots.{decidedOf}
-use Rattle.console_slot.specs.declared.Turn.{Turn}
-use Rattle.console_slot.specs.declared.Turn.the-variants.{Bad, Now}
+use Rattle.console_slot.specs.declared.Decides.{Decides}
+use Rattle.console_slot.specs.declared.Decides.the-variants.{Bad, Now}
 
-abbrev pub turnOf : Turn → Option rules.Decided
-turnOf Bad = none
-turnOf (Now d) = some (decidedOf d)
+abbrev pub decidesOf : Decides → Option rules.Decided
+decidesOf Bad = none
+decidesOf (Now d) = some (decidedOf d)
 
 -- A new slot takes the old one's place.
 abbrev pub newSlot : rules.Slot → rules.Decided
@@ -35,9 +35,9 @@ withThree s name c =
     none))
 
 -- What the slot comes to, or none where name and numbers are no operation of it.
-unfoldable pub turnedBy : rules.Slot → List ℕ → List ℕ → Option rules.Decided
-turnedBy s name [] = withNone s name
-turnedBy s name (a ∷ []) = none
-turnedBy s name (a ∷ b ∷ []) = none
-turnedBy s name (a ∷ b ∷ c ∷ []) = withThree s name (record { domain = a; parent = b; id = c })
-turnedBy s name (a ∷ b ∷ c ∷ d ∷ l) = none
+unfoldable pub decidedBy : rules.Slot → List ℕ → List ℕ → Option rules.Decided
+decidedBy s name [] = withNone s name
+decidedBy s name (a ∷ []) = none
+decidedBy s name (a ∷ b ∷ []) = none
+decidedBy s name (a ∷ b ∷ c ∷ []) = withThree s name (record { domain = a; parent = b; id = c })
+decidedBy s name (a ∷ b ∷ c ∷ d ∷ l) = none
