@@ -14,9 +14,16 @@ pub record Page : Type 0 where
 abbrev pub upTo : List ℕ → ℕ → Page
 upTo text place = record { text = text; place = place }
 
--- How many bytes the text has.
+-- How many bytes the longest line of an answer has, and the longest text behind one.
+abbrev pub lineRoom : ℕ
+lineRoom = 2103
+
+abbrev pub textRoom : ℕ
+textRoom = 131072
+
+-- How many bytes a page has.
 abbrev pub room : ℕ
-room = 2103
+room = lineRoom + textRoom
 
 -- Bytes at the page's place, if they fit the room; if they do not, all stays.
 unfoldable pub putOn : Page → List ℕ → Page

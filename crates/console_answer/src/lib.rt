@@ -3,7 +3,7 @@ ghost use mathlib.Core.Path.{_≡_};
 ghost use lib.ListN.{length, take};
 ghost use Rattle.rules.specs.Answers.{optionOf};
 ghost use Rattle.slot.specs.Slots.{identityOf, decisionOf, slotOf, decidedOf};
-ghost use Rattle.console_answer.specs.Pages.{upTo, putOn, numberOn, numbersOn};
+ghost use Rattle.console_answer.specs.Pages.{upTo, room, putOn, numberOn, numbersOn};
 ghost use Rattle.console_answer.specs.Answers.{okWord, toldIn, answerIn, refusalOn, answerOn, orNoneOn, answerOrNoneOn, saysYes, answerYesNoOn};
 ghost use Rattle.console_answer.specs.Slots.{generationOn, identityOn, decisionOn, slotOn, decidedOn};
 use host_answers::ANSWER;
@@ -14,8 +14,13 @@ use slot::Decision;
 use slot::Identity;
 use slot::Slot;
 
-// Room for the longest answer: `ok`, a hundred numbers of 20 digits, each behind a space, and byte 10.
-pub const ROOM: usize = 2103;
+// Room for the longest line of an answer: `ok`, a hundred numbers of 20 digits, each behind a space, and byte 10.
+const LINE_ROOM: usize = 2103;
+
+// Room for the longest text that stands behind a line.
+pub const TEXT_ROOM: usize = 131072;
+
+pub const ROOM: usize = LINE_ROOM + TEXT_ROOM;
 
 fn count(bytes: &[u8]) -> usize
     ensures { λ r. ⌜ r ≡ length (now (bytes .entry)) ⌝ }
@@ -25,7 +30,7 @@ fn count(bytes: &[u8]) -> usize
 
 // An array's list is as long as its type says.
 fn known(text: &[u8; ROOM])
-    ensures { λ _. ⌜ length (now (text .entry)) ≡ 2103 ⌝ }
+    ensures { λ _. ⌜ length (now (text .entry)) ≡ room ⌝ }
 {
     count(text);
 }

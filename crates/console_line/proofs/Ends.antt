@@ -6,9 +6,9 @@ use mathlib.Core.List.{List}
 use lib.ListN.{getD, take}
 use borrow.Author.Tests.{eq-eqb, ne-eqb, lt-ltb, le-ltb}
 use Rattle.rules.specs.Slot.{Slot}
-use Rattle.console_answer.specs.Pages.{Page, putOn}
-use Rattle.console_answer.specs.Answers.{badWord}
-use Rattle.console_line.specs.Console.{ended, answered, hash, lineEnded}
+use Rattle.console_answer.specs.Pages.{Page}
+use Rattle.console_line.specs.Lines.{badLine}
+use Rattle.console_line.specs.Console.{keepsSlot, answered, hash, lineEnded}
 
 module _ (p : Page) (m buffer : List ℕ) (s : Slot) (line : List ℕ) (filled : ℕ) where
   pub empty-line : filled ≡ 0 → lineEnded p m buffer s line filled ≡ record { page = p; memory = m; buffer = buffer; slot = s }
@@ -20,7 +20,7 @@ module _ (p : Page) (m buffer : List ℕ) (s : Slot) (line : List ℕ) (filled :
   remark e = rw (eq-eqb (getD line 0 0) hash e, or-true)
 
   module _ (h : filled ≡ 0 → ⊥) (k : getD line 0 0 ≡ hash → ⊥) where
-    pub too-long : 4096 < filled → lineEnded p m buffer s line filled ≡ ended (record { page = putOn p badWord; memory = m; buffer = buffer; slot = s })
+    pub too-long : 4096 < filled → lineEnded p m buffer s line filled ≡ keepsSlot s (badLine p m buffer)
     unfolding lineEnded
     too-long l = rw (ne-eqb filled 0 h, ne-eqb (getD line 0 0) hash k, lt-ltb 4096 filled l)
 

@@ -1,7 +1,7 @@
 -- The console: one line on a registry's words, a buffer and a slot.
 use Prim.Native.Nat.{ℕ}
 use mathlib.Core.Path.{_≡_}
-use mathlib.Core.List.{List, [], _∷_}
+use mathlib.Core.List.{List}
 use mathlib.Core.Bool.{_||_}
 use lib.Dec.{eqb, ltb}
 use lib.ListN.{getD, take}
@@ -9,15 +9,14 @@ use Rattle.rules.specs.Basics.{pick}
 use Rattle.rules.specs.Slot.{Slot}
 use Rattle.console_words.specs.Bytes.{longest}
 use Rattle.console_words.specs.Words.{nextWord, bytesOf}
-use Rattle.console_answer.specs.Pages.{Page, upTo, putOn}
-use Rattle.console_answer.specs.Answers.{badWord}
+use Rattle.console_answer.specs.Pages.{Page, upTo}
 use Rattle.console_names.specs.Behind.{numbersBehind}
 use Rattle.console_names.specs.Names.{placeAmong}
 use Rattle.console_names.specs.declared.Row.{Row}
 use Rattle.console_names.specs.declared.Row.the-variants as row
 use Rattle.console_names.specs.Table.{names, rowAt}
 use Rattle.console_slot.specs.Lines.{SlotAfter, slotLine}
-use Rattle.console_line.specs.Lines.{Done, badLine, orBad, registerLine}
+use Rattle.console_line.specs.Lines.{Done, lineEnd, badLine, orBad, registerLine}
 
 -- What a line says, and what it leaves.
 pub record After : Type 0 where
@@ -29,12 +28,15 @@ pub record After : Type 0 where
 abbrev pub keepsSlot : Slot → Done → After
 keepsSlot s d = record { page = d .page; memory = d .memory; buffer = d .buffer; slot = s }
 
+abbrev pub slotEnded : SlotAfter → SlotAfter
+slotEnded t = record { page = lineEnd (t .page); slot = t .slot }
+
 abbrev pub keepsRegistry : List ℕ → List ℕ → SlotAfter → After
 keepsRegistry m buffer t = record { page = t .page; memory = m; buffer = buffer; slot = t .slot }
 
 -- What stands behind a name, by the operation's row.
 abbrev pub operateBy : Row → Page → List ℕ → List ℕ → Slot → List ℕ → ℕ → ℕ → After
-operateBy row.Slot p m buffer s line place from = keepsRegistry m buffer (slotLine p s line from)
+operateBy row.Slot p m buffer s line place from = keepsRegistry m buffer (slotEnded (slotLine p s line from))
 operateBy row.Register p m buffer s line place from = keepsSlot s (registerLine p m buffer line from)
 operateBy (row.Takes count kind) p m buffer s line place from = keepsSlot s (orBad p m buffer place count kind (numbersBehind line from))
 operateBy row.Unknown p m buffer s line place from = keepsSlot s (badLine p m buffer)
@@ -43,14 +45,11 @@ operateBy row.Unknown p m buffer s line place from = keepsSlot s (badLine p m bu
 abbrev pub operate : Page → List ℕ → List ℕ → Slot → List ℕ → ℕ → ℕ → After
 operate p m buffer s line place from = operateBy (rowAt place) p m buffer s line place from
 
-abbrev pub ended : After → After
-ended a = record { page = putOn (a .page) (10 ∷ []); memory = a .memory; buffer = a .buffer; slot = a .slot }
-
--- The first word is the operation's name, and the answer ends with byte 10.
+-- The first word is the operation's name.
 unfoldable pub answered : Page → List ℕ → List ℕ → Slot → List ℕ → After
 answered p m buffer s line =
     let w = nextWord line 0 in
-    ended (operate p m buffer s line (placeAmong (bytesOf line w) names) (w .stop))
+    operate p m buffer s line (placeAmong (bytesOf line w) names) (w .stop)
 
 -- A text, the words, a buffer and a slot as a line leaves them.
 abbrev pub Leaves : After → List ℕ → ℕ → List ℕ → List ℕ → Slot → Type 0
@@ -65,5 +64,5 @@ hash = 35
 unfoldable pub lineEnded : Page → List ℕ → List ℕ → Slot → List ℕ → ℕ → After
 lineEnded p m buffer s line filled =
     pick (eqb filled 0 || eqb (getD line 0 0) hash) (record { page = p; memory = m; buffer = buffer; slot = s })
-    (pick (ltb longest filled) (ended (record { page = putOn p badWord; memory = m; buffer = buffer; slot = s }))
+    (pick (ltb longest filled) (keepsSlot s (badLine p m buffer))
     (answered p m buffer s (take filled line)))

@@ -3,22 +3,24 @@ use Prim.Native.Nat.{ℕ}
 use mathlib.Core.Path.{_≡_}
 use mathlib.Core.List.{List, [], _∷_}
 use mathlib.Core.Option.{Option, none, some}
-use lib.ListN.{length}
+use lib.Dec.{eqb}
+use lib.ListN.{length, getD, take, replicate}
 use Rattle.rules.specs.Basics.{pick}
 use Rattle.rules.specs.Steps.{lentAfterStep, Write}
 use Rattle.rules.specs.Questions.{Listed}
+use Rattle.rules.specs.Questions as writing
 use Rattle.memory.specs.View.{view}
 use Rattle.host_answers.specs.Told.{statusOf, wordsOf}
 use Rattle.host.specs.Tells.{answer}
-use Rattle.console_answer.specs.Pages.{Page, upTo, putOn, numbersOn}
+use Rattle.console_answer.specs.Pages.{Page, upTo, textRoom, putOn, numbersOn}
 use Rattle.console_answer.specs.Answers.{okWord, badWord, toldIn}
 use Rattle.console_names.specs.declared.Count.{Count}
 use Rattle.console_names.specs.declared.Values.{Values}
 use Rattle.console_names.specs.declared.Values.the-variants.{Numbers}
 use Rattle.console_names.specs.declared.Held.{Held}
 use Rattle.console_names.specs.declared.Kind.{Kind}
-use Rattle.console_names.specs.declared.Kind.the-variants.{Show, Buffer, Lists, Registry}
-use Rattle.console_names.specs.Table.{Asked, takes, first, second, askedAt}
+use Rattle.console_names.specs.declared.Kind.the-variants.{Show, Buffer, Lists, Registry, Text}
+use Rattle.console_names.specs.Table.{Asked, Told, takes, first, second, askedAt}
 use Rattle.console_definition.specs.Definitions.{definitionIn}
 use Rattle.console_show.specs.Spoken.{spokenOn}
 use Rattle.console_show.specs.Buffered.{between}
@@ -37,29 +39,46 @@ pub record Done : Type 0 where
 abbrev pub Does : Done → List ℕ → ℕ → List ℕ → List ℕ → Type 0
 Does d text place memory buffer = (upTo text place ≡ d .page) × (memory ≡ d .memory) × (buffer ≡ d .buffer)
 
+-- Byte 10 ends an answer's line.
+abbrev pub lineEnd : Page → Page
+lineEnd p = putOn p (10 ∷ [])
+
 abbrev pub bad : Page → Page
-bad p = putOn p badWord
+bad p = lineEnd (putOn p badWord)
 
 -- Words in which nothing has been told.
 abbrev pub untold : List ℕ
 untold = 0 ∷ 0 ∷ 0 ∷ 0 ∷ 0 ∷ 0 ∷ 0 ∷ []
 
+-- What is asked of the registry, said and done.
+abbrev pub askedLine : Page → List ℕ → Values → Asked → Page
+askedLine p m v a = lineEnd (spokenOn p v (statusBy m a) (toldIn (wordsBy m a untold)))
+
 -- deps, provs, realms: ID PLACE
 abbrev pub listed : Page → List ℕ → List ℕ → Held → List ℕ → Done
 listed p m buffer held l =
     let o = Write (Listed (whichOf held) (first l) (second l)) buffer in
-    record { page = spokenOn p Numbers (statusOf (answer m o)) (toldIn (wordsOf (answer m o) untold)); memory = m; buffer = lentAfterStep (view m) o }
+    record { page = askedLine p m Numbers (Told o); memory = m; buffer = lentAfterStep (view m) o }
 
--- What is asked of the registry, said and done.
-abbrev pub askedLine : Page → List ℕ → Values → Asked → Page
-askedLine p m v a = spokenOn p v (statusBy m a) (toldIn (wordsBy m a untold))
+-- The registry's text: behind the line of an acceptance stand as many of the lent bytes as it says.
+unfoldable pub textOn : Page → List ℕ → (lent : List ℕ) → Page
+textOn p m lent =
+    let o = Write writing.Text lent in
+    let line = askedLine p m Numbers (Told o) in
+    let length = getD (wordsOf (answer m o) untold) 1 0 in
+    pick (eqb (statusOf (answer m o)) 0) (putOn line (take length (lentAfterStep (view m) o))) line
 
--- Numbers, as many as are due: show ID, buffer FROM TO, a list, or what the registry is asked for.
+-- So many bytes are lent, or all that the console has.
+abbrev pub lentBytes : ℕ → List ℕ
+lentBytes size = take size (replicate textRoom 0)
+
+-- Numbers, as many as are due: show ID, buffer FROM TO, a list, what the registry is asked for, or write SIZE.
 abbrev pub numbersLine : Page → List ℕ → List ℕ → ℕ → Kind → List ℕ → Done
-numbersLine p m buffer place Show l = record { page = shownOn p m (first l); memory = m; buffer = buffer }
-numbersLine p m buffer place Buffer l = record { page = numbersOn (putOn p okWord) (between (first l) (second l) buffer); memory = m; buffer = buffer }
+numbersLine p m buffer place Show l = record { page = lineEnd (shownOn p m (first l)); memory = m; buffer = buffer }
+numbersLine p m buffer place Buffer l = record { page = lineEnd (numbersOn (putOn p okWord) (between (first l) (second l) buffer)); memory = m; buffer = buffer }
 numbersLine p m buffer place (Lists held) l = listed p m buffer held l
 numbersLine p m buffer place (Registry v) l = record { page = askedLine p m v (askedAt place l); memory = leftBy m (askedAt place l); buffer = buffer }
+numbersLine p m buffer place Text l = record { page = textOn p m (lentBytes (first l)); memory = m; buffer = buffer }
 
 abbrev pub badLine : Page → List ℕ → List ℕ → Done
 badLine p m buffer = record { page = bad p; memory = m; buffer = buffer }

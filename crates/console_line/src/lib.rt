@@ -2,15 +2,19 @@
 ghost use mathlib.Core.Path.{_≡_};
 ghost use Rattle.slot.specs.Slots.{slotOf};
 ghost use Rattle.console_answer.specs.Pages.{upTo};
+ghost use Rattle.console_answer.specs.Answers.{toldIn};
 ghost use Rattle.console_names.specs.Behind.{numbersBehind};
 ghost use Rattle.console_names.specs.Table.{askedAt};
 ghost use Rattle.console_names.specs.declared.Values.the-variants.{Numbers};
 ghost use Rattle.console_definition.specs.Definitions.{definitionIn};
 ghost use Rattle.console_operations.specs.Carried.{leftBy};
 ghost use Rattle.console_register.specs.Registrations.{registration};
-ghost use Rattle.console_line.specs.Lines.{Does, bad, listed, askedLine, numbersLine, orBad};
-ghost use Rattle.console_line.specs.Console.{Leaves, operate, answered, lineEnded};
+ghost use Rattle.console_show.specs.Spoken.{spokenOn};
+ghost use Rattle.console_slot.specs.Lines.{LeavesSlot, slotLine};
+ghost use Rattle.console_line.specs.Lines.{Does, lineEnd, bad, textOn, lentBytes, listed, askedLine, numbersLine, orBad};
+ghost use Rattle.console_line.specs.Console.{Leaves, slotEnded, operate, answered, lineEnded};
 use console_answer::ROOM;
+use console_answer::TEXT_ROOM;
 use console_names::BUFFER_ROOM;
 use console_names::Count;
 use console_names::Held;
@@ -23,10 +27,25 @@ use host_answers::ANSWER;
 use memory::WORDS;
 use slot::Slot;
 
+// Byte 10 ends an answer's line.
+fn end(at: usize, text: &mut [u8; ROOM]) -> usize
+    ensures { λ r. ⌜ upTo (now (text .exit)) r ≡ lineEnd (upTo (now (text .entry)) at) ⌝ }
+{
+    console_answer::put(text, at, b"\n")
+}
+
 fn bad(text: &mut [u8; ROOM]) -> usize
     ensures { λ r. ⌜ upTo (now (text .exit)) r ≡ bad (upTo (now (text .entry)) 0) ⌝ }
 {
-    console_answer::put(text, 0, b"bad")
+    end(console_answer::put(text, 0, b"bad"), text)
+}
+
+// What the registry answered.
+fn said(text: &mut [u8; ROOM], values: Values, status: u64, out: &[u64; ANSWER]) -> usize
+    ensures { λ r. ⌜ upTo (now (text .exit)) r
+        ≡ lineEnd (spokenOn (upTo (now (text .entry)) 0) values status (toldIn (now (out .entry)))) ⌝ }
+{
+    end(console_show::spoken(text, values, status, out), text)
 }
 
 fn list_line(
@@ -43,7 +62,7 @@ fn list_line(
     let from = console_names::nth(l, 1);
     let mut out = [0u64; ANSWER];
     let status = console_operations::listed(m, buffer, held, id, from, &mut out);
-    console_show::spoken(text, Values::Numbers, status, &out)
+    said(text, Values::Numbers, status, &out)
 }
 
 fn asked_line(
@@ -59,7 +78,33 @@ fn asked_line(
 {
     let mut out = [0u64; ANSWER];
     let status = console_operations::carried_out(m, place, l, &mut out);
-    console_show::spoken(text, values, status, &out)
+    said(text, values, status, &out)
+}
+
+// The registry's text in a lent room, whose bytes stand behind the line.
+fn text_in(m: &[u64; WORDS], room: &mut [u8], text: &mut [u8; ROOM]) -> usize
+    ensures { λ r. ⌜ upTo (now (text .exit)) r ≡ textOn (upTo (now (text .entry)) 0) (now (m .entry)) (now (room .entry)) ⌝ }
+{
+    let mut out = [0u64; ANSWER];
+    let status = host::vaskelbi_write_text(m, room, &mut out);
+    let at = said(text, Values::Numbers, status, &out);
+    if status != 0 {
+        return at;
+    }
+    let length = out[1] as usize;
+    console_answer::put(text, at, console_answer::front(room, length))
+}
+
+// A room of so many bytes is lent, or of as many as there are.
+fn text_line(m: &[u64; WORDS], size: u64, text: &mut [u8; ROOM]) -> usize
+    ensures { λ r. ⌜ upTo (now (text .exit)) r ≡ textOn (upTo (now (text .entry)) 0) (now (m .entry)) (lentBytes size) ⌝ }
+{
+    let mut room = [0u8; TEXT_ROOM];
+    let most = size as usize;
+    if TEXT_ROOM < most {
+        return text_in(m, &mut room, text);
+    }
+    text_in(m, &mut room[..most], text)
 }
 
 // Numbers, as many as are due.
@@ -77,10 +122,11 @@ fn numbers_line(
     let a = console_names::nth(l, 0);
     let b = console_names::nth(l, 1);
     match kind {
-        Kind::Show => console_show::shown(m, a, text),
-        Kind::Buffer => console_show::buffered(buffer, a, b, text),
+        Kind::Show => end(console_show::shown(m, a, text), text),
+        Kind::Buffer => end(console_show::buffered(buffer, a, b, text), text),
         Kind::Lists(held) => list_line(m, buffer, held, l, text),
         Kind::Registry(values) => asked_line(m, place, values, l, text),
+        Kind::Text => text_line(m, a, text),
     }
 }
 
@@ -117,7 +163,19 @@ fn register_line(m: &mut [u64; WORDS], bytes: &[u8], from: usize, text: &mut [u8
 {
     let mut out = [0u64; ANSWER];
     let status = console_register::registered(m, bytes, from, &mut out);
-    console_show::spoken(text, Values::Numbers, status, &out)
+    said(text, Values::Numbers, status, &out)
+}
+
+fn slot_line(slot: Slot, bytes: &[u8], from: usize, text: &mut [u8; ROOM]) -> Said
+    ensures { λ r. ⌜ LeavesSlot (slotEnded (slotLine (upTo (now (text .entry)) 0) (slotOf slot) (now (bytes .entry)) from))
+        (now (text .exit)) (r .stop) (slotOf (r .slot)) ⌝ }
+{
+    let decided = console_slot::slot_line(slot, bytes, from, text);
+    let left = decided.slot;
+    Said {
+        stop: end(decided.stop, text),
+        slot: left,
+    }
 }
 
 // The operation at a place among the names, with what stands behind its name.
@@ -136,7 +194,7 @@ fn operate(
 {
     let row = console_names::row_at(place);
     match row {
-        Row::Slot => console_slot::slot_line(slot, bytes, from, text),
+        Row::Slot => slot_line(slot, bytes, from, text),
         Row::Register => Said {
             stop: register_line(m, bytes, from, text),
             slot,
@@ -152,7 +210,7 @@ fn operate(
     }
 }
 
-// The first word is the operation's name, and the answer ends with byte 10.
+// The first word is the operation's name.
 pub fn answered(
     m: &mut [u64; WORDS],
     buffer: &mut [u64; BUFFER_ROOM],
@@ -168,12 +226,7 @@ pub fn answered(
     let start = word.start;
     let stop = word.stop;
     let place = console_names::operation(&bytes[start..stop]);
-    let said = operate(m, buffer, slot, place, bytes, stop, text);
-    let left = said.slot;
-    Said {
-        stop: console_answer::put(text, said.stop, b"\n"),
-        slot: left,
-    }
+    operate(m, buffer, slot, place, bytes, stop, text)
 }
 
 // A line is at its end, of which so many bytes came. An empty one, and one that begins with `#`, is passed over; of one that
@@ -197,9 +250,8 @@ pub fn ended(
         return Said { stop: 0, slot };
     }
     if LINE < filled {
-        let at = bad(text);
         return Said {
-            stop: console_answer::put(text, at, b"\n"),
+            stop: bad(text),
             slot,
         };
     }

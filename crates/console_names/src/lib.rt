@@ -28,12 +28,14 @@ pub enum Held {
     Realms,
 }
 
-// What is done with the numbers: a plugin or the buffer is shown, a list goes to the buffer, or the registry is asked.
+// What is done with the numbers: a plugin or the buffer is shown, a list goes to the buffer, the registry is asked, or its text
+// is written.
 pub enum Kind {
     Show,
     Buffer,
     Lists(Held),
     Registry(Values),
+    Text,
 }
 
 // What stands behind an operation's name: words of its own, or numbers.
@@ -96,10 +98,10 @@ pub const COUNT: usize = 28;
 pub const NEXT: usize = 29;
 
 // How many operations there are.
-const OPERATIONS: usize = 32;
+const OPERATIONS: usize = 33;
 
 // What is done with the numbers, as the table says it; each has its place among these.
-const KINDS: [Kind; 9] = [
+const KINDS: [Kind; 10] = [
     Kind::Show,
     Kind::Buffer,
     Kind::Lists(Held::Deps),
@@ -109,6 +111,7 @@ const KINDS: [Kind; 9] = [
     Kind::Registry(Values::Numbers),
     Kind::Registry(Values::NumbersOrNone),
     Kind::Registry(Values::YesOrNo),
+    Kind::Text,
 ];
 
 const SHOW: usize = 0;
@@ -129,10 +132,12 @@ const NUMBERS_OR_NONE: usize = 7;
 
 const YES_OR_NO: usize = 8;
 
-// Words of its own stand behind the name.
-const SLOT: usize = 9;
+const TEXT: usize = 9;
 
-const REGISTER: usize = 10;
+// Words of its own stand behind the name.
+const SLOT: usize = 10;
+
+const REGISTER: usize = 11;
 
 // No more numbers than are due, or as many more as wished.
 const ONLY: usize = 0;
@@ -174,6 +179,7 @@ const TABLE: [[usize; 3]; OPERATIONS] = [
     [0, ONLY, NUMBERS], // next
     [1, ONLY, SHOW], // show
     [0, ONLY, SLOT], // slot
+    [1, ONLY, TEXT], // write
 ];
 
 // How many numbers stand behind a name, and whether nothing else does.
@@ -217,14 +223,14 @@ pub fn operation(name: &[u8]) -> usize
     which(
         name,
         b"open register begin ready fail unload finish replace fits admit call retire retire_child remove child offer read visible \
-          missing matches declares lookup resolve deps provs realms buffer rows count next show slot",
+          missing matches declares lookup resolve deps provs realms buffer rows count next show slot write",
     )
 }
 
 fn kind_of(kind: usize) -> Kind
     ensures { λ r. ⌜ r ≡ kindOf kind ⌝ }
 {
-    if kind < 9 {
+    if kind < 10 {
         return KINDS[kind];
     }
     Kind::Show

@@ -6,7 +6,7 @@ use lib.ListN.{replicate}
 use Rattle.rules.specs.Basics.{pick}
 use Rattle.rules.specs.Slot.{Slot}
 use Rattle.console_words.specs.Bytes.{longerBytes, longerCount}
-use Rattle.console_answer.specs.Pages.{upTo}
+use Rattle.console_answer.specs.Pages.{upTo, room}
 use Rattle.console_line.specs.Console.{After, lineEnded}
 
 -- The registry's words, the buffer, the slot, and of the line that has not ended its bytes and how many came.
@@ -25,7 +25,7 @@ left line a = kept (a .memory) (a .buffer) (a .slot) line 0
 
 -- Byte 10 ends the line: its operation is carried out, and its answer said on an empty page.
 abbrev pub endLine : Kept → Kept
-endLine k = left (k .line) (lineEnded (upTo (replicate 2103 0) 0) (k .memory) (k .buffer) (k .slot) (k .line) (k .filled))
+endLine k = left (k .line) (lineEnded (upTo (replicate room 0) 0) (k .memory) (k .buffer) (k .slot) (k .line) (k .filled))
 
 -- One more byte of the line.
 abbrev pub longerLine : Kept → ℕ → Kept

@@ -4,6 +4,7 @@ use mathlib.Core.Path.{_≡_, ap, _∙_}
 use mathlib.Core.List.{List}
 use lib.ListN.{length, getD, set, length-set}
 use lib.Seq.{paste, paste-zero}
+use Rattle.console_answer.specs.Pages.{room}
 use Rattle.console_answer.proofs.Laws.{left-out, one-more, all-put}
 use native.Mathlib.Omega.{arith}
 use borrow.Author.Needs.{needs}
@@ -11,7 +12,7 @@ use Rattle.console_answer.proofs.put.Statement.{statement}
 use Rattle.console_answer.proofs.put.Tie as tie
 
 abbrev Inv-loop : tie.InvT-loop
-Inv-loop text₀ from bytes n i₀ text i = (i ≤ length bytes) × (length text ≡ 2103) × (text ≡ paste text₀ from bytes i)
+Inv-loop text₀ from bytes n i₀ text i = (i ≤ length bytes) × (length text ≡ room) × (text ≡ paste text₀ from bytes i)
 
 abbrev μ-loop : tie.MeasureT-loop
 μ-loop text₀ from bytes n i₀ text i = length bytes - i

@@ -1,8 +1,6 @@
--- `answered` meets its contract: the first word's place among the names is operated on, and byte 10 stands behind what is said.
-use mathlib.Core.Path.{ap, _∙_}
-use mathlib.Core.List.{[], _∷_}
+-- `answered` meets its contract: the first word's place among the names is operated on.
 use Rattle.slot.specs.Slots.{slotOf}
-use Rattle.console_answer.specs.Pages.{Page, upTo, putOn}
+use Rattle.console_answer.specs.Pages.{upTo}
 use Rattle.console_line.proofs.Laws.{same-left, answered-is}
 use borrow.Author.Needs.{needs}
 use Rattle.console_line.proofs.answered.Statement.{statement}
@@ -26,18 +24,11 @@ operation-requires c κs = search needs
 operate-requires : tie.Need-operate-requires
 operate-requires c κs = search needs
 
-slice-aggregate-put : tie.Need-slice-aggregate-put
-slice-aggregate-put c = search needs
-
-put-requires : tie.Need-put-requires
-put-requires c κs = search needs
-
 returns : tie.Need-returns
 returns c =
-    let x = c .before .before .before .before .before .before .before .before .before .before .before .before .args in
-    let w = c .before .before .before .before .before .before .before .before .before .before .next-word in
-    let o = c .before .before .before .before .operate .ensures in
-    same-left _ _ _ _ _ _ _ (answered-is (upTo (x .text .now) 0) (x .m .now) (x .buffer .now) (slotOf (x .slot)) (x .bytes .now) (w .result) (w .ensures .word) _ (c .before .before .before .before .before .before .before .before .operation .ensures)) (c .put .ensures ∙ ap (λ (q : Page). putOn q (10 ∷ [])) (o .0), o .1, o .2, o .3)
+    let x = c .before .before .before .before .before .before .before .before .args in
+    let w = c .before .before .before .before .before .before .next-word in
+    same-left _ _ _ _ _ _ _ (answered-is (upTo (x .text .now) 0) (x .m .now) (x .buffer .now) (slotOf (x .slot)) (x .bytes .now) (w .result) (w .ensures .word) _ (c .before .before .before .before .operation .ensures)) (c .operate .ensures)
 
 pub answered-spec : {M : Type 1} → statement M
 answered-spec =
@@ -49,6 +40,4 @@ answered-spec =
     part-operation-end
     operation-requires
     operate-requires
-    slice-aggregate-put
-    put-requires
     returns)

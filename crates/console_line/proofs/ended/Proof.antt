@@ -1,9 +1,7 @@
 -- `ended` meets its contract: an empty line, a remark, a line too long and any other are the definition's cases.
-use mathlib.Core.Path.{refl, ap, _∙_}
-use mathlib.Core.List.{[], _∷_}
+use mathlib.Core.Path.{refl}
 use Rattle.slot.specs.Slots.{slotOf}
-use Rattle.console_answer.specs.Pages.{Page, upTo, putOn}
-use Rattle.console_line.specs.Console.{answered}
+use Rattle.console_answer.specs.Pages.{upTo}
 use Rattle.console_line.proofs.Laws.{same-left}
 use Rattle.console_line.proofs.Ends.{empty-line, remark, too-long, whole-line}
 use borrow.Author.Needs.{needs}
@@ -26,16 +24,10 @@ returns-2 c =
 bad-requires : tie.Need-bad-requires
 bad-requires c κs = search needs
 
-slice-aggregate-put : tie.Need-slice-aggregate-put
-slice-aggregate-put c = search needs
-
-put-requires : tie.Need-put-requires
-put-requires c κs = search needs
-
 returns-3 : tie.Need-returns-3
 returns-3 c =
-    let x = c .before .before .before .before .before .before .before .before .before .args in
-    same-left _ _ _ _ _ _ _ (too-long (upTo (x .text .now) 0) (x .m .now) (x .buffer .now) (slotOf (x .slot)) (x .line .now) (x .filled) (c .before .before .before .before .before .before .before .before .if1 .left) (c .before .before .before .before .before .before .if2 .left) (c .before .before .before .before .before .if3 .taken)) (c .put .ensures ∙ ap (λ (q : Page). putOn q (10 ∷ [])) (c .before .before .before .bad .ensures), refl, refl, refl)
+    let x = c .before .before .before .before .before .before .args in
+    same-left _ _ _ _ _ _ _ (too-long (upTo (x .text .now) 0) (x .m .now) (x .buffer .now) (slotOf (x .slot)) (x .line .now) (x .filled) (c .before .before .before .before .before .if1 .left) (c .before .before .before .if2 .left) (c .before .before .if3 .taken)) (c .bad .ensures, refl, refl, refl)
 
 front-requires : tie.Need-front-requires
 front-requires c κs = search needs
@@ -56,8 +48,6 @@ ended-spec =
     element-copy-out-if2
     returns-2
     bad-requires
-    slice-aggregate-put
-    put-requires
     returns-3
     front-requires
     answered-requires

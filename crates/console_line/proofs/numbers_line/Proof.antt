@@ -3,7 +3,7 @@ use mathlib.Core.Path.{refl, ap}
 use Rattle.console_answer.specs.Pages.{upTo}
 use Rattle.console_names.specs.declared.Kind.{Kind}
 use Rattle.console_line.specs.Lines.{numbersLine}
-use Rattle.console_line.proofs.Laws.{same-done, shown-done, buffered-done}
+use Rattle.console_line.proofs.Laws.{same-done, shown-done, buffered-done, text-done}
 use borrow.Author.Needs.{needs}
 use Rattle.console_line.proofs.numbers_line.Statement.{statement}
 use Rattle.console_line.proofs.numbers_line.Tie as tie
@@ -20,11 +20,17 @@ enum-told c = search needs
 shown-requires : tie.Need-shown-requires
 shown-requires c κs = search needs
 
+end-requires : tie.Need-end-requires
+end-requires c κs = search needs
+
 enum-told-2 : tie.Need-enum-told-2
 enum-told-2 c = search needs
 
 buffered-requires : tie.Need-buffered-requires
 buffered-requires c κs = search needs
+
+end-requires-2 : tie.Need-end-requires-2
+end-requires-2 c κs = search needs
 
 enum-known-kind : tie.Need-enum-known-kind
 enum-known-kind c = search needs
@@ -38,20 +44,28 @@ enum-known-kind-2 c = search needs
 asked-line-requires : tie.Need-asked-line-requires
 asked-line-requires c κs = search needs
 
+enum-told-3 : tie.Need-enum-told-3
+enum-told-3 c = search needs
+
+text-line-requires : tie.Need-text-line-requires
+text-line-requires c κs = search needs
+
 returns : tie.Need-returns
 returns c =
-    let at = c .before .before .before in
+    let said = c .before .before in
+    let at = said .before .before .before in
     let first = at .before .before .before in
     let x = first .before .before .args in
-    shown-done (upTo (x .text .now) 0) (x .m .now) (x .buffer .now) (x .place) (x .kind) (x .l .now) _ (first .nth .ensures) (at .enum-told .given .1) _ _ (c .shown .ensures)
+    shown-done (upTo (x .text .now) 0) (x .m .now) (x .buffer .now) (x .place) (x .kind) (x .l .now) _ (first .nth .ensures) (at .enum-told .given .1) _ (said .shown .ensures) _ _ (c .end .ensures)
 
 returns-2 : tie.Need-returns-2
 returns-2 c =
-    let at = c .before .before .before in
+    let said = c .before .before in
+    let at = said .before .before .before in
     let second = at .before .before in
     let first = second .before in
     let x = first .before .before .args in
-    buffered-done (upTo (x .text .now) 0) (x .m .now) (x .buffer .now) (x .place) (x .kind) (x .l .now) _ _ (first .nth .ensures) (second .nth2 .ensures) (at .enum-told2 .given .1) _ _ (c .buffered .ensures)
+    buffered-done (upTo (x .text .now) 0) (x .m .now) (x .buffer .now) (x .place) (x .kind) (x .l .now) _ _ (first .nth .ensures) (second .nth2 .ensures) (at .enum-told2 .given .1) _ (said .buffered .ensures) _ _ (c .end2 .ensures)
 
 returns-3 : tie.Need-returns-3
 returns-3 c =
@@ -66,6 +80,13 @@ returns-4 c =
     let o = c .asked-line .ensures in
     same-done _ _ _ _ _ _ (ap (λ (k : Kind). numbersLine (upTo (x .text .now) 0) (x .m .now) (x .buffer .now) (x .place) k (x .l .now)) (at .kind2 .given .1)) (o .0, o .1, refl)
 
+returns-5 : tie.Need-returns-5
+returns-5 c =
+    let at = c .before .before .before in
+    let first = at .before .before .before in
+    let x = first .before .before .args in
+    text-done (upTo (x .text .now) 0) (x .m .now) (x .buffer .now) (x .place) (x .kind) (x .l .now) _ (first .nth .ensures) (at .enum-told3 .given .1) _ _ (c .text-line .ensures)
+
 pub numbers-line-spec : {M : Type 1} → statement M
 numbers-line-spec =
     tie.close
@@ -74,13 +95,18 @@ numbers-line-spec =
     nth-requires-2
     enum-told
     shown-requires
+    end-requires
     enum-told-2
     buffered-requires
+    end-requires-2
     enum-known-kind
     list-line-requires
     enum-known-kind-2
     asked-line-requires
+    enum-told-3
+    text-line-requires
     returns
     returns-2
     returns-3
-    returns-4)
+    returns-4
+    returns-5)
