@@ -7,11 +7,11 @@ use Rattle.host.proofs.child_slot.vaskelbi_slot_reject.Tie as tie
 reject-requires : tie.Need-reject-requires
 reject-requires c κs = search needs
 
-verdict-requires : tie.Need-verdict-requires
-verdict-requires c κs = search needs
+done-requires : tie.Need-done-requires
+done-requires c κs = search needs
 
 returns : tie.Need-returns
-returns c = (stated _ _ _ (c .before .reject .ensures .0) (c .verdict .ensures), c .before .reject .ensures .1)
+returns c = (stated _ _ _ (c .before .reject .ensures .0) (c .done .ensures), c .before .reject .ensures .1)
 
 pub vaskelbi-slot-reject-spec : {M : Type 1} → statement M
-vaskelbi-slot-reject-spec = tie.close (tie.spec reject-requires verdict-requires returns)
+vaskelbi-slot-reject-spec = tie.close (tie.spec reject-requires done-requires returns)

@@ -7,11 +7,11 @@ use Rattle.host.proofs.queries.vaskelbi_id_from.Tie as tie
 id-from-requires : tie.Need-id-from-requires
 id-from-requires c κs = search needs
 
-above-requires : tie.Need-above-requires
-above-requires c κs = search needs
+optional-requires : tie.Need-optional-requires
+optional-requires c κs = search needs
 
 returns : tie.Need-returns
-returns c = heard _ _ _ _ _ (c .before .before .id-from .ensures) (c .above .ensures)
+returns c = heard _ _ _ _ _ (c .before .before .id-from .ensures) (c .optional .ensures)
 
 pub vaskelbi-id-from-spec : {M : Type 1} → statement M
-vaskelbi-id-from-spec = tie.close (tie.spec id-from-requires above-requires returns)
+vaskelbi-id-from-spec = tie.close (tie.spec id-from-requires optional-requires returns)

@@ -7,11 +7,11 @@ use Rattle.host.proofs.registration.vaskelbi_register_child.Tie as tie
 register-requires : tie.Need-register-requires
 register-requires c κs = search needs
 
-registered-requires : tie.Need-registered-requires
-registered-requires c κs = search needs
+number-requires : tie.Need-number-requires
+number-requires c κs = search needs
 
 returns : tie.Need-returns
-returns c = (heard _ _ _ _ _ (c .before .before .register .ensures .0) (c .registered .ensures), c .before .before .register .ensures .1)
+returns c = (heard _ _ _ _ _ (c .before .before .register .ensures .0) (c .number .ensures), c .before .before .register .ensures .1)
 
 pub vaskelbi-register-child-spec : {M : Type 1} → statement M
-vaskelbi-register-child-spec = tie.close (tie.spec register-requires registered-requires returns)
+vaskelbi-register-child-spec = tie.close (tie.spec register-requires number-requires returns)
