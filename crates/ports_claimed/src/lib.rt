@@ -37,25 +37,25 @@ pub fn repeated_key(keys: &[u64]) -> bool
 }
 
 // The anchor and the ports of the first 15 provision keys.
-pub fn claims(realms: &[u64], other: u64, anchor: Port, keys: &[u64]) -> Claimed
+pub fn claims(other: u64, anchor: Port, realms: &[u64], keys: &[u64]) -> Claimed
     ensures { λ r. ⌜ r ≡ claimsOf other (pairs (now (realms .entry))) anchor (now (keys .entry)) ⌝ }
 {
-    let mut ports = [0u64; ROOM];
-    ports[0] = anchor.key;
-    ports[1] = anchor.realm;
+    let mut list = [0u64; ROOM];
+    list[0] = anchor.key;
+    list[1] = anchor.realm;
     let mut i: usize = 0;
     while i < keys.len() {
         if i == limits::PROVISION_KEYS {
             return Claimed {
                 count: PORTS,
-                ports,
+                ports: list,
             };
         }
         let q = ports::resolve(realms, Port::new(keys[i], other));
-        ports[i * 2 + 2] = q.key;
-        ports[i * 2 + 3] = q.realm;
+        list[i * 2 + 2] = q.key;
+        list[i * 2 + 3] = q.realm;
         i += 1;
     }
     let count = i + 1;
-    Claimed { count, ports }
+    Claimed { count, ports: list }
 }

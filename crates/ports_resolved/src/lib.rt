@@ -9,8 +9,8 @@ use rules::limits;
 pub const ROOM: usize = limits::DEPENDENCIES * 2;
 
 // The first 16 declared keys, resolved, in the front of an array that a finished list fits into; their count.
-pub fn declared(realms: &[u64], other: u64, keys: &[u64], ports: &mut [u64; ROOM]) -> usize
-    ensures { λ r. ⌜ Stores (declaredOf other (pairs (now (realms .entry))) (now (keys .entry))) (now (ports .entry)) r (now (ports .exit)) ⌝ }
+pub fn declared(other: u64, realms: &[u64], keys: &[u64], list: &mut [u64; ROOM]) -> usize
+    ensures { λ r. ⌜ Stores (declaredOf other (pairs (now (realms .entry))) (now (keys .entry))) (now (list .entry)) r (now (list .exit)) ⌝ }
 {
     let mut i: usize = 0;
     while i < keys.len() {
@@ -18,15 +18,15 @@ pub fn declared(realms: &[u64], other: u64, keys: &[u64], ports: &mut [u64; ROOM
             return limits::DEPENDENCY_KEYS;
         }
         let q = ports::resolve(realms, Port::new(keys[i], other));
-        ports[i * 2] = q.key;
-        ports[i * 2 + 1] = q.realm;
+        list[i * 2] = q.key;
+        list[i * 2 + 1] = q.realm;
         i += 1;
     }
     i
 }
 
 // The realm of a candidate: its own, or that of its key resolved again.
-pub fn candidate(realms: &[u64], other: u64, turn: usize, key: u64, realm: u64) -> u64
+pub fn candidate(other: u64, turn: usize, key: u64, realm: u64, realms: &[u64]) -> u64
     ensures { λ r. ⌜ r ≡ candidateRealm other (pairs (now (realms .entry))) turn key realm ⌝ }
 {
     if turn == 0 {
