@@ -160,7 +160,7 @@ pub fn is_taken(m: &[u64; WORDS], place: usize) -> bool
 }
 
 // Whether the plugin of this place has the id: that is asked first, as few places have it.
-fn names(m: &[u64; WORDS], id: u64, place: usize) -> bool
+fn names(m: &[u64; WORDS], place: usize, id: u64) -> bool
     requires { ⌜ place < places ⌝ }
     ensures { λ r. ⌜ r ≡ namesAt (now (m .entry)) id place ⌝ }
 {
@@ -177,7 +177,7 @@ pub fn find(m: &[u64; WORDS], id: u64) -> Place
 {
     let mut i: usize = 0;
     while i < PLACES {
-        if names(m, id, i) {
+        if names(m, i, id) {
             return Place::At(i);
         }
         i += 1;

@@ -75,9 +75,9 @@ pub fn fill_place(
     m: &mut [u64; WORDS],
     place: usize,
     e: Entry,
+    realms: &[u64],
     dependencies: &[u64],
     claims: &[u64],
-    realms: &[u64],
 )
     ensures { λ _. ⌜ now (m .exit) ≡ filledPlace (now (m .entry)) (place % places) e
         (now (dependencies .entry)) (now (claims .entry)) (now (realms .entry)) ⌝ }

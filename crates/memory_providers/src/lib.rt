@@ -79,7 +79,7 @@ fn key_bits(claims: &[u64]) -> u64
 }
 
 // Whether a port is claimed; a key whose bit is 0 is not looked for.
-fn is_claimed(claims: &[u64], bits: u64, key: u64, realm: u64) -> bool
+fn is_claimed(bits: u64, key: u64, realm: u64, claims: &[u64]) -> bool
     ensures { λ r. ⌜ r ≡ wanted bits (pairs (now (claims .entry))) (port key realm) ⌝ }
 {
     if (bits >> (key % 64)) % 2 == 1 {
@@ -90,12 +90,12 @@ fn is_claimed(claims: &[u64], bits: u64, key: u64, realm: u64) -> bool
 }
 
 // Whether one of the offered ports is claimed.
-fn meets(claims: &[u64], bits: u64, offered: &[u64]) -> bool
+fn meets(bits: u64, claims: &[u64], offered: &[u64]) -> bool
     ensures { λ r. ⌜ r ≡ any (λ q. wanted bits (pairs (now (claims .entry))) q) (pairs (now (offered .entry))) ⌝ }
 {
     let mut row: usize = 1;
     while row < offered.len() {
-        if is_claimed(claims, bits, offered[row - 1], offered[row]) {
+        if is_claimed(bits, offered[row - 1], offered[row], claims) {
             return true;
         }
         row += 2;
@@ -104,13 +104,13 @@ fn meets(claims: &[u64], bits: u64, offered: &[u64]) -> bool
 }
 
 // Whether this place is taken and one of the ports of its plugin is claimed.
-fn offers_one(m: &[u64; WORDS], place: usize, claims: &[u64], bits: u64) -> bool
+fn offers_one(m: &[u64; WORDS], place: usize, bits: u64, claims: &[u64]) -> bool
     requires { ⌜ place < places ⌝ }
     ensures { λ r. ⌜ r ≡ (taken (now (m .entry)) place
         && any (λ q. wanted bits (pairs (now (claims .entry))) q) (pairs (offeredPart (now (m .entry)) place))) ⌝ }
 {
     if memory::is_taken(m, place) {
-        meets(claims, bits, offered_words(m, place))
+        meets(bits, claims, offered_words(m, place))
     } else {
         false
     }
@@ -124,7 +124,7 @@ pub fn one_provided(m: &[u64; WORDS], claims: &[u64]) -> bool
     let bits = key_bits(claims);
     let mut i: usize = 0;
     while i < PLACES {
-        if offers_one(m, i, claims, bits) {
+        if offers_one(m, i, bits, claims) {
             return true;
         }
         i += 1;

@@ -20,13 +20,13 @@ pub enum Perhaps {
     Refused(u64),
 }
 
-pub enum APort {
+pub enum PortAnswer {
     Is(Port),
     None,
     Refused(u64),
 }
 
-pub enum ARoot {
+pub enum RootAnswer {
     Is(Root),
     Refused(u64),
 }
@@ -44,13 +44,13 @@ pub fn parent(m: &[u64; WORDS], id: u64) -> Perhaps
     }
 }
 
-pub fn anchor(m: &[u64; WORDS], id: u64) -> APort
+pub fn anchor(m: &[u64; WORDS], id: u64) -> PortAnswer
     ensures { λ r. ⌜ portAnswer r ≡ answerOf (askPlugin (view (now (m .entry))) Anchor id) ⌝ }
 {
     let Place::At(at) = memory::find(m, id) else {
-        return APort::Refused(refusal::UNKNOWN);
+        return PortAnswer::Refused(refusal::UNKNOWN);
     };
-    APort::Is(memory_lists::anchor(m, at))
+    PortAnswer::Is(memory_lists::anchor(m, at))
 }
 
 // 0 Idle, 1 Loading, 2 Active, 3 Unloading.
@@ -110,29 +110,29 @@ pub fn payload(m: &[u64; WORDS], id: u64) -> Number
     Number::Is(life.payload)
 }
 
-pub fn root(m: &[u64; WORDS], id: u64) -> ARoot
+pub fn root(m: &[u64; WORDS], id: u64) -> RootAnswer
     ensures { λ r. ⌜ rootAnswer r ≡ answerOf (askPlugin (view (now (m .entry))) RootOf id) ⌝ }
 {
     let Place::At(at) = memory::find(m, id) else {
-        return ARoot::Refused(refusal::UNKNOWN);
+        return RootAnswer::Refused(refusal::UNKNOWN);
     };
     let life = memory_life::load(m, at);
     let root = life.root;
-    ARoot::Is(root)
+    RootAnswer::Is(root)
 }
 
 // The first port of the dependency list with the key.
-pub fn dependency_port(m: &[u64; WORDS], id: u64, key: u64) -> APort
+pub fn dependency_port(m: &[u64; WORDS], id: u64, key: u64) -> PortAnswer
     ensures { λ r. ⌜ portAnswer r ≡ answerOf (dependencyPort (view (now (m .entry))) id key) ⌝ }
 {
     let Place::At(at) = memory::find(m, id) else {
-        return APort::Refused(refusal::UNKNOWN);
+        return PortAnswer::Refused(refusal::UNKNOWN);
     };
     let list = memory_lists::dependency_words(m, at);
     let ports::Found::At(i) = ports::first_port(list, key) else {
-        return APort::None;
+        return PortAnswer::None;
     };
-    APort::Is(ports::port_at(list, i))
+    PortAnswer::Is(ports::port_at(list, i))
 }
 
 // Dependencies, provisions and realm rows, listed into a lent buffer from a place.
@@ -143,7 +143,7 @@ pub fn list_dependencies(m: &[u64; WORDS], id: u64, place: usize, buffer: &mut [
     let Place::At(at) = memory::find(m, id) else {
         return Number::Refused(refusal::UNKNOWN);
     };
-    ports_listed::list_ports(memory_lists::dependency_words(m, at), buffer, place)
+    ports_listed::list_ports(place, memory_lists::dependency_words(m, at), buffer)
 }
 
 pub fn list_provisions(m: &[u64; WORDS], id: u64, place: usize, buffer: &mut [u64]) -> Number
@@ -153,7 +153,7 @@ pub fn list_provisions(m: &[u64; WORDS], id: u64, place: usize, buffer: &mut [u6
     let Place::At(at) = memory::find(m, id) else {
         return Number::Refused(refusal::UNKNOWN);
     };
-    ports_listed::list_ports(memory_lists::provision_words(m, at), buffer, place)
+    ports_listed::list_ports(place, memory_lists::provision_words(m, at), buffer)
 }
 
 pub fn list_realms(m: &[u64; WORDS], id: u64, place: usize, buffer: &mut [u64]) -> Number
@@ -163,5 +163,5 @@ pub fn list_realms(m: &[u64; WORDS], id: u64, place: usize, buffer: &mut [u64]) 
     let Place::At(at) = memory::find(m, id) else {
         return Number::Refused(refusal::UNKNOWN);
     };
-    ports_listed::list_ports(memory_lists::realm_words(m, at), buffer, place)
+    ports_listed::list_ports(place, memory_lists::realm_words(m, at), buffer)
 }

@@ -15,8 +15,8 @@ ghost use Rattle.registry_values.specs.Rules.{givenBy, declared};
 use memory::Place;
 use memory::WORDS;
 use ports::Found;
-use registry_queries::APort;
 use registry_queries::Perhaps;
+use registry_queries::PortAnswer;
 use rules::Optional;
 use rules::Port;
 use rules::Whether;
@@ -86,16 +86,16 @@ pub fn own(m: &[u64; WORDS], id: u64, key: u64, realm: u64) -> Perhaps
 }
 
 // The first provision in order without a value, or nothing.
-pub fn missing(m: &[u64; WORDS], id: u64) -> APort
+pub fn missing(m: &[u64; WORDS], id: u64) -> PortAnswer
     ensures { λ r. ⌜ portAnswer r ≡ answerOf (missing (view (now (m .entry))) id) ⌝ }
 {
     let Place::At(at) = memory::find(m, id) else {
-        return APort::Refused(refusal::UNKNOWN);
+        return PortAnswer::Refused(refusal::UNKNOWN);
     };
     let Found::At(j) = memory_values::first_lacking(m, at) else {
-        return APort::None;
+        return PortAnswer::None;
     };
-    APort::Is(ports::port_at(memory_lists::provision_words(m, at), j))
+    PortAnswer::Is(ports::port_at(memory_lists::provision_words(m, at), j))
 }
 
 fn told(yes: bool) -> Whether
