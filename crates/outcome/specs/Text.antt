@@ -25,8 +25,8 @@ text-lines-number κs a r s ms ns p q = laid-one p q
 pub text-lines-number-line : One text_lines.«number_line».ended text_lines.«number_line».Reads.Learnt
 text-lines-number-line κs a r s ms ns p q = laid-one p q
 
-pub text-lines-perhaps-line : One text_lines.«perhaps_line».ended text_lines.«perhaps_line».Reads.Learnt
-text-lines-perhaps-line κs a r s ms ns p q = laid-one p q
+pub text-lines-optional-line : One text_lines.«optional_line».ended text_lines.«optional_line».Reads.Learnt
+text-lines-optional-line κs a r s ms ns p q = laid-one p q
 
 pub text-lines-pair-line : One text_lines.«pair_line».ended text_lines.«pair_line».Reads.Learnt
 text-lines-pair-line κs a r s ms ns p q = laid-one p q

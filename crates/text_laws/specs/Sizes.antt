@@ -201,7 +201,7 @@ held-most [] = omega arith
 held-most (none ∷ ps) = omega (arith, held-most ps)
 held-most (some p ∷ ps) = omega (arith, held-most ps)
 
-rows-most : (l : List Plugin) → ((p : Plugin) → In p l → Lists p) → sumRows l ≤ 64 * length l
+pub rows-most : (l : List Plugin) → ((p : Plugin) → In p l → Lists p) → sumRows l ≤ 64 * length l
 rows-most [] o = omega arith
 rows-most (p ∷ l) o =
     let k = o p (inl refl) in

@@ -7,12 +7,6 @@ use Rattle.rules.specs.declared.Root.{Root}
 use Rattle.rules.specs.declared.Root.the-variants.{Unissued, Queued, Spent}
 use Rattle.text_form.specs.Bytes.{bytes}
 use Rattle.text_form.specs.Digits.{decimalOf}
-use Rattle.text_lines.specs.declared.Perhaps.{Perhaps}
-use Rattle.text_lines.specs.declared.Perhaps.the-variants as perhaps
-
-abbrev pub perhapsOf : Perhaps → Option ℕ
-perhapsOf (perhaps.Is n) = some n
-perhapsOf perhaps.Nothing = none
 
 -- A number, and the byte that ends it.
 abbrev pub ended : ℕ → ℕ → List ℕ

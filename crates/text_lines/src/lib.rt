@@ -4,16 +4,12 @@ ghost use mathlib.Core.Path.{_≡_};
 ghost use mathlib.Core.List.{[], _∷_, _++_};
 ghost use Prim.Native.Nat.{_+_, min};
 ghost use Rattle.rules.specs.Basics.{last};
+ghost use Rattle.rules.specs.Answers.{optionOf};
 ghost use Rattle.rules.specs.Ports.{pairs};
 ghost use Rattle.text_lines.specs.Laid.{Laid};
-ghost use Rattle.text_lines.specs.Lines.{ended, orNone, pair, triple, perhapsOf, rootLines, portLines};
+ghost use Rattle.text_lines.specs.Lines.{ended, orNone, pair, triple, rootLines, portLines};
+use rules::Optional;
 use rules::Root;
-
-// A number, or none.
-pub enum Perhaps {
-    Is(u64),
-    Nothing,
-}
 
 fn least(a: usize, b: usize) -> usize
     ensures { λ r. ⌜ r ≡ min a b ⌝ }
@@ -66,12 +62,12 @@ pub fn number(text: &mut [u8], at: usize, n: u64, end: u8) -> usize
 }
 
 // A number or `none`, and the line's end.
-fn number_or_none(text: &mut [u8], at: usize, value: Perhaps) -> usize
-    ensures { λ r. ⌜ Laid (orNone (perhapsOf value)) at (now (text .entry)) (now (text .exit)) r ⌝ }
+fn number_or_none(text: &mut [u8], at: usize, value: Optional) -> usize
+    ensures { λ r. ⌜ Laid (orNone (optionOf value)) at (now (text .entry)) (now (text .exit)) r ⌝ }
 {
     match value {
-        Perhaps::Is(n) => number(text, at, n, b'\n'),
-        Perhaps::Nothing => put(text, at, b"none\n"),
+        Optional::Is(n) => number(text, at, n, b'\n'),
+        Optional::None => put(text, at, b"none\n"),
     }
 }
 
@@ -91,8 +87,8 @@ pub fn number_line(text: &mut [u8], at: usize, name: &[u8], n: u64) -> usize
     number(text, value, n, b'\n')
 }
 
-pub fn perhaps_line(text: &mut [u8], at: usize, name: &[u8], value: Perhaps) -> usize
-    ensures { λ r. ⌜ Laid (now (name .entry) ++ orNone (perhapsOf value)) at (now (text .entry)) (now (text .exit)) r ⌝ }
+pub fn optional_line(text: &mut [u8], at: usize, name: &[u8], value: Optional) -> usize
+    ensures { λ r. ⌜ Laid (now (name .entry) ++ orNone (optionOf value)) at (now (text .entry)) (now (text .exit)) r ⌝ }
 {
     let place = put(text, at, name);
     number_or_none(text, place, value)
@@ -105,8 +101,15 @@ pub fn pair_line(text: &mut [u8], at: usize, name: &[u8], a: u64, b: u64) -> usi
     number_pair(text, first, a, b)
 }
 
-pub fn triple_line(text: &mut [u8], at: usize, name: &[u8], a: u64, b: u64, value: Perhaps) -> usize
-    ensures { λ r. ⌜ Laid (now (name .entry) ++ triple a b (perhapsOf value)) at (now (text .entry)) (now (text .exit)) r ⌝ }
+pub fn triple_line(
+    text: &mut [u8],
+    at: usize,
+    name: &[u8],
+    a: u64,
+    b: u64,
+    value: Optional,
+) -> usize
+    ensures { λ r. ⌜ Laid (now (name .entry) ++ triple a b (optionOf value)) at (now (text .entry)) (now (text .exit)) r ⌝ }
 {
     let first = put(text, at, name);
     let second = number(text, first, a, b',');
