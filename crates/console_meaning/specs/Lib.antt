@@ -2,3 +2,4 @@ pub mod Refusals
 pub mod Values
 pub mod Told
 pub mod Said
+pub mod Written

@@ -14,7 +14,7 @@ use Rattle.console_names.specs.declared.Count.{Count}
 use Rattle.console_names.specs.declared.Values.{Values}
 use Rattle.console_names.specs.declared.Values.the-variants.{Nothing, Numbers}
 use Rattle.console_names.specs.declared.Held.{Held}
-use Rattle.console_names.specs.declared.Kind.the-variants.{Show, Buffer, Lists, Registry}
+use Rattle.console_names.specs.declared.Kind.the-variants.{Show, Buffer, Lists, Registry, Text}
 use Rattle.console_names.specs.declared.Row.{Row}
 use Rattle.console_names.specs.declared.Row.the-variants.{Slot, Register, Takes, Unknown}
 use Rattle.console_names.specs.Table.{Asked, Bad, Open, Stated, Told, Operation, first, second, operations, unknown, operationAt, rowAt, askedAt}
@@ -22,7 +22,7 @@ use Rattle.console_definition.specs.Definitions.{definitionIn}
 use Rattle.console_show.specs.Spoken.{lineOn, spokenOn}
 use Rattle.console_operations.specs.Asked.{whichOf}
 use Rattle.console_register.specs.Registrations.{registration}
-use Rattle.console_line.specs.Lines.{bad, listed, askedLine, numbersLine, registerLine}
+use Rattle.console_line.specs.Lines.{lineEnd, bad, listed, askedLine, numbersLine, registerLine}
 use Rattle.console_meaning.specs.Values.{Silent, ready-silent, fail-silent, unload-silent, finish-silent}
 use Rattle.console_meaning.specs.Values.{retire-silent, retire-child-silent, remove-silent, offer-silent}
 use Rattle.console_meaning.specs.Told.{said, silent}
@@ -30,9 +30,9 @@ use Rattle.console_meaning.specs.Told.{said, silent}
 -- What the line of a thing asked for says: that it is bad, that a registry is opened, or the rules' answer.
 abbrev pub saidOf : Page → List ℕ → Values → Asked → Page
 saidOf p m v Bad = bad p
-saidOf p m v (Open domain first) = putOn p okWord
-saidOf p m v (Stated o) = lineOn p v (answer m o)
-saidOf p m v (Told o) = lineOn p v (answer m o)
+saidOf p m v (Open domain first) = lineEnd (putOn p okWord)
+saidOf p m v (Stated o) = lineEnd (lineOn p v (answer m o))
+saidOf p m v (Told o) = lineEnd (lineOn p v (answer m o))
 
 -- A registry is opened with no values, and what is only stated answers no number.
 abbrev pub Plain : Values → Asked → Type 0
@@ -41,7 +41,7 @@ Plain v (Open domain first) = v ≡ Nothing
 Plain v (Stated o) = Silent o
 Plain v (Told o) = Unit {0}
 
-open-said : (p : Page) (m : List ℕ) (domain first : ℕ) → askedLine p m Nothing (Open domain first) ≡ putOn p okWord
+open-said : (p : Page) (m : List ℕ) (domain first : ℕ) → askedLine p m Nothing (Open domain first) ≡ lineEnd (putOn p okWord)
 unfolding spokenOn numbersOn
 open-said p m domain first = refl
 
@@ -64,6 +64,7 @@ valuesBy (Takes count Show) = Numbers
 valuesBy (Takes count Buffer) = Numbers
 valuesBy (Takes count (Lists held)) = Numbers
 valuesBy (Takes count (Registry v)) = v
+valuesBy (Takes count Text) = Numbers
 valuesBy Unknown = Nothing
 
 -- What is to be shown of a row, beside that of the others: nothing where numbers are told.
@@ -126,5 +127,5 @@ module _ (p : Page) (m : List ℕ) where
 
   -- and the line of a listing.
   pub listed-said : (buffer : List ℕ) (held : Held) (l : List ℕ)
-      → listed p m buffer held l .page ≡ lineOn p Numbers (answer m (Write (Listed (whichOf held) (first l) (second l)) buffer))
+      → listed p m buffer held l .page ≡ lineEnd (lineOn p Numbers (answer m (Write (Listed (whichOf held) (first l) (second l)) buffer)))
   listed-said buffer held l = said p m Numbers (Write (Listed (whichOf held) (first l) (second l)) buffer)

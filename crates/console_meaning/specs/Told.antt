@@ -19,7 +19,7 @@ use Rattle.console_show.specs.Shown.{valuesOf}
 use Rattle.console_show.specs.Told.{told-back}
 use Rattle.console_names.specs.declared.Values.{Values}
 use Rattle.console_names.specs.Table.{Stated, Told}
-use Rattle.console_line.specs.Lines.{untold, askedLine}
+use Rattle.console_line.specs.Lines.{lineEnd, untold, askedLine}
 use Rattle.console_meaning.specs.Values.{saying, few-values, Silent}
 
 -- Six numbers at most are read back from the words; a refusal without numbers leaves these, and they tell nothing.
@@ -45,9 +45,9 @@ spoken p v (removes id vs) = refl
 
 module _ (p : Page) (m : List ℕ) (v : Values) (o : Op) where
   -- Any operation that tells numbers: the line says the rules' answer.
-  pub said : askedLine p m v (Told o) ≡ lineOn p v (answer m o)
-  said = ap (spokenOn p v (statusOf (answer m o))) (read-back (answer m o) (few-values (view m) o)) ∙ spoken p v (step (view m) o)
+  pub said : askedLine p m v (Told o) ≡ lineEnd (lineOn p v (answer m o))
+  said = ap lineEnd (ap (spokenOn p v (statusOf (answer m o))) (read-back (answer m o) (few-values (view m) o)) ∙ spoken p v (step (view m) o))
 
   -- So does an operation that answers none, with nothing told.
-  pub silent : Silent o → askedLine p m v (Stated o) ≡ lineOn p v (answer m o)
-  silent h = ap (spokenOn p v (statusOf (answer m o))) (sym (h (view m))) ∙ spoken p v (step (view m) o)
+  pub silent : Silent o → askedLine p m v (Stated o) ≡ lineEnd (lineOn p v (answer m o))
+  silent h = ap lineEnd (ap (spokenOn p v (statusOf (answer m o))) (sym (h (view m))) ∙ spoken p v (step (view m) o))

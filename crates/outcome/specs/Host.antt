@@ -91,6 +91,9 @@ host-vaskelbi-list-provisions κs a r s ms ns p q = by-three p q
 pub host-vaskelbi-list-realms : One host.«vaskelbi_list_realms».ended host.«vaskelbi_list_realms».Reads.Learnt
 host-vaskelbi-list-realms κs a r s ms ns p q = by-three p q
 
+pub host-vaskelbi-write-text : One host.«vaskelbi_write_text».ended host.«vaskelbi_write_text».Reads.Learnt
+host-vaskelbi-write-text κs a r s ms ns p q = by-three p q
+
 pub host-vaskelbi-begin : One host.«vaskelbi_begin».ended host.«vaskelbi_begin».Reads.Learnt
 host-vaskelbi-begin κs a r s ms ns p q = by-three p q
 

@@ -1,10 +1,13 @@
--- Each promise of these crates allows one outcome: numbers and lines of the registry's text.
+-- Each promise of these crates allows one outcome: numbers, lines and the whole of the registry's text.
 use denote.Ref.{now}
+use Rattle.rules.specs.Answers.{number-exact}
 use Rattle.text_decimal.specs.Numbers.{read-exact}
 use Rattle.text_decimal.proofs as text_decimal
 use Rattle.text_lines.proofs as text_lines
+use Rattle.text_block.proofs as text_block
+use Rattle.text_write.proofs as text_write
 use Rattle.outcome.specs.One.{One, OneSeen}
-use Rattle.outcome.specs.Equations.{answer-alone, one-outcome}
+use Rattle.outcome.specs.Equations.{answer-alone, one-outcome, one-with-memory}
 use Rattle.outcome.specs.Records.{laid-one, written-one}
 
 pub text-decimal-write-digits : One text_decimal.«write_digits».ended text_decimal.«write_digits».Reads.Learnt
@@ -39,3 +42,9 @@ text-lines-root-lines κs a r s ms ns p q = laid-one p q
 
 pub text-lines-port-lines : One text_lines.«port_lines».ended text_lines.«port_lines».Reads.Learnt
 text-lines-port-lines κs a r s ms ns p q = laid-one p q
+
+pub text-block-block : One text_block.block.ended text_block.block.Reads.Learnt
+text-block-block κs a r s ms ns p q = laid-one p q
+
+pub text-write-write-text : One text_write.«write_text».ended text_write.«write_text».Reads.Learnt
+text-write-write-text κs a r s ms ns p q = one-with-memory number-exact p q
