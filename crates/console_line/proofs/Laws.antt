@@ -24,7 +24,7 @@ use Rattle.console_names.specs.declared.Kind.{Kind}
 use Rattle.console_names.specs.declared.Kind.the-variants.{Show, Buffer, Text}
 use Rattle.console_names.specs.declared.Row.{Row}
 use Rattle.console_names.specs.Names.{placeAmong}
-use Rattle.console_names.specs.Table.{Asked, Told, takes, first, second, names, rowAt}
+use Rattle.console_names.specs.Table.{Asked, takes, first, second, names, rowAt}
 use Rattle.console_show.specs.Spoken.{spokenOn}
 use Rattle.console_show.specs.Buffered.{between}
 use Rattle.console_show.specs.Shown.{shownOn}

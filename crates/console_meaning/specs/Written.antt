@@ -1,9 +1,8 @@
 -- What the line `write SIZE` says: the registry's text, or that the room is too small.
 use Prim.Native.Nat.{ℕ, _+_, min, _≤_, _<_}
-use native.Mathlib.Omega.{arith}
 use mathlib.Core.Path.{_≡_, ap, _∙_}
-use mathlib.Core.List.{List, [], _∷_, _++_}
-use lib.ListN.{length, take, drop, replicate, length-take, length-replicate}
+use mathlib.Core.List.{List, [], _∷_}
+use lib.ListN.{length, drop, replicate, length-take, length-replicate}
 use lib.Seq.{take-append-seam}
 use borrow.Author.Tests.{lt-ltb, le-ltb}
 use Rattle.rules.specs.Holds.{Registry}
