@@ -77,7 +77,8 @@ fn with_lists(
 
 // What stands behind the word `register`.
 pub fn registered(m: &mut [u64; WORDS], bytes: &[u8], from: usize, out: &mut [u64; ANSWER]) -> u64
-    ensures { λ r. ⌜ Carried (now (m .entry)) (registration (definitionIn (now (bytes .entry)) from)) (now (out .entry)) r (now (out .exit)) (now (m .exit)) ⌝ }
+    ensures { λ r. ⌜ Carried (now (m .entry)) (registration (definitionIn (now (bytes .entry)) from))
+        (now (out .entry)) r (now (out .exit)) (now (m .exit)) ⌝ }
 {
     let under = console_definition::read_parent(bytes, from);
     let parent = under.parent;

@@ -83,7 +83,8 @@ pub fn decided_by(slot: Slot, name: &[u8], list: &[u64]) -> Decides
 
 // What a decision says, and the slot it leaves; a bad line leaves the slot.
 fn after(slot: Slot, decides: Decides, text: &mut [u8; ROOM]) -> Said
-    ensures { λ r. ⌜ LeavesSlot (decidedOr (upTo (now (text .entry)) 0) (slotOf slot) (decidesOf decides)) (now (text .exit)) (r .stop) (slotOf (r .slot)) ⌝ }
+    ensures { λ r. ⌜ LeavesSlot (decidedOr (upTo (now (text .entry)) 0) (slotOf slot) (decidesOf decides))
+        (now (text .exit)) (r .stop) (slotOf (r .slot)) ⌝ }
 {
     match decides {
         Decides::Bad => Said {
@@ -102,7 +103,8 @@ fn after(slot: Slot, decides: Decides, text: &mut [u8; ROOM]) -> Said
 
 // What stands behind the word `slot`.
 pub fn slot_line(slot: Slot, bytes: &[u8], from: usize, text: &mut [u8; ROOM]) -> Said
-    ensures { λ r. ⌜ LeavesSlot (slotLine (upTo (now (text .entry)) 0) (slotOf slot) (now (bytes .entry)) from) (now (text .exit)) (r .stop) (slotOf (r .slot)) ⌝ }
+    ensures { λ r. ⌜ LeavesSlot (slotLine (upTo (now (text .entry)) 0) (slotOf slot) (now (bytes .entry)) from)
+        (now (text .exit)) (r .stop) (slotOf (r .slot)) ⌝ }
 {
     let word = console_words::next_word(bytes, from);
     let start = word.start;

@@ -32,10 +32,10 @@ pub extern "C" fn vaskelbi_register(
                 key: key,
                 realm: realm,
             },
+            payload,
             realms,
             dependencies,
             provisions,
-            payload,
         ),
         out,
     )
@@ -66,10 +66,10 @@ pub extern "C" fn vaskelbi_register_child(
                 key: key,
                 realm: realm,
             },
+            payload,
             realms,
             dependencies,
             provisions,
-            payload,
         ),
         out,
     )

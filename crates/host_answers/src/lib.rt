@@ -125,22 +125,22 @@ pub fn perhaps(a: registry_queries::Perhaps, out: &mut [u64; ANSWER]) -> u64
     }
 }
 
-pub fn port(a: registry_queries::APort, out: &mut [u64; ANSWER]) -> u64
+pub fn port(a: registry_queries::PortAnswer, out: &mut [u64; ANSWER]) -> u64
     ensures { λ r. ⌜ Tells (portAnswer a) (now (out .entry)) r (now (out .exit)) ⌝ }
 {
     match a {
-        registry_queries::APort::Is(q) => two(q.key, q.realm, out),
-        registry_queries::APort::None => none(out),
-        registry_queries::APort::Refused(why) => why,
+        registry_queries::PortAnswer::Is(q) => two(q.key, q.realm, out),
+        registry_queries::PortAnswer::None => none(out),
+        registry_queries::PortAnswer::Refused(why) => why,
     }
 }
 
-pub fn root(a: registry_queries::ARoot, out: &mut [u64; ANSWER]) -> u64
+pub fn root(a: registry_queries::RootAnswer, out: &mut [u64; ANSWER]) -> u64
     ensures { λ r. ⌜ Tells (rootAnswer a) (now (out .entry)) r (now (out .exit)) ⌝ }
 {
     match a {
-        registry_queries::ARoot::Is(root) => issued(root, out),
-        registry_queries::ARoot::Refused(why) => why,
+        registry_queries::RootAnswer::Is(root) => issued(root, out),
+        registry_queries::RootAnswer::Refused(why) => why,
     }
 }
 

@@ -2,8 +2,9 @@
 ghost use mathlib.Core.Path.{_≡_};
 ghost use Prim.Native.Nat.{_%_, _<_};
 ghost use lib.Dec.{eqb};
+ghost use lib.ListN.{length};
 ghost use Rattle.rules.specs.Basics.{holds};
-ghost use Rattle.memory.specs.Layout.{word, occupancy, taken, idAt, places, domainWord, firstWord, nextWord};
+ghost use Rattle.memory.specs.Layout.{word, occupancy, taken, idAt, memoryWords, places, domainWord, firstWord, nextWord};
 ghost use Rattle.memory.specs.Lives.{changedLife, movedLife, begunLife, finishedLife, rootedLife, markedLife};
 ghost use Rattle.memory.specs.View.{parentAt};
 ghost use Rattle.memory.specs.Writes.{parentId, namesAt, findAt};
@@ -109,6 +110,19 @@ pub struct Words {
     pub root_argument: u64,
 }
 
+// What the type of the memory says of its length, for a proof. It compiles to nothing.
+pub fn known(m: &[u64; WORDS])
+    ensures { λ _. ⌜ length (now (m .entry)) ≡ memoryWords ⌝ }
+{
+    let n = count(m);
+}
+
+fn count(words: &[u64]) -> usize
+    ensures { λ r. ⌜ r ≡ length (now (words .entry)) ⌝ }
+{
+    words.len()
+}
+
 pub fn domain(m: &[u64; WORDS]) -> u64
     ensures { λ r. ⌜ r ≡ word (now (m .entry)) domainWord ⌝ }
 {
@@ -146,7 +160,7 @@ pub fn is_taken(m: &[u64; WORDS], place: usize) -> bool
 }
 
 // Whether the plugin of this place has the id: that is asked first, as few places have it.
-fn names(m: &[u64; WORDS], id: u64, place: usize) -> bool
+fn names(m: &[u64; WORDS], place: usize, id: u64) -> bool
     requires { ⌜ place < places ⌝ }
     ensures { λ r. ⌜ r ≡ namesAt (now (m .entry)) id place ⌝ }
 {
@@ -163,7 +177,7 @@ pub fn find(m: &[u64; WORDS], id: u64) -> Place
 {
     let mut i: usize = 0;
     while i < PLACES {
-        if names(m, id, i) {
+        if names(m, i, id) {
             return Place::At(i);
         }
         i += 1;

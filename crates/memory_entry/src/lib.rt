@@ -1,9 +1,8 @@
 // A new plugin in the registry's memory: its rows behind all others, its words at its place, and the place taken.
 ghost use mathlib.Core.Path.{_≡_};
 ghost use Prim.Native.Nat.{_*_, _%_, _<_};
-ghost use lib.ListN.{length};
 ghost use Rattle.memory.specs.Writes.{puts};
-ghost use Rattle.memory.specs.Layout.{memoryWords, placeWords, places, idWord};
+ghost use Rattle.memory.specs.Layout.{placeWords, places, idWord};
 ghost use Rattle.memory_entry.specs.Entries.{entryWords, filledPlace};
 use memory::WORDS;
 use memory::layout;
@@ -30,24 +29,11 @@ pub struct Entry {
     pub next: u64,
 }
 
-// What the type of the memory says of its length. It compiles to nothing.
-fn count(s: &[u64]) -> usize
-    ensures { λ r. ⌜ r ≡ length (now (s .entry)) ⌝ }
-{
-    s.len()
-}
-
-fn known(m: &[u64; WORDS])
-    ensures { λ _. ⌜ length (now (m .entry)) ≡ memoryWords ⌝ }
-{
-    let n = count(m);
-}
-
 // Numbers from a word on; what would lie past the end of the memory is left out.
 fn put_words(m: &mut [u64; WORDS], from: usize, words: &[u64])
     ensures { λ _. ⌜ now (m .exit) ≡ puts (now (m .entry)) from 0 (now (words .entry)) ⌝ }
 {
-    known(m);
+    memory::known(m);
     let mut k: usize = 0;
     while k < words.len() {
         if from >= WORDS {
@@ -89,9 +75,9 @@ pub fn fill_place(
     m: &mut [u64; WORDS],
     place: usize,
     e: Entry,
+    realms: &[u64],
     dependencies: &[u64],
     claims: &[u64],
-    realms: &[u64],
 )
     ensures { λ _. ⌜ now (m .exit) ≡ filledPlace (now (m .entry)) (place % places) e
         (now (dependencies .entry)) (now (claims .entry)) (now (realms .entry)) ⌝ }

@@ -1,7 +1,6 @@
 // A plugin's life, loaded from its words and stored to them. A place is read modulo 32.
 ghost use mathlib.Core.Path.{_≡_};
 ghost use Prim.Native.Nat.{_%_, _<_};
-ghost use Rattle.rules.specs.Queries.{phaseNumber};
 ghost use Rattle.memory.specs.View.{phaseOf, rootOf, wordsAt, decoded, lifeAt};
 ghost use Rattle.memory.specs.Writes.{rootTag, rootRevision, rootArgument, putWords, encoded, putLife, renewedAt};
 ghost use Rattle.memory.specs.Layout.{places};
@@ -24,17 +23,6 @@ pub fn phase_of(w: u64) -> Phase
         1 => Phase::Loading,
         2 => Phase::Active,
         _ => Phase::Unloading,
-    }
-}
-
-fn phase_word(p: Phase) -> u64
-    ensures { λ r. ⌜ r ≡ phaseNumber p ⌝ }
-{
-    match p {
-        Phase::Idle => 0,
-        Phase::Loading => 1,
-        Phase::Active => 2,
-        Phase::Unloading => 3,
     }
 }
 
@@ -133,7 +121,7 @@ fn encode(life: Life) -> Words
     Words {
         revision: life.revision,
         payload: life.payload,
-        phase: phase_word(phase),
+        phase: phase.number(),
         retired: life.retired as u64,
         generation: life.generation.0,
         root: root_tag(root),

@@ -27,11 +27,10 @@ pub fn some_words(m: &[u64], from: usize, count: usize) -> &[u64]
     &m[from..end]
 }
 
-// A count, read up to its limit.
-fn at_most(word: u64, limit: usize) -> usize
-    ensures { λ r. ⌜ r ≡ min word limit ⌝ }
+// A count, up to its limit.
+pub fn at_most(n: usize, limit: usize) -> usize
+    ensures { λ r. ⌜ r ≡ min n limit ⌝ }
 {
-    let n = word as usize;
     if n < limit { n } else { limit }
 }
 
@@ -40,7 +39,7 @@ pub fn start(m: &[u64; WORDS], place: usize) -> usize
     ensures { λ r. ⌜ r ≡ startAt (now (m .entry)) (place % places) ⌝ }
 {
     let b = place % PLACES * PLACE_WORDS;
-    at_most(m[b + layout::FIRST_ROW], limits::ROWS)
+    at_most(m[b + layout::FIRST_ROW] as usize, limits::ROWS)
 }
 
 // How many dependencies, provisions and realm rows a place has.
@@ -48,21 +47,21 @@ pub fn dependencies(m: &[u64; WORDS], place: usize) -> usize
     ensures { λ r. ⌜ r ≡ depsAt (now (m .entry)) (place % places) ⌝ }
 {
     let b = place % PLACES * PLACE_WORDS;
-    at_most(m[b + layout::DEPENDENCIES], limits::DEPENDENCIES)
+    at_most(m[b + layout::DEPENDENCIES] as usize, limits::DEPENDENCIES)
 }
 
 pub fn provisions(m: &[u64; WORDS], place: usize) -> usize
     ensures { λ r. ⌜ r ≡ provsAt (now (m .entry)) (place % places) ⌝ }
 {
     let b = place % PLACES * PLACE_WORDS;
-    at_most(m[b + layout::PROVISIONS], limits::PROVISION_KEYS)
+    at_most(m[b + layout::PROVISIONS] as usize, limits::PROVISION_KEYS)
 }
 
 pub fn realm_rows(m: &[u64; WORDS], place: usize) -> usize
     ensures { λ r. ⌜ r ≡ realmsAt (now (m .entry)) (place % places) ⌝ }
 {
     let b = place % PLACES * PLACE_WORDS;
-    at_most(m[b + layout::REALMS], limits::REALM_ROWS)
+    at_most(m[b + layout::REALMS] as usize, limits::REALM_ROWS)
 }
 
 // The words of a plugin's dependencies, provisions and realm rows.

@@ -1,13 +1,12 @@
 // The 32 plugin places: one occupancy word. Its ones are the registered count, the trailing zeros of its complement the lowest free place.
 ghost use mathlib.Core.Path.{_≡_};
 ghost use Prim.Native.Nat.{_<_, _≤_, _*_, _/_, _%_, _^_};
-ghost use lib.ListN.{length};
 ghost use Rattle.rules.specs.Holds.{count, rowsInUse};
 ghost use Rattle.rules.specs.Outcomes.{answerOf};
 ghost use Rattle.rules.specs.Queries.{idFrom, lower as lowerId};
 ghost use Rattle.rules.specs.Limits.{maxPluginRows};
 ghost use Rattle.rules.specs.Answers.{optionOf, optionAnswer};
-ghost use Rattle.memory.specs.Layout.{occupancy, memoryWords, places};
+ghost use Rattle.memory.specs.Layout.{occupancy, places};
 ghost use Rattle.memory.specs.View.{view};
 ghost use Rattle.memory_places.specs.Changes.{freeAt, occupiedAt, vacatedAt};
 ghost use Rattle.memory_places.specs.Rows.{rowsBy, rowsFrom};
@@ -87,7 +86,7 @@ fn rows_of_four(m: &[u64; WORDS], place: usize, word: u32) -> usize
 pub fn rows_in_use(m: &[u64; WORDS]) -> usize
     ensures { λ r. ⌜ r ≡ rowsInUse (view (now (m .entry))) ⌝ }
 {
-    whole(m);
+    memory::known(m);
     let mut word = memory::occupied(m);
     let mut total: usize = 0;
     let mut k: usize = 0;
@@ -131,17 +130,4 @@ fn lower(id: u64, other: Optional) -> Optional
         }
         Optional::None => Optional::Is(id),
     }
-}
-
-// Tells the proof how long the memory is; compiles to nothing.
-fn whole(m: &[u64; WORDS])
-    ensures { λ _. ⌜ length (now (m .entry)) ≡ memoryWords ⌝ }
-{
-    let n = size(m);
-}
-
-fn size(words: &[u64]) -> usize
-    ensures { λ r. ⌜ r ≡ length (now (words .entry)) ⌝ }
-{
-    words.len()
 }

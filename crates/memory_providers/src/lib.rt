@@ -2,11 +2,10 @@
 ghost use mathlib.Core.Path.{_≡_};
 ghost use mathlib.Core.Bool.{_&&_};
 ghost use Prim.Native.Nat.{_<_, _%_};
-ghost use lib.ListN.{length};
 ghost use Rattle.rules.specs.Basics.{any, isSome};
 ghost use Rattle.rules.specs.Holds.{port, provides, provider};
 ghost use Rattle.rules.specs.Ports.{pairs};
-ghost use Rattle.memory.specs.Layout.{taken, memoryWords, places};
+ghost use Rattle.memory.specs.Layout.{taken, places};
 ghost use Rattle.memory.specs.View.{pluginAt, view};
 ghost use Rattle.memory_providers.specs.Providers.{providerAt, offeredPart, keyBits, wanted};
 use memory::Place;
@@ -56,19 +55,6 @@ pub fn provider(m: &[u64; WORDS], key: u64, realm: u64) -> Place
     Place::None
 }
 
-// What the type of the memory says of its length. It compiles to nothing.
-fn count(s: &[u64]) -> usize
-    ensures { λ r. ⌜ r ≡ length (now (s .entry)) ⌝ }
-{
-    s.len()
-}
-
-fn known(m: &[u64; WORDS])
-    ensures { λ _. ⌜ length (now (m .entry)) ≡ memoryWords ⌝ }
-{
-    let n = count(m);
-}
-
 // The anchor's words and, right behind it, those of the provisions.
 fn offered_words(m: &[u64; WORDS], place: usize) -> &[u64]
     ensures { λ r. ⌜ now r ≡ offeredPart (now (m .entry)) (place % places) ⌝ }
@@ -93,7 +79,7 @@ fn key_bits(claims: &[u64]) -> u64
 }
 
 // Whether a port is claimed; a key whose bit is 0 is not looked for.
-fn is_claimed(claims: &[u64], bits: u64, key: u64, realm: u64) -> bool
+fn is_claimed(bits: u64, key: u64, realm: u64, claims: &[u64]) -> bool
     ensures { λ r. ⌜ r ≡ wanted bits (pairs (now (claims .entry))) (port key realm) ⌝ }
 {
     if (bits >> (key % 64)) % 2 == 1 {
@@ -104,12 +90,12 @@ fn is_claimed(claims: &[u64], bits: u64, key: u64, realm: u64) -> bool
 }
 
 // Whether one of the offered ports is claimed.
-fn meets(claims: &[u64], bits: u64, offered: &[u64]) -> bool
+fn meets(bits: u64, claims: &[u64], offered: &[u64]) -> bool
     ensures { λ r. ⌜ r ≡ any (λ q. wanted bits (pairs (now (claims .entry))) q) (pairs (now (offered .entry))) ⌝ }
 {
     let mut row: usize = 1;
     while row < offered.len() {
-        if is_claimed(claims, bits, offered[row - 1], offered[row]) {
+        if is_claimed(bits, offered[row - 1], offered[row], claims) {
             return true;
         }
         row += 2;
@@ -118,13 +104,13 @@ fn meets(claims: &[u64], bits: u64, offered: &[u64]) -> bool
 }
 
 // Whether this place is taken and one of the ports of its plugin is claimed.
-fn offers_one(m: &[u64; WORDS], place: usize, claims: &[u64], bits: u64) -> bool
+fn offers_one(m: &[u64; WORDS], place: usize, bits: u64, claims: &[u64]) -> bool
     requires { ⌜ place < places ⌝ }
     ensures { λ r. ⌜ r ≡ (taken (now (m .entry)) place
         && any (λ q. wanted bits (pairs (now (claims .entry))) q) (pairs (offeredPart (now (m .entry)) place))) ⌝ }
 {
     if memory::is_taken(m, place) {
-        meets(claims, bits, offered_words(m, place))
+        meets(bits, claims, offered_words(m, place))
     } else {
         false
     }
@@ -134,11 +120,11 @@ fn offers_one(m: &[u64; WORDS], place: usize, claims: &[u64], bits: u64) -> bool
 pub fn one_provided(m: &[u64; WORDS], claims: &[u64]) -> bool
     ensures { λ r. ⌜ r ≡ any (λ q. isSome (provider (view (now (m .entry))) q)) (pairs (now (claims .entry))) ⌝ }
 {
-    known(m);
+    memory::known(m);
     let bits = key_bits(claims);
     let mut i: usize = 0;
     while i < PLACES {
-        if offers_one(m, i, claims, bits) {
+        if offers_one(m, i, bits, claims) {
             return true;
         }
         i += 1;

@@ -1,6 +1,6 @@
 // The rows of the registry's memory. A plugin's rows stand together; where one goes, those behind it come down.
 ghost use mathlib.Core.Path.{_≡_};
-ghost use Prim.Native.Nat.{_<_, _≤_, _+_, _%_, min};
+ghost use Prim.Native.Nat.{_<_, _≤_, _+_, _%_};
 ghost use lib.ListN.{set};
 ghost use Rattle.rules.specs.Limits.{maxRows, maxPluginRows};
 ghost use Rattle.memory.specs.Layout.{word, memoryWords, places};
@@ -61,15 +61,9 @@ pub fn free_place(m: &mut [u64; WORDS], place: usize)
     if memory::is_taken(m, p) {
         let start = memory_lists::start(m, p);
         let count = memory_lists::dependencies(m, p) + memory_lists::provisions(m, p) + 1;
-        let end = at_most(memory_places::rows_in_use(m), limits::ROWS);
+        let end = memory_lists::at_most(memory_places::rows_in_use(m), limits::ROWS);
         close_gap(m, start, count, end);
         lower_starts(m, start + count, count);
         memory_places::vacate(m, p);
     }
-}
-
-fn at_most(n: usize, limit: usize) -> usize
-    ensures { λ r. ⌜ r ≡ min n limit ⌝ }
-{
-    if n < limit { n } else { limit }
 }

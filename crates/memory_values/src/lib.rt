@@ -42,13 +42,13 @@ pub fn value_at(m: &[u64; WORDS], place: usize, provision: usize) -> Optional
 }
 
 // The place of the first port of the list that is the same.
-pub fn place_of(ports: &[u64], key: u64, realm: u64) -> Found
-    ensures { λ r. ⌜ r ≡ portFrom 0 (port key realm) (pairs (now (ports .entry))) ⌝ }
+pub fn place_of(list: &[u64], key: u64, realm: u64) -> Found
+    ensures { λ r. ⌜ r ≡ portFrom 0 (port key realm) (pairs (now (list .entry))) ⌝ }
 {
     let mut i: usize = 0;
-    while i < ports.len() / 2 {
-        if ports[i * 2] == key {
-            if ports[i * 2 + 1] == realm {
+    while i < list.len() / 2 {
+        if list[i * 2] == key {
+            if list[i * 2 + 1] == realm {
                 return Found::At(i);
             }
         }

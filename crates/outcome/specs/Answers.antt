@@ -4,8 +4,8 @@ use Rattle.rules.specs.declared.Root.{Root}
 use Rattle.rules.specs.declared.Root.the-variants.{Unissued, Queued, Spent}
 use Rattle.rules.specs.Queries.{rootNumbers}
 use Rattle.registry_queries.specs.Answers.{rootAnswer}
-use Rattle.registry_queries.specs.declared.ARoot.{ARoot}
-use Rattle.registry_queries.specs.declared.ARoot.the-variants as root
+use Rattle.registry_queries.specs.declared.RootAnswer.{RootAnswer}
+use Rattle.registry_queries.specs.declared.RootAnswer.the-variants as root
 use Rattle.memory.specs.Writes.{parentId}
 use Rattle.memory.specs.declared.Parent.{Parent}
 use Rattle.memory.specs.declared.Parent.the-variants as parent
@@ -56,7 +56,7 @@ roots-exact Spent Unissued e = cc
 roots-exact Spent (Queued v a) e = cc
 roots-exact Spent Spent e = refl
 
-pub root-exact : (a b : ARoot) → rootAnswer a ≡ rootAnswer b → a ≡ b
+pub root-exact : (a b : RootAnswer) → rootAnswer a ≡ rootAnswer b → a ≡ b
 root-exact (root.Is r) (root.Is s) e = let j : rootNumbers r ≡ rootNumbers s = cc in ap root.Is (roots-exact r s j)
 root-exact (root.Is r) (root.Refused n) e = cc
 root-exact (root.Refused n) (root.Is s) e = cc

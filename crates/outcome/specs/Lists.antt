@@ -17,6 +17,9 @@ rules-Port-new κs a r s ms ns p q = by-equation p q
 pub rules-Port-in-default-realm : One rules.Port.«in_default_realm».ended rules.Port.«in_default_realm».Reads.Learnt
 rules-Port-in-default-realm κs a r s ms ns p q = by-equation p q
 
+pub rules-Phase-number : One rules.Phase.number.ended rules.Phase.number.Reads.Learnt
+rules-Phase-number κs a r s ms ns p q = by-equation p q
+
 pub rules-Generation-of : One rules.Generation.of.ended rules.Generation.of.Reads.Learnt
 rules-Generation-of κs a r s ms ns p q = by-equation p q
 
@@ -52,6 +55,9 @@ ports-resolve-key κs a r s ms ns p q = one-outcome resolved-exact p q
 
 pub ports-has-port : One ports.«has_port».ended ports.«has_port».Reads.Learnt
 ports-has-port κs a r s ms ns p q = by-equation p q
+
+pub ports-port-at : One ports.«port_at».ended ports.«port_at».Reads.Learnt
+ports-port-at κs a r s ms ns p q = by-equation p q
 
 pub ports-first-port : One ports.«first_port».ended ports.«first_port».Reads.Learnt
 ports-first-port κs a r s ms ns p q = by-equation p q

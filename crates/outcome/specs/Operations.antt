@@ -12,7 +12,7 @@ use denote.Ref.{now}
 use denote.Triple.Entry.{Args}
 use denote.Triple.Clauses.{AtExit}
 use Rattle.rules.specs.Answers.{done-exact, whether-exact, number-exact}
-use Rattle.registry_replace.specs.Recipes.{changeOf}
+use Rattle.registry_replace.specs.Records.{changeOf}
 use Rattle.registry_replace.specs.declared.Replaced.{Replaced}
 use Rattle.registry_admit.specs.Answers.{admits-exact, admitted-exact, called-exact}
 use Rattle.registry_queries.specs.Answers.{perhaps-exact, port-exact}
@@ -106,7 +106,7 @@ registry-replace-changed κs a r s ms ns p q = by-equation p q
 
 -- The checker makes no reading of a promise over a lent struct. This is its text, and the clause says no less.
 abbrev lent-text : Promise registry_replace.«replace_lent».ended
-lent-text κs a r e = (now (e .0) ≡ changeOf (now (a .0)) (a .1 .0) .recipe) × (r ≡ changeOf (now (a .0)) (a .1 .0) .answer)
+lent-text κs a r e = (now (e .0) ≡ changeOf (now (a .0)) (a .1 .0) .next) × (r ≡ changeOf (now (a .0)) (a .1 .0) .answer)
 
 pub lent-said : {M : Type 1} (𝓤 : URA M) (H : Heap 𝓤) (A : Atoms 𝓤) (mem : Memory → SProp 𝓤) (run : Routine → Fun 𝓤)
     (κs : Lfts 1) (a : Args (registry_replace.«replace_lent».ended .signature) κs) (r : Replaced) (e : AtExit registry_replace.«replace_lent».ended κs)

@@ -1,4 +1,5 @@
 -- Each promise of these crates allows one outcome: a registry's words, and a slot's.
+use mathlib.Core.Path.{refl}
 use denote.Ref.{now}
 use Rattle.rules.specs.Answers.{done-exact, option-answer-exact}
 use Rattle.memory.proofs as memory
@@ -29,6 +30,9 @@ memory-Life-with-root κs a r s ms ns p q = by-equation p q
 pub memory-Life-marked : One memory.Life.marked.ended memory.Life.marked.Reads.Learnt
 memory-Life-marked κs a r s ms ns p q = by-equation p q
 
+pub memory-known : One memory.known.ended memory.known.Reads.Learnt
+memory-known κs a r s ms ns p q = refl
+
 pub memory-domain : One memory.domain.ended memory.domain.Reads.Learnt
 memory-domain κs a r s ms ns p q = by-equation p q
 
@@ -58,6 +62,9 @@ memory-is-child-of κs a r s ms ns p q = by-equation p q
 
 pub memory-lists-some-words : OneSeen memory_lists.«some_words».ended (λ κs r. now r) memory_lists.«some_words».Reads.Learnt
 memory-lists-some-words κs a r s ms ns p q = by-equation p q
+
+pub memory-lists-at-most : One memory_lists.«at_most».ended memory_lists.«at_most».Reads.Learnt
+memory-lists-at-most κs a r s ms ns p q = by-equation p q
 
 pub memory-lists-start : One memory_lists.start.ended memory_lists.start.Reads.Learnt
 memory-lists-start κs a r s ms ns p q = by-equation p q

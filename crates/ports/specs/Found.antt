@@ -1,5 +1,5 @@
 -- What callers read off a lookup's answer.
-use Prim.Native.Nat.{ℕ, suc, _+_, _-_, _*_, _/_, _≤_, _<_}
+use Prim.Native.Nat.{ℕ, suc, _+_, _-_, _≤_, _<_}
 use native.Mathlib.Omega.{arith}
 use mathlib.Core.Path.{_≡_, refl, ap, _∙_}
 use mathlib.Core.List.{List, [], _∷_}
@@ -8,13 +8,12 @@ use lib.ListN.{length, getD}
 use borrow.Author.Tests.{eqb-true}
 use Rattle.rules.specs.declared.Port.{Port}
 use Rattle.rules.specs.Holds.{port}
-use Rattle.rules.specs.Ports.{pairs, flat, resolveIn}
+use Rattle.rules.specs.Ports.{flat, resolveIn}
 use Rattle.rules.specs.Dependencies.{firstPort}
 use Rattle.rules.specs.Laws.Tests.{by-test}
 use Rattle.ports.specs.declared.Found.{Found}
 use Rattle.ports.specs.declared.Found.the-variants.{At, None}
 use Rattle.ports.specs.Answers.{firstFrom}
-use Rattle.ports.specs.Places.{length-pairs, pairs-get}
 
 -- resolved with a fallback that is this port
 pub resolve-with : (rows : List Port) (q p : Port) (k other : ℕ) → q ≡ resolveIn (p .realm) rows (p .key) → p ≡ port k other → q ≡ resolveIn other rows k
@@ -62,11 +61,3 @@ first-port-law k ps i e = let z : i - 0 ≡ i = omega arith in rw z at ((rw e at
 pub first-port-none : (k : ℕ) (ps : List Port) → firstFrom 0 k ps ≡ None → firstPort k ps ≡ []
 unfolding FirstOf
 first-port-none k ps e = rw e at (first-of 0 k ps)
-
--- in the numbers of the lent list
-pub first-port-numbers : (k : ℕ) (l : List ℕ) (i : ℕ) → First k i (pairs l)
-    → (i * 2 + 1 < length l) × (getD l (i * 2) 0 ≡ k) × (firstPort k (pairs l) ≡ getD l (i * 2) 0 ∷ getD l (i * 2 + 1) 0 ∷ [])
-first-port-numbers k l i f =
-    let h : i < length l / 2 = omega (arith, f .within, length-pairs l) in
-    let g = pairs-get l i h in
-    (omega arith, rw g at (f .hasKey), rw g at (f .answer))

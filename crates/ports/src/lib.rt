@@ -1,6 +1,7 @@
 // Document 01, "Ports and realms": lists of ports are lent as key, realm, key, realm. Every function takes any list.
 ghost use mathlib.Core.Path.{_≡_};
 ghost use mathlib.Core.Bool.{not, _&&_};
+ghost use lib.ListN.{getD};
 ghost use Rattle.rules.specs.Holds.{port, isIn};
 ghost use Rattle.rules.specs.Outcomes.{answerOf};
 ghost use Rattle.rules.specs.Ports.{badRealms, resolveIn, resolveKey, pairs, oddLength, samePorts};
@@ -82,6 +83,17 @@ pub fn has_port(ports: &[u64], key: u64, realm: u64) -> bool
         row += 1;
     }
     false
+}
+
+// The port of a row of the list, and (0, 0) past its end.
+pub fn port_at(ports: &[u64], row: usize) -> Port
+    ensures { λ r. ⌜ r ≡ getD (pairs (now (ports .entry))) row (port 0 0) ⌝ }
+{
+    if row < ports.len() / 2 {
+        Port::new(ports[row * 2], ports[row * 2 + 1])
+    } else {
+        Port::new(0, 0)
+    }
 }
 
 // The place of the first port with the key: the search stops there.

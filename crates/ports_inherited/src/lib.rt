@@ -24,30 +24,30 @@ pub struct Dependencies {
 // The list of a new plugin: the first 16 declared keys resolved, then for each port of the parent's list itself and its
 // key resolved again, each appended if it is neither among the provisions nor in the list so far.
 pub fn dependency_list(
-    realms: &[u64],
     other: u64,
-    provisions: &[u64],
+    realms: &[u64],
     keys: &[u64],
+    provisions: &[u64],
     parents: &[u64],
 ) -> Dependencies
     ensures { λ r. ⌜ r ≡ fitted (dependencyList (realmsWith other (now (realms .entry))) (pairs (now (provisions .entry)))
         (take maxDependencyKeys (now (keys .entry))) (pairs (now (parents .entry)))) ⌝ }
 {
-    let mut ports = [0u64; LIST_ROOM];
-    let mut n = ports_resolved::declared(realms, other, keys, &mut ports);
+    let mut list = [0u64; LIST_ROOM];
+    let mut n = ports_resolved::declared(other, realms, keys, &mut list);
     let mut c: usize = 0;
     'next: while c / 2 < parents.len() / 2 {
         let at = c / 2 * 2;
         let key = parents[at];
-        let realm = ports_resolved::candidate(realms, other, c % 2, key, parents[at + 1]);
+        let realm = ports_resolved::candidate(other, c % 2, key, parents[at + 1], realms);
         c += 1;
         if ports::has_port(provisions, key, realm) {
             continue;
         }
         let mut k: usize = 0;
         while k < n {
-            if ports[k * 2] == key {
-                if ports[k * 2 + 1] == realm {
+            if list[k * 2] == key {
+                if list[k * 2 + 1] == realm {
                     continue 'next;
                 }
             }
@@ -56,11 +56,14 @@ pub fn dependency_list(
         if n == limits::DEPENDENCIES {
             return longer();
         }
-        ports[n * 2] = key;
-        ports[n * 2 + 1] = realm;
+        list[n * 2] = key;
+        list[n * 2 + 1] = realm;
         n += 1;
     }
-    Dependencies { count: n, ports }
+    Dependencies {
+        count: n,
+        ports: list,
+    }
 }
 
 // What a list of more than 48 ports answers.

@@ -22,7 +22,7 @@ fn put_pairs(ports: &[u64], out: &mut [u64])
 }
 
 // 23 if the place is past the end or the room from it to the end is too small; nothing is written then.
-pub fn list_ports(ports: &[u64], buffer: &mut [u64], place: usize) -> Number
+pub fn list_ports(place: usize, ports: &[u64], buffer: &mut [u64]) -> Number
     ensures { λ r. ⌜ Lists (pairs (now (ports .entry))) place (now (buffer .entry)) (numberAnswer r) (now (buffer .exit)) ⌝ }
 {
     let count = ports.len() / 2;

@@ -42,32 +42,32 @@ pub fn repeated_key(keys: &[u64]) -> bool
 }
 
 // The anchor and the ports of the first 15 provision keys.
-pub fn claims(realms: &[u64], other: u64, anchor: Port, keys: &[u64]) -> Claimed
+pub fn claims(other: u64, anchor: Port, realms: &[u64], keys: &[u64]) -> Claimed
     ensures { λ r. ⌜ r ≡ claimsOf other (pairs (now (realms .entry))) anchor (now (keys .entry)) ⌝ }
 {
-    let mut ports = [0u64; CLAIM_ROOM];
-    ports[0] = anchor.key;
-    ports[1] = anchor.realm;
+    let mut list = [0u64; CLAIM_ROOM];
+    list[0] = anchor.key;
+    list[1] = anchor.realm;
     let mut i: usize = 0;
     while i < keys.len() {
         if i == limits::PROVISION_KEYS {
             return Claimed {
                 count: CLAIMS,
-                ports,
+                ports: list,
             };
         }
         let q = ports::resolve(realms, Port::new(keys[i], other));
-        ports[i * 2 + 2] = q.key;
-        ports[i * 2 + 3] = q.realm;
+        list[i * 2 + 2] = q.key;
+        list[i * 2 + 3] = q.realm;
         i += 1;
     }
     let count = i + 1;
-    Claimed { count, ports }
+    Claimed { count, ports: list }
 }
 
 // The first 16 declared keys, resolved, in the front of an array that a finished list fits into; their count.
-pub fn declared(realms: &[u64], other: u64, keys: &[u64], ports: &mut [u64; LIST_ROOM]) -> usize
-    ensures { λ r. ⌜ Stores (declaredOf other (pairs (now (realms .entry))) (now (keys .entry))) (now (ports .entry)) r (now (ports .exit)) ⌝ }
+pub fn declared(other: u64, realms: &[u64], keys: &[u64], list: &mut [u64; LIST_ROOM]) -> usize
+    ensures { λ r. ⌜ Stores (declaredOf other (pairs (now (realms .entry))) (now (keys .entry))) (now (list .entry)) r (now (list .exit)) ⌝ }
 {
     let mut i: usize = 0;
     while i < keys.len() {
@@ -75,15 +75,15 @@ pub fn declared(realms: &[u64], other: u64, keys: &[u64], ports: &mut [u64; LIST
             return limits::DEPENDENCY_KEYS;
         }
         let q = ports::resolve(realms, Port::new(keys[i], other));
-        ports[i * 2] = q.key;
-        ports[i * 2 + 1] = q.realm;
+        list[i * 2] = q.key;
+        list[i * 2 + 1] = q.realm;
         i += 1;
     }
     i
 }
 
 // The realm of a candidate: its own, or that of its key resolved again.
-pub fn candidate(realms: &[u64], other: u64, turn: usize, key: u64, realm: u64) -> u64
+pub fn candidate(other: u64, turn: usize, key: u64, realm: u64, realms: &[u64]) -> u64
     ensures { λ r. ⌜ r ≡ candidateRealm other (pairs (now (realms .entry))) turn key realm ⌝ }
 {
     if turn == 0 {

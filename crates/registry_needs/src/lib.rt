@@ -51,12 +51,12 @@ fn is_available(m: &[u64; WORDS], key: u64, realm: u64) -> bool
 }
 
 // Whether each port of the list has one.
-pub fn all_available(m: &[u64; WORDS], ports: &[u64]) -> bool
-    ensures { λ r. ⌜ r ≡ all (available (view (now (m .entry)))) (pairs (now (ports .entry))) ⌝ }
+pub fn all_available(m: &[u64; WORDS], list: &[u64]) -> bool
+    ensures { λ r. ⌜ r ≡ all (available (view (now (m .entry)))) (pairs (now (list .entry))) ⌝ }
 {
     let mut i: usize = 1;
-    while i < ports.len() {
-        if is_available(m, ports[i - 1], ports[i]) {
+    while i < list.len() {
+        if is_available(m, list[i - 1], list[i]) {
             i += 2;
         } else {
             return false;
@@ -66,12 +66,12 @@ pub fn all_available(m: &[u64; WORDS], ports: &[u64]) -> bool
 }
 
 // Whether the plugin of a place provides one of the ports.
-fn provides_one(m: &[u64; WORDS], place: usize, ports: &[u64]) -> bool
-    ensures { λ r. ⌜ r ≡ depends (now (m .entry)) (place % places) (pairs (now (ports .entry))) ⌝ }
+fn provides_one(m: &[u64; WORDS], place: usize, list: &[u64]) -> bool
+    ensures { λ r. ⌜ r ≡ depends (now (m .entry)) (place % places) (pairs (now (list .entry))) ⌝ }
 {
     let mut i: usize = 1;
-    while i < ports.len() {
-        if memory_providers::provides(m, place, ports[i - 1], ports[i]) {
+    while i < list.len() {
+        if memory_providers::provides(m, place, list[i - 1], list[i]) {
             return true;
         }
         i += 2;

@@ -1,11 +1,10 @@
 -- The laws of `specs/Asked.antt` in the form of the returns. Assumes nothing.
-use Prim.Native.Nat.{ℕ, _+_, _*_, _%_, _<_, _≤_}
-use native.Mathlib.Omega.{arith}
+use Prim.Native.Nat.{ℕ, _%_}
 use mathlib.Core.Path.{_≡_, refl, sym, ap, _∙_}
 use mathlib.Core.Bool.{Bool}
 use mathlib.Core.List.{List, [], _∷_}
 use mathlib.Core.Option.{Option}
-use lib.ListN.{length, getD, length-take, length-drop}
+use lib.ListN.{getD}
 use Rattle.rules.specs.Basics.{yesNo, one}
 use Rattle.rules.specs.declared.Port.{Port}
 use Rattle.rules.specs.declared.Phase.{Phase}
@@ -15,10 +14,9 @@ use Rattle.rules.specs.Ports.{pairs, flat}
 use Rattle.rules.specs.Queries.{Field, Parent, Anchor, PhaseOf, RetiredMark, phaseNumber, fieldOf, askPlugin}
 use Rattle.rules.specs.Dependencies.{firstPort, dependencyPort}
 use Rattle.rules.specs.Lists.{Which, listing, list}
-use Rattle.rules.specs.Limits.{maxDependencies}
 use Rattle.ports.specs.declared.Found.the-variants as found
 use Rattle.ports.specs.Answers.{firstFrom}
-use Rattle.ports.specs.Found.{first-port-law, first-port-none, first-port-numbers}
+use Rattle.ports.specs.Found.{first-port-law, first-port-none}
 use Rattle.memory.specs.Layout.{depPart, places}
 use Rattle.memory.specs.View.{parentAt, anchorAt, lifeAt, pluginAt, view}
 use Rattle.memory.specs.Writes.{findAt, parentId}
@@ -76,12 +74,7 @@ module _ (m : List ℕ) (id i : ℕ) (e : findAt m id ≡ At i) where
     pub port-nothing : firstFrom 0 k (pairs l) ≡ found.None → Accepted [] ≡ answerOf (dependencyPort (view m) id k)
     port-nothing f = sym (ap Accepted (first-port-none k (pairs l) f)) ∙ port-told
 
-    -- both numbers of the port stand in the list, which has no more than 48 ports
-    pub port-within : (n : ℕ) → firstFrom 0 k (pairs l) ≡ found.At n → (n * 2 + 1 < length l) × (length l ≤ maxDependencies * 2)
-    port-within n f =
-        (first-port-numbers k l n (first-port-law k (pairs l) n f) .0, rw h (simp (length-take, length-drop) (omega arith)))
-
-    pub port-answer : (n : ℕ) (q : Port) → firstFrom 0 k (pairs l) ≡ found.At n → q ≡ port (getD l (n * 2) 0) (getD l (n * 2 + 1) 0)
+    pub port-answer : (n : ℕ) (q : Port) → firstFrom 0 k (pairs l) ≡ found.At n → q ≡ getD (pairs l) n (port 0 0)
         → Accepted (flat (q ∷ [])) ≡ answerOf (dependencyPort (view m) id k)
     port-answer n q f g =
-        ap (λ (x : Port). Accepted (flat (x ∷ []))) g ∙ sym (ap Accepted (first-port-numbers k l n (first-port-law k (pairs l) n f) .2)) ∙ port-told
+        ap (λ (x : Port). Accepted (flat (x ∷ []))) g ∙ sym (ap Accepted (first-port-law k (pairs l) n f .answer)) ∙ port-told

@@ -1,13 +1,9 @@
 // R's getters as questions by id, the lookup of a dependency key, and document 01's "Lists", over the registry's memory. Nothing is changed.
 ghost use mathlib.Core.Path.{_≡_};
-ghost use Prim.Native.Nat.{_+_, _*_, _<_, _≤_};
-ghost use lib.ListN.{length, getD};
 ghost use Rattle.rules.specs.Dependencies.{dependencyPort};
-ghost use Rattle.rules.specs.Holds.{port};
 ghost use Rattle.rules.specs.Lists.{list, Dependencies, Provisions, RealmRows};
 ghost use Rattle.rules.specs.Outcomes.{answerOf, lentAfter, Meets};
 ghost use Rattle.rules.specs.Queries.{askPlugin, Parent, Anchor, PhaseOf, RetiredMark, Generation, Revision, Payload, RootOf};
-ghost use Rattle.rules.specs.Limits.{maxDependencies};
 ghost use Rattle.rules.specs.Answers.{numberAnswer};
 ghost use Rattle.memory.specs.View.{view};
 ghost use Rattle.registry_queries.specs.Answers.{perhapsAnswer, portAnswer, rootAnswer};
@@ -24,13 +20,13 @@ pub enum Perhaps {
     Refused(u64),
 }
 
-pub enum APort {
+pub enum PortAnswer {
     Is(Port),
     None,
     Refused(u64),
 }
 
-pub enum ARoot {
+pub enum RootAnswer {
     Is(Root),
     Refused(u64),
 }
@@ -48,13 +44,13 @@ pub fn parent(m: &[u64; WORDS], id: u64) -> Perhaps
     }
 }
 
-pub fn anchor(m: &[u64; WORDS], id: u64) -> APort
+pub fn anchor(m: &[u64; WORDS], id: u64) -> PortAnswer
     ensures { λ r. ⌜ portAnswer r ≡ answerOf (askPlugin (view (now (m .entry))) Anchor id) ⌝ }
 {
     let Place::At(at) = memory::find(m, id) else {
-        return APort::Refused(refusal::UNKNOWN);
+        return PortAnswer::Refused(refusal::UNKNOWN);
     };
-    APort::Is(memory_lists::anchor(m, at))
+    PortAnswer::Is(memory_lists::anchor(m, at))
 }
 
 // 0 Idle, 1 Loading, 2 Active, 3 Unloading.
@@ -66,12 +62,7 @@ pub fn phase(m: &[u64; WORDS], id: u64) -> Number
     };
     let life = memory_life::load(m, at);
     let phase = life.phase;
-    match phase {
-        rules::Phase::Idle => Number::Is(0),
-        rules::Phase::Loading => Number::Is(1),
-        rules::Phase::Active => Number::Is(2),
-        rules::Phase::Unloading => Number::Is(3),
-    }
+    Number::Is(phase.number())
 }
 
 // 1 where the plugin is retired, else 0.
@@ -119,37 +110,29 @@ pub fn payload(m: &[u64; WORDS], id: u64) -> Number
     Number::Is(life.payload)
 }
 
-pub fn root(m: &[u64; WORDS], id: u64) -> ARoot
+pub fn root(m: &[u64; WORDS], id: u64) -> RootAnswer
     ensures { λ r. ⌜ rootAnswer r ≡ answerOf (askPlugin (view (now (m .entry))) RootOf id) ⌝ }
 {
     let Place::At(at) = memory::find(m, id) else {
-        return ARoot::Refused(refusal::UNKNOWN);
+        return RootAnswer::Refused(refusal::UNKNOWN);
     };
     let life = memory_life::load(m, at);
     let root = life.root;
-    ARoot::Is(root)
-}
-
-// The port of a row of a dependency list.
-fn port_of(ports: &[u64], row: usize) -> Port
-    requires { ⌜ (row * 2 + 1 < length (now ports)) × (length (now ports) ≤ maxDependencies * 2) ⌝ }
-    ensures { λ r. ⌜ r ≡ port (getD (now (ports .entry)) (row * 2) 0) (getD (now (ports .entry)) (row * 2 + 1) 0) ⌝ }
-{
-    Port::new(ports[row * 2], ports[row * 2 + 1])
+    RootAnswer::Is(root)
 }
 
 // The first port of the dependency list with the key.
-pub fn dependency_port(m: &[u64; WORDS], id: u64, key: u64) -> APort
+pub fn dependency_port(m: &[u64; WORDS], id: u64, key: u64) -> PortAnswer
     ensures { λ r. ⌜ portAnswer r ≡ answerOf (dependencyPort (view (now (m .entry))) id key) ⌝ }
 {
     let Place::At(at) = memory::find(m, id) else {
-        return APort::Refused(refusal::UNKNOWN);
+        return PortAnswer::Refused(refusal::UNKNOWN);
     };
-    let ports = memory_lists::dependency_words(m, at);
-    let ports::Found::At(i) = ports::first_port(ports, key) else {
-        return APort::None;
+    let list = memory_lists::dependency_words(m, at);
+    let ports::Found::At(i) = ports::first_port(list, key) else {
+        return PortAnswer::None;
     };
-    APort::Is(port_of(ports, i))
+    PortAnswer::Is(ports::port_at(list, i))
 }
 
 // Dependencies, provisions and realm rows, listed into a lent buffer from a place.
@@ -160,7 +143,7 @@ pub fn list_dependencies(m: &[u64; WORDS], id: u64, place: usize, buffer: &mut [
     let Place::At(at) = memory::find(m, id) else {
         return Number::Refused(refusal::UNKNOWN);
     };
-    ports_listed::list_ports(memory_lists::dependency_words(m, at), buffer, place)
+    ports_listed::list_ports(place, memory_lists::dependency_words(m, at), buffer)
 }
 
 pub fn list_provisions(m: &[u64; WORDS], id: u64, place: usize, buffer: &mut [u64]) -> Number
@@ -170,7 +153,7 @@ pub fn list_provisions(m: &[u64; WORDS], id: u64, place: usize, buffer: &mut [u6
     let Place::At(at) = memory::find(m, id) else {
         return Number::Refused(refusal::UNKNOWN);
     };
-    ports_listed::list_ports(memory_lists::provision_words(m, at), buffer, place)
+    ports_listed::list_ports(place, memory_lists::provision_words(m, at), buffer)
 }
 
 pub fn list_realms(m: &[u64; WORDS], id: u64, place: usize, buffer: &mut [u64]) -> Number
@@ -180,5 +163,5 @@ pub fn list_realms(m: &[u64; WORDS], id: u64, place: usize, buffer: &mut [u64]) 
     let Place::At(at) = memory::find(m, id) else {
         return Number::Refused(refusal::UNKNOWN);
     };
-    ports_listed::list_ports(memory_lists::realm_words(m, at), buffer, place)
+    ports_listed::list_ports(place, memory_lists::realm_words(m, at), buffer)
 }

@@ -103,9 +103,9 @@ fn settle(
     parent: Parent,
     payload: u64,
     count: usize,
+    realms: &[u64],
     dependencies: &[u64],
     claims: &[u64],
-    realms: &[u64],
 ) -> Number
     ensures { λ r. ⌜ Settles (now (m .entry)) (parentId parent) payload count
         (now (dependencies .entry)) (now (claims .entry)) (now (realms .entry)) (numberAnswer r) (now (m .exit)) ⌝ }
@@ -127,7 +127,7 @@ fn settle(
         behind_anchor(claimed),
         realms.len() / 2,
     );
-    memory_entry::fill_place(m, at, e, dependencies, claims, realms);
+    memory_entry::fill_place(m, at, e, realms, dependencies, claims);
     Number::Is(e.id)
 }
 
@@ -136,10 +136,10 @@ pub fn register(
     m: &mut [u64; WORDS],
     parent: Parent,
     anchor: Port,
+    payload: u64,
     realms: &[u64],
     dependencies: &[u64],
     provisions: &[u64],
-    payload: u64,
 ) -> Number
     ensures { λ r. ⌜ Meets addedTo (register (view (now (m .entry)))
         (definition parent anchor (now (realms .entry)) (now (dependencies .entry)) (now (provisions .entry)) payload))
@@ -149,17 +149,17 @@ pub fn register(
         Early::Passed(place) => place,
         Early::Refused(n) => return Number::Refused(n),
     };
-    let claimed = ports_resolved::claims(realms, Port::DEFAULT_REALM, anchor, provisions);
+    let claimed = ports_resolved::claims(Port::DEFAULT_REALM, anchor, realms, provisions);
     let claims = first_rows(&claimed.ports, claimed.count);
     if let Done::Refused(n) = registry_checks::claim_verdict(m, claims) {
         return Number::Refused(n);
     }
     let provided = memory_lists::some_words(claims, 2, claims.len());
     let list = ports_inherited::dependency_list(
-        realms,
         Port::DEFAULT_REALM,
-        provided,
+        realms,
         dependencies,
+        provided,
         inherited(m, above),
     );
     settle(
@@ -167,8 +167,8 @@ pub fn register(
         parent,
         payload,
         list.count,
+        realms,
         first_rows(&list.ports, list.count),
         claims,
-        realms,
     )
 }

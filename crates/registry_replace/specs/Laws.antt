@@ -20,8 +20,8 @@ use Rattle.memory.specs.declared.Place.the-variants.{At, None}
 use Rattle.memory.specs.Layout.{places}
 use Rattle.memory_life.specs.Told.{life-found}
 use Rattle.registry_replace.specs.Answers.{replacedAnswer}
-use Rattle.registry_replace.specs.Recipes.{changeOf, was-last, not-last, recipeOf, fitsBehind, fits-sum}
 use Rattle.registry_replace.specs.Words.{replacing, replacedIn, replaced-at}
+use Rattle.registry_replace.specs.Records.{changeOf, was-last, not-last, recordOf, fitsBehind, fits-sum}
 use Rattle.registry_replace.specs.declared.Change.{Change}
 use Rattle.registry_replace.specs.declared.Replaced.the-variants as replaced
 use Rattle.rules.specs.declared.Whether.the-variants as whether
@@ -55,24 +55,24 @@ module _ (m : List ℕ) (id v : ℕ) where
     unfolding handingBack checked pluginAt
     replace-stores f = replace-found ∙ rw f
 
-    -- its life loaded, and its recipe lent
-    module _ (life : Life) (c : Change) (l : life ≡ lifeAt m (i % places)) (s : c ≡ changeOf (recipeOf life) v) where
+    -- its life loaded, and its record lent
+    module _ (life : Life) (c : Change) (l : life ≡ lifeAt m (i % places)) (s : c ≡ changeOf (recordOf life) v) where
       loaded : life ≡ lifeAt m i
       loaded = life-found m id i e life l
 
       pub told-back : (n w : ℕ) → c .answer ≡ replaced.Refused n w → Meets replacedIn (replace (view m) id v) m (replacedAnswer (c .answer)) m
       told-back n w a =
-          let t : eqb (life .revision) last ≡ true = was-last (recipeOf life) v n w (rw s at a) in
+          let t : eqb (life .revision) last ≡ true = was-last (recordOf life) v n w (rw s at a) in
           rw (s, t) (meets-refused replacing (replace (view m) id v) m Exhausted (v ∷ []) (replace-last (rw loaded at t)))
 
-      pub told-replaced : (f : ℕ) (m′ : List ℕ) → c .answer ≡ replaced.Former f → m′ ≡ renewedAt m (i % places) (c .recipe .revision) (c .recipe .payload)
+      pub told-replaced : (f : ℕ) (m′ : List ℕ) → c .answer ≡ replaced.Former f → m′ ≡ renewedAt m (i % places) (c .next .revision) (c .next .payload)
           → Meets replacedIn (replace (view m) id v) m (replacedAnswer (c .answer)) m′
       told-replaced f m′ a p =
-          let t : eqb (lifeAt m i .revision) last ≡ false = rw loaded at (not-last (recipeOf life) v f (rw s at a)) in
-          let k : c ≡ record { recipe = record { revision = lifeAt m i .revision + 1; payload = v }; answer = replaced.Former (lifeAt m i .payload) } = s ∙ rw (loaded, t) in
+          let t : eqb (lifeAt m i .revision) last ≡ false = rw loaded at (not-last (recordOf life) v f (rw s at a)) in
+          let k : c ≡ record { next = record { revision = lifeAt m i .revision + 1; payload = v }; answer = replaced.Former (lifeAt m i .payload) } = s ∙ rw (loaded, t) in
           rw (replace-stores t) (
             ap (λ (x : Change). replacedAnswer (x .answer)) k,
-            p ∙ (λ x. renewedAt m (at-place m id i e x) (k x .recipe .revision) (k x .recipe .payload))
+            p ∙ (λ x. renewedAt m (at-place m id i e x) (k x .next .revision) (k x .next .payload))
                 ∙ sym (replaced-at m id i e (replacedLife (lifeAt m i) v) (lifeAt m i .payload ∷ [])),
           )
 

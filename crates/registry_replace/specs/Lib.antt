@@ -1,5 +1,5 @@
 pub mod Answers
-pub mod Recipes
+pub mod Records
 pub mod Words
 pub mod Laws
 pub mod Refines

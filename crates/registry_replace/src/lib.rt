@@ -5,7 +5,7 @@ ghost use Rattle.rules.specs.Replacement.{replace, fits};
 ghost use Rattle.rules.specs.Answers.{whetherAnswer};
 ghost use Rattle.memory.specs.View.{view};
 ghost use Rattle.registry_replace.specs.Answers.{replacedAnswer};
-ghost use Rattle.registry_replace.specs.Recipes.{changeOf, fitsBehind};
+ghost use Rattle.registry_replace.specs.Records.{changeOf, fitsBehind};
 ghost use Rattle.registry_replace.specs.Words.{replacedIn};
 use memory::Place;
 use memory::WORDS;
@@ -13,7 +13,7 @@ use rules::Whether;
 use rules::refusal;
 
 // What a replacement changes of a plugin.
-pub struct Recipe {
+pub struct PayloadRecord {
     pub revision: u64,
     pub payload: u64,
 }
@@ -24,25 +24,25 @@ pub enum Replaced {
     Refused(u64, u64),
 }
 
-// A recipe afterwards, and the answer.
+// The record afterwards, and the answer.
 pub struct Change {
-    pub recipe: Recipe,
+    pub next: PayloadRecord,
     pub answer: Replaced,
 }
 
 // 16 at the last revision; else the new payload, an equal one too, and revision + 1.
-pub fn changed(r: Recipe, payload: u64) -> Change
+pub fn changed(r: PayloadRecord, payload: u64) -> Change
     ensures { λ c. ⌜ c ≡ changeOf r payload ⌝ }
 {
     if r.revision == u64::MAX {
         return Change {
-            recipe: r,
+            next: r,
             answer: Replaced::Refused(refusal::EXHAUSTED, payload),
         };
     }
     let next = r.revision + 1;
     Change {
-        recipe: Recipe {
+        next: PayloadRecord {
             revision: next,
             payload: payload,
         },
@@ -51,22 +51,22 @@ pub fn changed(r: Recipe, payload: u64) -> Change
 }
 
 // The record is changed where it lies.
-pub fn replace_lent(r: &mut Recipe, payload: u64) -> Replaced
-    ensures { λ a. ⌜ (now (r .exit) ≡ changeOf (now (r .entry)) payload .recipe) × (a ≡ changeOf (now (r .entry)) payload .answer) ⌝ }
+pub fn replace_lent(r: &mut PayloadRecord, payload: u64) -> Replaced
+    ensures { λ a. ⌜ (now (r .exit) ≡ changeOf (now (r .entry)) payload .next) × (a ≡ changeOf (now (r .entry)) payload .answer) ⌝ }
 {
     let c = changed(*r, payload);
-    *r = c.recipe;
+    *r = c.next;
     c.answer
 }
 
-// A recipe is lent, and comes back with the answer.
-fn by_lending(r: Recipe, payload: u64) -> Change
+// A record is lent, and comes back with the answer.
+fn by_lending(r: PayloadRecord, payload: u64) -> Change
     ensures { λ c. ⌜ c ≡ changeOf r payload ⌝ }
 {
     let mut kept = r;
     let answer = replace_lent(&mut kept, payload);
     Change {
-        recipe: kept,
+        next: kept,
         answer: answer,
     }
 }
@@ -79,16 +79,16 @@ pub fn replace(m: &mut [u64; WORDS], id: u64, payload: u64) -> Replaced
         return Replaced::Refused(refusal::UNKNOWN, payload);
     };
     let life = memory_life::load(m, at);
-    let recipe = Recipe {
+    let held = PayloadRecord {
         revision: life.revision,
         payload: life.payload,
     };
-    let change = by_lending(recipe, payload);
+    let change = by_lending(held, payload);
     let answer = change.answer;
     let Replaced::Former(_) = answer else {
         return answer;
     };
-    let next = change.recipe;
+    let next = change.next;
     memory_life::renew(m, at, next.revision, next.payload);
     answer
 }

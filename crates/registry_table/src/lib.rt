@@ -46,12 +46,7 @@ const NEXT: [[u64; 5]; 4] = [
 fn row(phase: Phase) -> usize
     ensures { λ r. ⌜ r ≡ phaseNumber phase ⌝ ∗ ⌜ r < 4 ⌝ }
 {
-    match phase {
-        Phase::Idle => 0,
-        Phase::Loading => 1,
-        Phase::Active => 2,
-        Phase::Unloading => 3,
-    }
+    phase.number() as usize
 }
 
 fn column(step: Step) -> usize

@@ -1,12 +1,11 @@
 -- What the questions on values answer, by what the code found.
-use Prim.Native.Nat.{ℕ, _+_, _*_, _/_, _%_, _<_, _≤_}
-use native.Mathlib.Omega.{arith}
+use Prim.Native.Nat.{ℕ, _%_}
 use native.Mathlib.Nat.{mod-eq-of-lt}
 use mathlib.Core.Path.{_≡_, refl, sym, ap, _∙_}
 use mathlib.Core.Bool.{Bool, true, false, not, _&&_, _||_}
 use mathlib.Core.List.{List, [], _∷_}
 use mathlib.Core.Option.{Option}
-use lib.ListN.{length, getD}
+use lib.ListN.{getD}
 use Rattle.rules.specs.Basics.{yesNo, one}
 use Rattle.rules.specs.Holds.{port, Provision, Plugin, provider, provided, isIn, isLoading, isActive, running}
 use Rattle.rules.specs.declared.Port.{Port}
@@ -14,7 +13,6 @@ use Rattle.rules.specs.Refusals.{Refusal, number, Unknown, Closed, Undeclared, 
 use Rattle.rules.specs.Outcomes.{Answer, Refused, Accepted, Outcome, refuses, answers, checked, known, answerOf}
 use Rattle.rules.specs.Ports.{pairs, flat, oddLength, samePorts}
 use Rattle.rules.specs.Values.{valueIn, served, seen, firstMissing, read, visible, own, missing, matching, declares}
-use Rattle.rules.specs.Limits.{maxProvisionKeys}
 use Rattle.memory.specs.Layout.{idAt, depPart, provPart, places}
 use Rattle.memory.specs.View.{lifeAt, valued, pluginAt, view}
 use Rattle.memory.specs.Writes.{findAt}
@@ -25,14 +23,13 @@ use Rattle.memory.specs.declared.Place.{Place}
 use Rattle.memory.specs.declared.Place.the-variants.{At, None}
 use Rattle.memory_lists.specs.Listed.{provided-at}
 use Rattle.memory_providers.specs.Providers.{providerAt, provider-view, provider-below}
-use Rattle.ports.specs.Places.{length-pairs, pairs-get}
 use Rattle.ports.specs.declared.Found.{Found}
 use Rattle.ports.specs.declared.Found.the-variants as found
 use Rattle.rules.specs.declared.Optional.{Optional}
 use Rattle.rules.specs.declared.Optional.the-variants as optional
 use Rattle.rules.specs.Answers.{optionOf}
 use Rattle.memory_values.specs.Values.{lackFrom}
-use Rattle.memory_values.specs.Firsts.{provisions-at, few-words, lack-nothing, lack-within, lack-answer}
+use Rattle.memory_values.specs.Firsts.{provisions-at, lack-nothing, lack-answer}
 use Rattle.registry_values.specs.Rules.{servedAnswer, givenBy, asks, reads, owns, lacks, fits, declared, tells}
 
 -- no and yes
@@ -169,17 +166,10 @@ module _ (m : List ℕ) (id i : ℕ) (e : findAt m id ≡ At i) where
       lacking : lackFrom 0 (valued m (i % places) 0 (pairs (provPart m (i % places)))) ≡ found.At j
       lacking = sym (ap (lackFrom 0) (provisions-at m (i % places))) ∙ sym h ∙ n
 
-      within : j < length (provPart m (i % places)) / 2
-      within = omega (arith, lack-within m (i % places) (pairs (provPart m (i % places))) j lacking, length-pairs (provPart m (i % places)))
-
-      -- both numbers of the port stand in the list
-      pub missing-within : (j * 2 + 1 < length ws) × (length ws ≤ maxProvisionKeys * 2)
-      missing-within = rw w (omega (arith, within), few-words m (i % places))
-
-      pub missing-port : (q : Port) → q ≡ port (getD ws (j * 2) 0) (getD ws (j * 2 + 1) 0) → Accepted (flat (q ∷ [])) ≡ answerOf (missing (view m) id)
+      pub missing-port : (q : Port) → q ≡ getD (pairs ws) j (port 0 0) → Accepted (flat (q ∷ [])) ≡ answerOf (missing (view m) id)
       missing-port q g =
           let k = i % places in
-          let s : q ≡ getD (pairs (provPart m k)) j (port 0 0) = g ∙ ap (λ (l : List ℕ). port (getD l (j * 2) 0) (getD l (j * 2 + 1) 0)) w ∙ sym (pairs-get (provPart m k) j within) in
+          let s : q ≡ getD (pairs (provPart m k)) j (port 0 0) = g ∙ ap (λ (l : List ℕ). getD (pairs l) j (port 0 0)) w in
           ap (λ (p : Port). Accepted (flat (p ∷ []))) s
           ∙ sym (missing-is ∙ ap (λ (vs : List Provision). Accepted (firstMissing vs)) (provisions-at m k) ∙ ap Accepted (lack-answer m k (pairs (provPart m k)) j lacking))
 

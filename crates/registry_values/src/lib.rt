@@ -1,13 +1,11 @@
 // Document 01, "Values": the questions, over the registry's memory. A read looks at the live provider; nothing is kept of it.
 ghost use mathlib.Core.Path.{_≡_};
 ghost use mathlib.Core.List.{[], _∷_};
-ghost use Prim.Native.Nat.{_+_, _*_, _%_, _<_, _≤_};
-ghost use lib.ListN.{length, getD};
+ghost use Prim.Native.Nat.{_%_};
 ghost use Rattle.rules.specs.Basics.{yesNo};
 ghost use Rattle.rules.specs.Holds.{port};
 ghost use Rattle.rules.specs.Outcomes.{Accepted, answerOf};
 ghost use Rattle.rules.specs.Values.{read, visible, own, missing, matching, declares};
-ghost use Rattle.rules.specs.Limits.{maxProvisionKeys};
 ghost use Rattle.rules.specs.Answers.{whetherAnswer, optionAnswer};
 ghost use Rattle.memory.specs.View.{pluginAt, view};
 ghost use Rattle.memory.specs.Layout.{places};
@@ -17,8 +15,8 @@ ghost use Rattle.registry_values.specs.Rules.{givenBy, declared};
 use memory::Place;
 use memory::WORDS;
 use ports::Found;
-use registry_queries::APort;
 use registry_queries::Perhaps;
+use registry_queries::PortAnswer;
 use rules::Optional;
 use rules::Port;
 use rules::Whether;
@@ -87,25 +85,17 @@ pub fn own(m: &[u64; WORDS], id: u64, key: u64, realm: u64) -> Perhaps
     }
 }
 
-// The port of a row of a provision list.
-fn port_at(ports: &[u64], row: usize) -> Port
-    requires { ⌜ (row * 2 + 1 < length (now ports)) × (length (now ports) ≤ maxProvisionKeys * 2) ⌝ }
-    ensures { λ r. ⌜ r ≡ port (getD (now (ports .entry)) (row * 2) 0) (getD (now (ports .entry)) (row * 2 + 1) 0) ⌝ }
-{
-    Port::new(ports[row * 2], ports[row * 2 + 1])
-}
-
 // The first provision in order without a value, or nothing.
-pub fn missing(m: &[u64; WORDS], id: u64) -> APort
+pub fn missing(m: &[u64; WORDS], id: u64) -> PortAnswer
     ensures { λ r. ⌜ portAnswer r ≡ answerOf (missing (view (now (m .entry))) id) ⌝ }
 {
     let Place::At(at) = memory::find(m, id) else {
-        return APort::Refused(refusal::UNKNOWN);
+        return PortAnswer::Refused(refusal::UNKNOWN);
     };
     let Found::At(j) = memory_values::first_lacking(m, at) else {
-        return APort::None;
+        return PortAnswer::None;
     };
-    APort::Is(port_at(memory_lists::provision_words(m, at), j))
+    PortAnswer::Is(ports::port_at(memory_lists::provision_words(m, at), j))
 }
 
 fn told(yes: bool) -> Whether

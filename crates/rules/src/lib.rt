@@ -1,6 +1,7 @@
 // The types of document 01 that the rules and the code share.
 ghost use mathlib.Core.Path.{_≡_};
 ghost use Rattle.rules.specs.Holds.{port, defaultRealm};
+ghost use Rattle.rules.specs.Queries.{phaseNumber};
 ghost use Rattle.rules.specs.Generations.{generationOf, nextGeneration};
 
 pub mod limits;
@@ -84,6 +85,19 @@ pub enum Phase {
     Loading,
     Active,
     Unloading,
+}
+
+impl Phase {
+    pub fn number(self) -> u64
+        ensures { λ r. ⌜ r ≡ phaseNumber self ⌝ }
+    {
+        match self {
+            Phase::Idle => 0,
+            Phase::Loading => 1,
+            Phase::Active => 2,
+            Phase::Unloading => 3,
+        }
+    }
 }
 
 // Queued holds the revision and the argument.

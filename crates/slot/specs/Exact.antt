@@ -14,9 +14,9 @@ use Rattle.slot.specs.declared.Decided.{Decided}
 use Rattle.slot.specs.Slots.{decisionOf, slotOf, decidedOf}
 
 -- The way back from document 01's values.
-abbrev episode : Option ℕ → Optional
-episode (some g) = Is g
-episode none = None
+abbrev optional : Option ℕ → Optional
+optional (some g) = Is g
+optional none = None
 
 abbrev decision : rules.Decision → Decision
 decision rules.Pending = Pending
@@ -25,11 +25,11 @@ decision rules.Failed = Failed
 decision rules.Cancelled = Cancelled
 
 abbrev slot : rules.Slot → Slot
-slot s = record { domain = s .domain; parent = s .parent; generation = episode (s .generation); decision = decision (s .decision) }
+slot s = record { domain = s .domain; parent = s .parent; generation = optional (s .generation); decision = decision (s .decision) }
 
-episode-back : (e : Optional) → episode (optionOf e) ≡ e
-episode-back (Is g) = refl
-episode-back None = refl
+optional-back : (e : Optional) → optional (optionOf e) ≡ e
+optional-back (Is g) = refl
+optional-back None = refl
 
 decision-back : (d : Decision) → decision (decisionOf d) ≡ d
 decision-back Pending = refl
@@ -38,7 +38,7 @@ decision-back Failed = refl
 decision-back Cancelled = refl
 
 slot-back : (s : Slot) → slot (slotOf s) ≡ s
-slot-back s = rw (episode-back, decision-back)
+slot-back s = rw (optional-back, decision-back)
 
 pub slot-exact : (a b : Slot) → slotOf a ≡ slotOf b → a ≡ b
 slot-exact a b e = sym (slot-back a) ∙ ap slot e ∙ slot-back b

@@ -12,11 +12,11 @@ use Rattle.rules.specs.Answers.{doneAnswer}
 use Rattle.slot.specs.declared.Decided.{Decided}
 use Rattle.slot.specs.Slots.{slotOf, decidedOf}
 use Rattle.memory.specs.Writes.{puts}
-use Rattle.slot_words.specs.Words.{episodeIn, decisionIn, hasWord, generationWord, decisionWord, childIn, putSlot, slotAfter, Decides}
+use Rattle.slot_words.specs.Words.{generationIn, decisionIn, hasWord, generationWord, decisionWord, childIn, putSlot, slotAfter, Decides}
 
-pub episode-rest : (n g : ℕ) → (n ≡ 0 → ⊥) → Is g ≡ episodeIn n g
-episode-rest zero g h = absurd (h refl)
-episode-rest (suc n) g h = refl
+pub generation-rest : (n g : ℕ) → (n ≡ 0 → ⊥) → Is g ≡ generationIn n g
+generation-rest zero g h = absurd (h refl)
+generation-rest (suc n) g h = refl
 
 pub decision-rest : (n : ℕ) (c : Identity) → (n ≡ 0 → ⊥) → (n ≡ 1 → ⊥) → (n ≡ 2 → ⊥) → Cancelled ≡ decisionIn n c
 decision-rest zero c f g h = absurd (f refl)

@@ -24,9 +24,9 @@ use Rattle.memory.specs.Layout.{word}
 use Rattle.memory.specs.Writes.{puts}
 use Rattle.memory.specs.Frames.{puts-same}
 
-abbrev pub episodeIn : ℕ → ℕ → Optional
-episodeIn zero g = None
-episodeIn (suc n) g = Is g
+abbrev pub generationIn : ℕ → ℕ → Optional
+generationIn zero g = None
+generationIn (suc n) g = Is g
 
 abbrev pub decisionIn : ℕ → Identity → Decision
 decisionIn zero c = Pending
@@ -39,7 +39,7 @@ unfoldable pub slotAt : List ℕ → Slot
 slotAt m = record {
   domain = word m 0;
   parent = word m 1;
-  generation = episodeIn (word m 2) (word m 3);
+  generation = generationIn (word m 2) (word m 3);
   decision = decisionIn (word m 4) (record { domain = word m 5; parent = word m 6; id = word m 7 });
 }
 
@@ -90,9 +90,9 @@ pub decides : (d e : rules.Decided) (m : List ℕ) (a : Answer) (m′ : List ℕ
 decides d e m a m′ p w = (w .0 ∙ ap (λ (x : rules.Decided). x .answer) p, w .1 ∙ ap (slotAfter m) p)
 
 -- The codes.
-episode-code : (g : Option ℕ) → optionOf (episodeIn (hasWord g) (generationWord g)) ≡ g
-episode-code none = refl
-episode-code (some g) = refl
+generation-code : (g : Option ℕ) → optionOf (generationIn (hasWord g) (generationWord g)) ≡ g
+generation-code none = refl
+generation-code (some g) = refl
 
 abbrev childWords : retirement.Identity → Identity
 childWords c = record { domain = c .domain; parent = c .parent; id = c .id }
@@ -109,7 +109,7 @@ module _ (m : List ℕ) (l : length m ≡ 8) where
   unfolding slotAt putSlot
   stored-slot s =
       let one : (n : ℕ) → n < 8 → word (puts m 0 0 (slotWords s)) (0 + (0 + n)) ≡ getD (slotWords s) n 0 = λ n h. puts-same (slotWords s) m 0 0 n h (omega arith) in
-      rw (one 0 (lit< tt), one 1 (lit< tt), one 2 (lit< tt), one 3 (lit< tt), one 4 (lit< tt), one 5 (lit< tt), one 6 (lit< tt), one 7 (lit< tt), episode-code (s .generation), decision-code (s .decision))
+      rw (one 0 (lit< tt), one 1 (lit< tt), one 2 (lit< tt), one 3 (lit< tt), one 4 (lit< tt), one 5 (lit< tt), one 6 (lit< tt), one 7 (lit< tt), generation-code (s .generation), decision-code (s .decision))
 
   -- The words after an operation hold the slot that comes back, be it decided or as it was.
   decided-held : (agrees : Bool) (v : rules.Decision) →

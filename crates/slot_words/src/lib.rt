@@ -3,7 +3,7 @@ ghost use mathlib.Core.Path.{_≡_};
 ghost use Rattle.rules.specs.Slot as rules;
 ghost use Rattle.rules.specs.Answers.{doneAnswer, optionOf};
 ghost use Rattle.slot.specs.Slots.{identityOf, decisionOf, slotOf, decidedOf};
-ghost use Rattle.slot_words.specs.Words.{episodeIn, decisionIn, slotAt, hasWord, generationWord, decisionWord, childIn, putSlot, Decides};
+ghost use Rattle.slot_words.specs.Words.{generationIn, decisionIn, slotAt, hasWord, generationWord, decisionWord, childIn, putSlot, Decides};
 use rules::Done;
 use rules::Optional;
 use slot::Decided;
@@ -14,8 +14,8 @@ use slot::Slot;
 // Domain, parent, whether there is a generation, generation, decision, and the assigned identity's three.
 pub const SLOT: usize = 8;
 
-fn episode_of(has: u64, generation: u64) -> Optional
-    ensures { λ r. ⌜ r ≡ episodeIn has generation ⌝ }
+fn generation_of(has: u64, generation: u64) -> Optional
+    ensures { λ r. ⌜ r ≡ generationIn has generation ⌝ }
 {
     match has {
         0 => Optional::None,
@@ -89,7 +89,7 @@ pub fn load(s: &[u64; SLOT]) -> Slot
         parent: s[6],
         id: s[7],
     };
-    let generation = episode_of(s[2], s[3]);
+    let generation = generation_of(s[2], s[3]);
     let decision = decision_of(s[4], child);
     Slot {
         domain: s[0],
@@ -135,20 +135,20 @@ fn decided(s: &mut [u64; SLOT], d: Decided) -> Done
 pub fn assign(s: &mut [u64; SLOT], child: Identity) -> Done
     ensures { λ r. ⌜ Decides (rules.assign (slotOf (slotAt (now (s .entry)))) (identityOf child)) (now (s .entry)) (doneAnswer r) (now (s .exit)) ⌝ }
 {
-    let slot = load(s);
-    decided(s, slot.assign(child))
+    let held = load(s);
+    decided(s, held.assign(child))
 }
 
 pub fn reject(s: &mut [u64; SLOT]) -> Done
     ensures { λ r. ⌜ Decides (rules.reject (slotOf (slotAt (now (s .entry))))) (now (s .entry)) (doneAnswer r) (now (s .exit)) ⌝ }
 {
-    let slot = load(s);
-    decided(s, slot.reject())
+    let held = load(s);
+    decided(s, held.reject())
 }
 
 pub fn cancel(s: &mut [u64; SLOT]) -> Done
     ensures { λ r. ⌜ Decides (rules.cancel (slotOf (slotAt (now (s .entry))))) (now (s .entry)) (doneAnswer r) (now (s .exit)) ⌝ }
 {
-    let slot = load(s);
-    decided(s, slot.cancel())
+    let held = load(s);
+    decided(s, held.cancel())
 }

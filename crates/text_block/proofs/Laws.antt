@@ -6,6 +6,7 @@ use mathlib.Core.Path.{_≡_, sym, ap}
 use mathlib.Core.List.{List, [], _++_}
 use mathlib.Core.Option.{Option}
 use lib.ListN.{length, getD, drop}
+use Rattle.rules.specs.Limits.{maxProvisionKeys}
 use Rattle.rules.specs.declared.Port.{Port}
 use Rattle.rules.specs.Ports.{pairs}
 use Rattle.text_form.specs.Bytes.{bytes}
@@ -42,11 +43,11 @@ module _ (m : List ℕ) (i : ℕ) where
   -- The j-th of the words' provisions, and no more of them.
   pub one-provision
       : (j : ℕ) {w : List ℕ} → w ≡ provPart m i → j < length w / 2
-      → provisionLine (getD w (j * 2) 0) (getD w (j * 2 + 1) 0) (valueAt m i (j % 15)) ++ provsFrom m i (j + 1) w ≡ provsFrom m i j w
+      → provisionLine (getD w (j * 2) 0) (getD w (j * 2 + 1) 0) (valueAt m i (j % maxProvisionKeys)) ++ provsFrom m i (j + 1) w ≡ provsFrom m i j w
   unfolding provisionLines
   one-provision j {w} e h =
       let next : j * 2 + 2 ≡ (j + 1) * 2 = omega arith in
-      let small : j % 15 ≡ j = mod-eq-of-lt (omega (arith, ap length e, few-words m i)) in
+      let small : j % maxProvisionKeys ≡ j = mod-eq-of-lt (omega (arith, ap length e, few-words m i)) in
       sym (rw (pairs-at w (j * 2) (omega arith), next, small))
 
   pub no-provision : (j : ℕ) (w : List ℕ) → length w / 2 ≤ j → [] ≡ provsFrom m i j w

@@ -2,6 +2,8 @@
 // modulo 32. Bytes past the text's end go nowhere and count all the same.
 ghost use mathlib.Core.Path.{_≡_};
 ghost use Prim.Native.Nat.{_%_};
+ghost use Rattle.memory.specs.Layout.{places};
+ghost use Rattle.rules.specs.Limits.{maxProvisionKeys};
 ghost use Rattle.rules.specs.Answers.{optionOf};
 ghost use Rattle.rules.specs.Ports.{pairs};
 ghost use Rattle.memory.specs.View.{valueAt, pluginAt};
@@ -15,7 +17,7 @@ use rules::Optional;
 use rules::Phase;
 
 fn parent(m: &[u64; WORDS], place: usize) -> Optional
-    ensures { λ r. ⌜ optionOf r ≡ pluginAt (now (m .entry)) (place % 32) .parent ⌝ }
+    ensures { λ r. ⌜ optionOf r ≡ pluginAt (now (m .entry)) (place % places) .parent ⌝ }
 {
     let parent = memory::parent_of(m, place);
     match parent {
@@ -26,7 +28,7 @@ fn parent(m: &[u64; WORDS], place: usize) -> Optional
 
 // id and parent
 fn name_lines(m: &[u64; WORDS], place: usize, text: &mut [u8], at: usize) -> usize
-    ensures { λ r. ⌜ Laid (nameLines (pluginAt (now (m .entry)) (place % 32))) at (now (text .entry)) (now (text .exit)) r ⌝ }
+    ensures { λ r. ⌜ Laid (nameLines (pluginAt (now (m .entry)) (place % places))) at (now (text .entry)) (now (text .exit)) r ⌝ }
 {
     let behind = text_lines::number_line(text, at, b"id=", memory::id(m, place));
     text_lines::optional_line(text, behind, b"parent=", parent(m, place))
@@ -79,7 +81,7 @@ fn ports_lines(text: &mut [u8], at: usize, plural: &[u8], name: &[u8], ports: &[
 
 // anchor, realms, deps
 fn list_lines(m: &[u64; WORDS], place: usize, text: &mut [u8], at: usize) -> usize
-    ensures { λ r. ⌜ Laid (listLines (pluginAt (now (m .entry)) (place % 32))) at (now (text .entry)) (now (text .exit)) r ⌝ }
+    ensures { λ r. ⌜ Laid (listLines (pluginAt (now (m .entry)) (place % places))) at (now (text .entry)) (now (text .exit)) r ⌝ }
 {
     let anchor = memory_lists::anchor(m, place);
     let realms = text_lines::pair_line(text, at, b"anchor=", anchor.key, anchor.realm);
@@ -109,7 +111,7 @@ fn provision_line(
     key: u64,
     realm: u64,
 ) -> usize
-    ensures { λ r. ⌜ Laid (provisionLine key realm (valueAt (now (m .entry)) (place % 32) (provision % 15))) at (now (text .entry)) (now (text .exit)) r ⌝ }
+    ensures { λ r. ⌜ Laid (provisionLine key realm (valueAt (now (m .entry)) (place % places) (provision % maxProvisionKeys))) at (now (text .entry)) (now (text .exit)) r ⌝ }
 {
     text_lines::triple_line(
         text,
@@ -123,7 +125,7 @@ fn provision_line(
 
 // provs, and a line for each
 fn provision_lines(m: &[u64; WORDS], place: usize, text: &mut [u8], at: usize) -> usize
-    ensures { λ r. ⌜ Laid (provisionsLines (pluginAt (now (m .entry)) (place % 32) .provisions)) at (now (text .entry)) (now (text .exit)) r ⌝ }
+    ensures { λ r. ⌜ Laid (provisionsLines (pluginAt (now (m .entry)) (place % places) .provisions)) at (now (text .entry)) (now (text .exit)) r ⌝ }
 {
     let words = memory_lists::provision_words(m, place);
     let mut behind = text_lines::number_line(text, at, b"provs=", (words.len() / 2) as u64);
@@ -137,7 +139,7 @@ fn provision_lines(m: &[u64; WORDS], place: usize, text: &mut [u8], at: usize) -
 
 // The whole block.
 pub fn block(m: &[u64; WORDS], place: usize, text: &mut [u8], at: usize) -> usize
-    ensures { λ r. ⌜ Laid (blockOf (pluginAt (now (m .entry)) (place % 32))) at (now (text .entry)) (now (text .exit)) r ⌝ }
+    ensures { λ r. ⌜ Laid (blockOf (pluginAt (now (m .entry)) (place % places))) at (now (text .entry)) (now (text .exit)) r ⌝ }
 {
     let life = name_lines(m, place, text, at);
     let lists = life_lines(text, life, memory_life::load(m, place));

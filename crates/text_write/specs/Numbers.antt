@@ -20,7 +20,7 @@ use Rattle.text_form.specs.Lines.{line, numberOrNone}
 use Rattle.text_laws.specs.Fit.{text-fits}
 use Rattle.text_laws.specs.Rising.{restFrom, rest-past}
 use Rattle.text_laws.specs.Sizes.{Lists, any-text, text-most, rows-most, held-most}
-use Rattle.memory.specs.Layout.{word, taken, startAt, depsAt, provsAt, realmsAt, rowWord, anchorWord, part, provPart, realmPart, depPart}
+use Rattle.memory.specs.Layout.{word, taken, startAt, depsAt, provsAt, realmsAt, rowWord, anchorWord, part, provPart, realmPart, depPart, placeWords, maskWord, valuesWord, idWord, tagWord, parentWord, generationWord, revisionWord, payloadWord, rootWord, rootRevisionWord, rootArgumentWord, realmRowsWord}
 use Rattle.memory.specs.View.{parentOf, rootOf, lifeAt, decoded, valueAt, valued, pluginAt, placeAt, placesFrom, view}
 use Rattle.ports.specs.Places.{length-pairs}
 use Rattle.text_block.specs.Parts.{valued-length}
@@ -84,7 +84,7 @@ root-fits (suc (suc tag)) v a h k = tt
 module _ (m : List ℕ) (h : Small m) where
   value-fits : (i j : ℕ) → numberOrNone .Fits (valueAt m i j)
   unfolding valueAt
-  value-fits i j = option-fits (eqb (word m (i * 72 + 23) / 2 ^ j % 2) 1) (word m (i * 72 + 24 + j)) (h (i * 72 + 24 + j))
+  value-fits i j = option-fits (eqb (word m (i * placeWords + maskWord) / 2 ^ j % 2) 1) (word m (i * placeWords + valuesWord + j)) (h (i * placeWords + valuesWord + j))
 
   provisions-fit : (i j : ℕ) (l : List ℕ) → Small l → FitAll (line "prov" keyRealmValue) (valued m i j (pairs l))
   provisions-fit i j [] s = tt
@@ -108,25 +108,25 @@ module _ (m : List ℕ) (i : ℕ) where
   plugin-fits : Small m → block .Fits (pluginAt m i)
   unfolding pluginAt lifeAt decoded
   plugin-fits h = (
-    h (i * 72 + 8),
+    h (i * placeWords + idWord),
     (
-      parent-fits (word m (i * 72 + 9)) (word m (i * 72 + 10)) (h (i * 72 + 10)),
+      parent-fits (word m (i * placeWords + tagWord)) (word m (i * placeWords + parentWord)) (h (i * placeWords + parentWord)),
       (
         tt,
         (
           tt,
           (
-            h (i * 72 + 15),
+            h (i * placeWords + generationWord),
             (
-              h (i * 72 + 11),
+              h (i * placeWords + revisionWord),
               (
-                h (i * 72 + 12),
+                h (i * placeWords + payloadWord),
                 (
-                  root-fits (word m (i * 72 + 16)) (word m (i * 72 + 17)) (word m (i * 72 + 18)) (h (i * 72 + 17)) (h (i * 72 + 18)),
+                  root-fits (word m (i * placeWords + rootWord)) (word m (i * placeWords + rootRevisionWord)) (word m (i * placeWords + rootArgumentWord)) (h (i * placeWords + rootRevisionWord)) (h (i * placeWords + rootArgumentWord)),
                   (
                     (h (anchorWord m i), h (anchorWord m i + 1)),
                     (
-                      ((omega (arith, few-realms), ports-fit "realm" (realmPart m i) (small-part m (i * 72 + 39) (realmsAt m i * 2) h)), refl),
+                      ((omega (arith, few-realms), ports-fit "realm" (realmPart m i) (small-part m (i * placeWords + realmRowsWord) (realmsAt m i * 2) h)), refl),
                       (
                         (omega (arith, few-deps), ports-fit "dep" (depPart m i) (small-part m (rowWord (startAt m i)) (depsAt m i * 2) h)),
                         (omega (arith, few-provs), provisions-fit m h i 0 (provPart m i) (small-part m (anchorWord m i + 2) (provsAt m i * 2) h)),
@@ -177,7 +177,7 @@ module _ (m : List ℕ) (h : Small m) where
 
   below : (i : ℕ) → pluginAt m i .id < last + 1
   unfolding pluginAt
-  below i = omega (arith, h (i * 72 + 8))
+  below i = omega (arith, h (i * placeWords + idWord))
 
   -- No id is above the last number.
   pub last-rest : restFrom (view m) (last + 1) ≡ []

@@ -4,8 +4,8 @@ use borrow.Author.Needs.{needs}
 use Rattle.memory_life.proofs.encode.Statement.{statement}
 use Rattle.memory_life.proofs.encode.Tie as tie
 
-phase-word-requires : tie.Need-phase-word-requires
-phase-word-requires c κs = search needs
+number-requires : tie.Need-number-requires
+number-requires c κs = search needs
 
 cast-t5 : tie.Need-cast-t5
 cast-t5 c = search needs
@@ -21,13 +21,13 @@ root-argument-requires c κs = search needs
 
 returns : tie.Need-returns
 unfolding encoded
-returns c = simp (c .before .before .before .before .phase-word .ensures, c .before .before .root-tag .ensures, c .before .root-revision .ensures, c .root-argument .ensures)
+returns c = simp (c .before .before .before .before .number .ensures, c .before .before .root-tag .ensures, c .before .root-revision .ensures, c .root-argument .ensures)
 
 pub encode-spec : {M : Type 1} → statement M
 encode-spec =
     tie.close
     (tie.spec
-    phase-word-requires
+    number-requires
     cast-t5
     root-tag-requires
     root-revision-requires

@@ -14,8 +14,8 @@ Inv-loop m word₀ total₀ k₀ word total k = Counted m k word total
 abbrev μ-loop : tie.MeasureT-loop
 μ-loop m word₀ total₀ k₀ word total k = 8 - k
 
-whole-requires : tie.Need-whole-requires Inv-loop μ-loop
-whole-requires c κs = search needs
+known-requires : tie.Need-known-requires Inv-loop μ-loop
+known-requires c κs = search needs
 
 occupied-requires : tie.Need-occupied-requires Inv-loop μ-loop
 occupied-requires c κs = search needs
@@ -42,7 +42,7 @@ loop-again : tie.Need-loop-again Inv-loop μ-loop
 loop-again c = rows-next _ _ _ _ (c .before .loop-test .taken) (c .before .before .loop .inv) _ (c .rows-of-four .ensures .0) (c .rows-of-four .ensures .1)
 
 returns : tie.Need-returns Inv-loop μ-loop
-returns c = rows-end _ _ _ _ (c .loop-test .left) (c .before .loop .inv) ∙ sym (rows-view _ (c .before .before .before .whole .ensures))
+returns c = rows-end _ _ _ _ (c .loop-test .left) (c .before .loop .inv) ∙ sym (rows-view _ (c .before .before .before .known .ensures))
 
 pub rows-in-use-spec : {M : Type 1} → statement M
 rows-in-use-spec =
@@ -50,7 +50,7 @@ rows-in-use-spec =
     (tie.spec
     Inv-loop
     μ-loop
-    whole-requires
+    known-requires
     occupied-requires
     loop-holds
     mul-rows-of-four

@@ -15,11 +15,11 @@ use Rattle.memory_providers.proofs.meets.Statement.{statement}
 use Rattle.memory_providers.proofs.meets.Tie as tie
 
 abbrev Inv-loop : tie.InvT-loop
-Inv-loop claims bits offered row₀ row =
+Inv-loop bits claims offered row₀ row =
     (1 ≤ row) × (any (λ q. wanted bits (pairs claims) q) (pairs offered) ≡ any (λ q. wanted bits (pairs claims) q) (pairs (drop (row - 1) offered)))
 
 abbrev μ-loop : tie.MeasureT-loop
-μ-loop claims bits offered row₀ row = length offered - row
+μ-loop bits claims offered row₀ row = length offered - row
 
 loop-holds : tie.Need-loop-holds Inv-loop μ-loop
 loop-holds c = search needs

@@ -50,7 +50,7 @@ returns c =
     let at = c .before .before .before .before .before in
     let a = at .before .args in
     let i = at .loop .i in
-    let s = pairs-at (a .ports .now) (i * 2) (omega arith) in
+    let s = pairs-at (a .list .now) (i * 2) (omega arith) in
     sym (at .loop .inv ∙ port-hit s i (port (a .key) (a .realm)) (c .before .before .if1 .taken) (c .if2 .taken))
 
 add-i : tie.Need-add-i Inv-loop μ-loop
@@ -65,7 +65,7 @@ loop-again c =
     let a = at .before .args in
     let i = at .loop .i in
     let q = port (a .key) (a .realm) in
-    let l = a .ports .now in
+    let l = a .list .now in
     let s = pairs-at l (i * 2) (omega arith) in
     let e : i * 2 + 2 ≡ (i + 1) * 2 = omega arith in
     at .loop .inv ∙ port-miss s i q (⊎-elim (λ w e f. w .2 .left f) (λ w e f. w .left e) (c .if1 .came)) ∙ ap (λ (n : ℕ). portFrom (i + 1) q (pairs (drop n l))) e
@@ -76,7 +76,7 @@ returns-2 c =
     let at = c .before in
     let a = at .before .args in
     let i = at .loop .i in
-    sym (at .loop .inv ∙ ap (λ (ps : List Port). portFrom i (port (a .key) (a .realm)) ps) (pairs-end (a .ports .now) (i * 2) (omega arith)))
+    sym (at .loop .inv ∙ ap (λ (ps : List Port). portFrom i (port (a .key) (a .realm)) ps) (pairs-end (a .list .now) (i * 2) (omega arith)))
 
 pub place-of-spec : {M : Type 1} → statement M
 place-of-spec =

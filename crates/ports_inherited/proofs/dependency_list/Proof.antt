@@ -26,20 +26,20 @@ abbrev soFar : ℕ → List ℕ → List Port
 soFar n ports = pairs (take (n * 2) ports)
 
 abbrev Inv-loop : tie.InvT-loop
-Inv-loop realms other provisions keys parents ports n c at key realm k₀ k =
+Inv-loop other realms keys provisions parents ports n c at key realm k₀ k =
     (k ≤ n) × (isIn (port key realm) (soFar n ports) ≡ isIn (port key realm) (drop k (soFar n ports)))
 
 abbrev μ-loop : tie.MeasureT-loop
-μ-loop realms other provisions keys parents ports n c at key realm k₀ k = n - k
+μ-loop other realms keys provisions parents ports n c at key realm k₀ k = n - k
 
 abbrev Inv-next : tie.InvT-next
-Inv-next realms other provisions keys parents ports₀ n₀ c₀ ports n c =
+Inv-next other realms keys provisions parents ports₀ n₀ c₀ ports n c =
     (n ≤ maxDependencies) × Lists listRoom n ports (soFar n ports)
     × (dependencyList (realmsWith other realms) (pairs provisions) (take maxDependencyKeys keys) (pairs parents)
     ≡ inherit (pairs provisions) (drop c (candidates (realmsWith other realms) (pairs parents))) (soFar n ports))
 
 abbrev μ-next : tie.MeasureT-next
-μ-next realms other provisions keys parents ports₀ n₀ c₀ ports n c = length parents / 2 * 2 - c
+μ-next other realms keys provisions parents ports₀ n₀ c₀ ports n c = length parents / 2 * 2 - c
 
 -- the test of the provisions: the loop's head before it, and the function's entry
 abbrev Tested : Type 0
@@ -52,7 +52,7 @@ abbrev entry : Tested → tie.Start Inv-loop μ-loop Inv-next μ-next
 entry t = head t .before .before .before .before .before .before .before
 
 abbrev list : Tested → List Port
-list t = soFar (head t .next .n) (head t .next .ports)
+list t = soFar (head t .next .n) (head t .next .list)
 
 abbrev provided : Tested → List Port
 provided t = pairs (entry t .args .provisions .now)
@@ -191,26 +191,26 @@ returns c =
     omega (arith, grows (provided t) (rest t (head t .next .c + 1)) l, length-append (list t) (port-at t ∷ []), v .1 .counted, c .before .if4 .taken) in
     fitted-longer (inherit (provided t) (rest t (head t .next .c + 1)) l) n (c .longer .ensures .0) (c .longer .ensures .1) ∙ ap fitted (sym e)
 
-mul-ports : tie.Need-mul-ports Inv-loop μ-loop Inv-next μ-next
-mul-ports c = search needs
+mul-list : tie.Need-mul-list Inv-loop μ-loop Inv-next μ-next
+mul-list c = search needs
 
-mul-ports-2 : tie.Need-mul-ports-2 Inv-loop μ-loop Inv-next μ-next
-mul-ports-2 c = search needs
+mul-list-2 : tie.Need-mul-list-2 Inv-loop μ-loop Inv-next μ-next
+mul-list-2 c = search needs
 
-array-write-ports : tie.Need-array-write-ports Inv-loop μ-loop Inv-next μ-next
-array-write-ports c = search needs
+array-write-list : tie.Need-array-write-list Inv-loop μ-loop Inv-next μ-next
+array-write-list c = search needs
 
-mul-ports-3 : tie.Need-mul-ports-3 Inv-loop μ-loop Inv-next μ-next
-mul-ports-3 c = search needs
+mul-list-3 : tie.Need-mul-list-3 Inv-loop μ-loop Inv-next μ-next
+mul-list-3 c = search needs
 
-add-ports : tie.Need-add-ports Inv-loop μ-loop Inv-next μ-next
-add-ports c = search needs
+add-list : tie.Need-add-list Inv-loop μ-loop Inv-next μ-next
+add-list c = search needs
 
-mul-ports-4 : tie.Need-mul-ports-4 Inv-loop μ-loop Inv-next μ-next
-mul-ports-4 c = search needs
+mul-list-4 : tie.Need-mul-list-4 Inv-loop μ-loop Inv-next μ-next
+mul-list-4 c = search needs
 
-array-write-ports-2 : tie.Need-array-write-ports-2 Inv-loop μ-loop Inv-next μ-next
-array-write-ports-2 c = search needs
+array-write-list-2 : tie.Need-array-write-list-2 Inv-loop μ-loop Inv-next μ-next
+array-write-list-2 c = search needs
 
 add-n : tie.Need-add-n Inv-loop μ-loop Inv-next μ-next
 add-n c = search needs
@@ -231,7 +231,7 @@ returns-2 c =
     let at = c .before in
     let a = at .before .before .before .before .before .before .before .args in
     let v = at .next .inv in
-    let l = soFar (at .next .n) (at .next .ports) in
+    let l = soFar (at .next .n) (at .next .list) in
     let e = v .2 ∙ ap (λ (cs : List Port). inherit (pairs (a .provisions .now)) cs l) (candidates-end (a .other) (a .realms .now) (a .parents .now) (at .next .c) (c .next-test .left)) in
     fitted-lists l (v .1) (v .0) ∙ ap fitted (sym e)
 
@@ -271,13 +271,13 @@ dependency-list-spec =
     loop-again
     longer-requires
     returns
-    mul-ports
-    mul-ports-2
-    array-write-ports
-    mul-ports-3
-    add-ports
-    mul-ports-4
-    array-write-ports-2
+    mul-list
+    mul-list-2
+    array-write-list
+    mul-list-3
+    add-list
+    mul-list-4
+    array-write-list-2
     add-n
     next-less-3
     next-again-3

@@ -18,17 +18,17 @@ use Rattle.ports_resolved.proofs.claims.Statement.{statement}
 use Rattle.ports_resolved.proofs.claims.Tie as tie
 
 abbrev Inv-loop : tie.InvT-loop
-Inv-loop realms other keys ports₀ i₀ ports i =
+Inv-loop other realms keys ports₀ i₀ ports i =
     (i ≤ maxProvisionKeys) × (i ≤ length keys) × Lists claimRoom (i + 1) ports (pairs (take 2 ports₀) ++ map (resolveIn other (pairs realms)) (take i keys))
 
 abbrev μ-loop : tie.MeasureT-loop
-μ-loop realms other keys ports₀ i₀ ports i = length keys - i
+μ-loop other realms keys ports₀ i₀ ports i = length keys - i
 
-array-write-ports : tie.Need-array-write-ports Inv-loop μ-loop
-array-write-ports c = search needs
+array-write-list : tie.Need-array-write-list Inv-loop μ-loop
+array-write-list c = search needs
 
-array-write-ports-2 : tie.Need-array-write-ports-2 Inv-loop μ-loop
-array-write-ports-2 c = search needs
+array-write-list-2 : tie.Need-array-write-list-2 Inv-loop μ-loop
+array-write-list-2 c = search needs
 
 loop-holds : tie.Need-loop-holds Inv-loop μ-loop
 loop-holds c = search needs
@@ -50,29 +50,29 @@ new-requires c κs = search needs
 resolve-requires : tie.Need-resolve-requires Inv-loop μ-loop
 resolve-requires c κs = search needs
 
-mul-ports : tie.Need-mul-ports Inv-loop μ-loop
-mul-ports c = search needs
+mul-list : tie.Need-mul-list Inv-loop μ-loop
+mul-list c = search needs
 
-add-ports : tie.Need-add-ports Inv-loop μ-loop
-add-ports c = search needs
+add-list : tie.Need-add-list Inv-loop μ-loop
+add-list c = search needs
 
-mul-ports-2 : tie.Need-mul-ports-2 Inv-loop μ-loop
-mul-ports-2 c = search needs
+mul-list-2 : tie.Need-mul-list-2 Inv-loop μ-loop
+mul-list-2 c = search needs
 
-array-write-ports-3 : tie.Need-array-write-ports-3 Inv-loop μ-loop
-array-write-ports-3 c = search needs
+array-write-list-3 : tie.Need-array-write-list-3 Inv-loop μ-loop
+array-write-list-3 c = search needs
 
-mul-ports-3 : tie.Need-mul-ports-3 Inv-loop μ-loop
-mul-ports-3 c = search needs
+mul-list-3 : tie.Need-mul-list-3 Inv-loop μ-loop
+mul-list-3 c = search needs
 
-add-ports-2 : tie.Need-add-ports-2 Inv-loop μ-loop
-add-ports-2 c = search needs
+add-list-2 : tie.Need-add-list-2 Inv-loop μ-loop
+add-list-2 c = search needs
 
-mul-ports-4 : tie.Need-mul-ports-4 Inv-loop μ-loop
-mul-ports-4 c = search needs
+mul-list-4 : tie.Need-mul-list-4 Inv-loop μ-loop
+mul-list-4 c = search needs
 
-array-write-ports-4 : tie.Need-array-write-ports-4 Inv-loop μ-loop
-array-write-ports-4 c = search needs
+array-write-list-4 : tie.Need-array-write-list-4 Inv-loop μ-loop
+array-write-list-4 c = search needs
 
 add-i : tie.Need-add-i Inv-loop μ-loop
 add-i c = search needs
@@ -105,22 +105,22 @@ claims-spec =
     (tie.spec
     Inv-loop
     μ-loop
-    array-write-ports
-    array-write-ports-2
+    array-write-list
+    array-write-list-2
     loop-holds
     returns
     mul-new
     shared-slice-read-new
     new-requires
     resolve-requires
-    mul-ports
-    add-ports
-    mul-ports-2
-    array-write-ports-3
-    mul-ports-3
-    add-ports-2
-    mul-ports-4
-    array-write-ports-4
+    mul-list
+    add-list
+    mul-list-2
+    array-write-list-3
+    mul-list-3
+    add-list-2
+    mul-list-4
+    array-write-list-4
     add-i
     loop-less
     loop-again

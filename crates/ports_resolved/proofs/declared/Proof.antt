@@ -15,12 +15,12 @@ use Rattle.ports_resolved.proofs.declared.Statement.{statement}
 use Rattle.ports_resolved.proofs.declared.Tie as tie
 
 abbrev Inv-loop : tie.InvT-loop
-Inv-loop realms other keys ports₀ i₀ ports i =
+Inv-loop other realms keys ports₀ i₀ ports i =
     (i ≤ maxDependencyKeys) × (i ≤ length keys)
     × (stored ports₀ 0 (declaredOf other (pairs realms) keys) ≡ stored ports i (map (resolveIn other (pairs realms)) (drop i (take maxDependencyKeys keys))))
 
 abbrev μ-loop : tie.MeasureT-loop
-μ-loop realms other keys ports₀ i₀ ports i = length keys - i
+μ-loop other realms keys ports₀ i₀ ports i = length keys - i
 
 loop-holds : tie.Need-loop-holds Inv-loop μ-loop
 loop-holds c = (omega arith, omega arith, refl)
@@ -29,7 +29,7 @@ returns : tie.Need-returns Inv-loop μ-loop
 returns c =
     let at = c .before .before in
     let a = at .before .before .before .args in
-    stored-all (resolveIn (a .other) (pairs (a .realms .now))) (a .keys .now) (at .loop .ports) (at .loop .i) _ _ (omega (arith, length-take maxDependencyKeys (a .keys .now))) (omega (arith, length-take maxDependencyKeys (a .keys .now))) (at .loop .inv .2)
+    stored-all (resolveIn (a .other) (pairs (a .realms .now))) (a .keys .now) (at .loop .list) (at .loop .i) _ _ (omega (arith, length-take maxDependencyKeys (a .keys .now))) (omega (arith, length-take maxDependencyKeys (a .keys .now))) (at .loop .inv .2)
 
 mul-new : tie.Need-mul-new Inv-loop μ-loop
 mul-new c = search needs
@@ -43,26 +43,26 @@ new-requires c κs = search needs
 resolve-requires : tie.Need-resolve-requires Inv-loop μ-loop
 resolve-requires c κs = search needs
 
-mul-ports : tie.Need-mul-ports Inv-loop μ-loop
-mul-ports c = search needs
+mul-list : tie.Need-mul-list Inv-loop μ-loop
+mul-list c = search needs
 
-mul-ports-2 : tie.Need-mul-ports-2 Inv-loop μ-loop
-mul-ports-2 c = search needs
+mul-list-2 : tie.Need-mul-list-2 Inv-loop μ-loop
+mul-list-2 c = search needs
 
-element-write-ports : tie.Need-element-write-ports Inv-loop μ-loop
-element-write-ports c = search needs
+element-write-list : tie.Need-element-write-list Inv-loop μ-loop
+element-write-list c = search needs
 
-mul-ports-3 : tie.Need-mul-ports-3 Inv-loop μ-loop
-mul-ports-3 c = search needs
+mul-list-3 : tie.Need-mul-list-3 Inv-loop μ-loop
+mul-list-3 c = search needs
 
-add-ports : tie.Need-add-ports Inv-loop μ-loop
-add-ports c = search needs
+add-list : tie.Need-add-list Inv-loop μ-loop
+add-list c = search needs
 
-mul-ports-4 : tie.Need-mul-ports-4 Inv-loop μ-loop
-mul-ports-4 c = search needs
+mul-list-4 : tie.Need-mul-list-4 Inv-loop μ-loop
+mul-list-4 c = search needs
 
-element-write-ports-2 : tie.Need-element-write-ports-2 Inv-loop μ-loop
-element-write-ports-2 c = search needs
+element-write-list-2 : tie.Need-element-write-list-2 Inv-loop μ-loop
+element-write-list-2 c = search needs
 
 add-i : tie.Need-add-i Inv-loop μ-loop
 add-i c = search needs
@@ -76,13 +76,13 @@ loop-again c =
     let a = at .before .before .before .args in
     let f = resolveIn (a .other) (pairs (a .realms .now)) in
     let e = resolve-with (pairs (a .realms .now)) _ _ _ _ (c .resolve .ensures) (c .before .new .ensures) in
-    (omega arith, omega arith, at .loop .inv .2 ∙ stored-next f (a .keys .now) (at .loop .ports) (at .loop .i) _ (omega arith) (omega arith) e)
+    (omega arith, omega arith, at .loop .inv .2 ∙ stored-next f (a .keys .now) (at .loop .list) (at .loop .i) _ (omega arith) (omega arith) e)
 
 returns-2 : tie.Need-returns-2 Inv-loop μ-loop
 returns-2 c =
     let at = c .before in
     let a = at .before .before .before .args in
-    stored-all (resolveIn (a .other) (pairs (a .realms .now))) (a .keys .now) (at .loop .ports) (at .loop .i) _ _ (omega (arith, length-take maxDependencyKeys (a .keys .now))) (omega (arith, length-take maxDependencyKeys (a .keys .now))) (at .loop .inv .2)
+    stored-all (resolveIn (a .other) (pairs (a .realms .now))) (a .keys .now) (at .loop .list) (at .loop .i) _ _ (omega (arith, length-take maxDependencyKeys (a .keys .now))) (omega (arith, length-take maxDependencyKeys (a .keys .now))) (at .loop .inv .2)
 
 pub declared-spec : {M : Type 1} → statement M
 declared-spec =
@@ -96,13 +96,13 @@ declared-spec =
     shared-slice-read-new
     new-requires
     resolve-requires
-    mul-ports
-    mul-ports-2
-    element-write-ports
-    mul-ports-3
-    add-ports
-    mul-ports-4
-    element-write-ports-2
+    mul-list
+    mul-list-2
+    element-write-list
+    mul-list-3
+    add-list
+    mul-list-4
+    element-write-list-2
     add-i
     loop-less
     loop-again

@@ -53,7 +53,7 @@ loop-again c =
     let at = c .before .before .before .before .before in
     let a = at .before .before .args in
     let f : Port → Bool = available (view (a .m .now)) in
-    let s = pairs-behind (a .ports .now) (at .loop .i) (at .loop .inv .0) (c .before .before .before .before .loop-test .taken) in
+    let s = pairs-behind (a .list .now) (at .loop .i) (at .loop .inv .0) (c .before .before .before .before .loop-test .taken) in
     (omega arith, at .loop .inv .1 ∙ all-hit f s (sym (c .before .is-available .ensures) ∙ c .if1 .taken))
 
 returns : tie.Need-returns Inv-loop μ-loop
@@ -61,7 +61,7 @@ returns c =
     let at = c .before .before .before .before .before in
     let a = at .before .before .args in
     let f : Port → Bool = available (view (a .m .now)) in
-    let s = pairs-behind (a .ports .now) (at .loop .i) (at .loop .inv .0) (c .before .before .before .before .loop-test .taken) in
+    let s = pairs-behind (a .list .now) (at .loop .i) (at .loop .inv .0) (c .before .before .before .before .loop-test .taken) in
     sym (at .loop .inv .1 ∙ all-miss f s (sym (c .before .is-available .ensures) ∙ c .if1 .left))
 
 returns-2 : tie.Need-returns-2 Inv-loop μ-loop
@@ -69,7 +69,7 @@ returns-2 c =
     let at = c .before in
     let a = at .before .before .args in
     let f : Port → Bool = available (view (a .m .now)) in
-    sym (at .loop .inv .1 ∙ ap (all f) (pairs-end (a .ports .now) (at .loop .i - 1) (omega arith)))
+    sym (at .loop .inv .1 ∙ ap (all f) (pairs-end (a .list .now) (at .loop .i - 1) (omega arith)))
 
 pub all-available-spec : {M : Type 1} → statement M
 all-available-spec =

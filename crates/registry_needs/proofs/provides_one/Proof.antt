@@ -49,7 +49,7 @@ returns c =
     let at = c .before .before .before .before .before in
     let a = at .before .before .args in
     let f : Port → Bool = provides (pluginAt (a .m .now) (a .place % places)) in
-    let s = pairs-behind (a .ports .now) (at .loop .i) (at .loop .inv .0) (c .before .before .before .before .loop-test .taken) in
+    let s = pairs-behind (a .list .now) (at .loop .i) (at .loop .inv .0) (c .before .before .before .before .loop-test .taken) in
     sym (at .loop .inv .1 ∙ any-hit f s (sym (c .before .provides .ensures) ∙ c .if1 .taken))
 
 add-i : tie.Need-add-i Inv-loop μ-loop
@@ -63,7 +63,7 @@ loop-again c =
     let at = c .before .before .before .before .before in
     let a = at .before .before .args in
     let f : Port → Bool = provides (pluginAt (a .m .now) (a .place % places)) in
-    let s = pairs-behind (a .ports .now) (at .loop .i) (at .loop .inv .0) (c .before .before .before .before .loop-test .taken) in
+    let s = pairs-behind (a .list .now) (at .loop .i) (at .loop .inv .0) (c .before .before .before .before .loop-test .taken) in
     (omega arith, at .loop .inv .1 ∙ any-miss f s (sym (c .before .provides .ensures) ∙ c .if1 .left))
 
 returns-2 : tie.Need-returns-2 Inv-loop μ-loop
@@ -71,7 +71,7 @@ returns-2 c =
     let at = c .before in
     let a = at .before .before .args in
     let f : Port → Bool = provides (pluginAt (a .m .now) (a .place % places)) in
-    sym (at .loop .inv .1 ∙ ap (any f) (pairs-end (a .ports .now) (at .loop .i - 1) (omega arith)))
+    sym (at .loop .inv .1 ∙ ap (any f) (pairs-end (a .list .now) (at .loop .i - 1) (omega arith)))
 
 pub provides-one-spec : {M : Type 1} → statement M
 provides-one-spec =

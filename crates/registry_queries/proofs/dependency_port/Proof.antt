@@ -1,6 +1,6 @@
 -- `dependency_port` meets its contract. Assumes nothing.
 use mathlib.Core.Path.{sym, _∙_}
-use Rattle.registry_queries.proofs.Laws.{no-port, port-nothing, port-answer, port-within}
+use Rattle.registry_queries.proofs.Laws.{no-port, port-nothing, port-answer}
 use borrow.Author.Needs.{needs}
 use Rattle.registry_queries.proofs.dependency_port.Statement.{statement}
 use Rattle.registry_queries.proofs.dependency_port.Tie as tie
@@ -34,15 +34,13 @@ returns-2 c =
     let e = sym (c .before .before .before .before .before .before .before .find .ensures) ∙ c .before .before .before .before .before .at .given .1 in
     port-nothing _ _ _ e _ _ (c .before .before .before .dependency-words .ensures) (sym (c .before .before .first-port .ensures) ∙ c .enum-told2 .given .1)
 
-port-of-requires : tie.Need-port-of-requires
-port-of-requires c κs =
-    let e = sym (c .before .before .before .before .before .before .before .before .find .ensures) ∙ c .before .before .before .before .before .before .at .given .1 in
-    port-within _ _ _ e _ _ (c .before .before .before .before .dependency-words .ensures) _ (sym (c .before .before .before .first-port .ensures) ∙ c .before .i .given .1)
+port-at-requires : tie.Need-port-at-requires
+port-at-requires c κs = search needs
 
 returns-3 : tie.Need-returns-3
 returns-3 c =
     let e = sym (c .before .before .before .before .before .before .before .before .before .find .ensures) ∙ c .before .before .before .before .before .before .before .at .given .1 in
-    port-answer _ _ _ e _ _ (c .before .before .before .before .before .dependency-words .ensures) _ _ (sym (c .before .before .before .before .first-port .ensures) ∙ c .before .before .i .given .1) (c .port-of .ensures)
+    port-answer _ _ _ e _ _ (c .before .before .before .before .before .dependency-words .ensures) _ _ (sym (c .before .before .before .before .first-port .ensures) ∙ c .before .before .i .given .1) (c .port-at .ensures)
 
 pub dependency-port-spec : {M : Type 1} → statement M
 dependency-port-spec =
@@ -57,5 +55,5 @@ dependency-port-spec =
     enum-known-i
     enum-told-2
     returns-2
-    port-of-requires
+    port-at-requires
     returns-3)

@@ -1,5 +1,7 @@
--- `phase` meets its contract. Assumes nothing.
-use mathlib.Core.Path.{sym, _∙_}
+-- `phase` meets its contract: the number is that of the phase in the life.
+use mathlib.Core.Path.{refl, sym, ap, _∙_}
+use mathlib.Core.List.{[], _∷_}
+use Rattle.rules.specs.Outcomes.{Accepted}
 use Rattle.rules.specs.Queries.{PhaseOf}
 use Rattle.registry_queries.proofs.Laws.{no-answer, phase-answer}
 use borrow.Author.Needs.{needs}
@@ -21,37 +23,15 @@ returns c = no-answer _ _ (sym (c .before .before .find .ensures) ∙ c .enum-to
 load-requires : tie.Need-load-requires
 load-requires c κs = search needs
 
-enum-told-2 : tie.Need-enum-told-2
-enum-told-2 c = search needs
-
-enum-told-3 : tie.Need-enum-told-3
-enum-told-3 c = search needs
-
-enum-told-4 : tie.Need-enum-told-4
-enum-told-4 c = search needs
-
-enum-told-5 : tie.Need-enum-told-5
-enum-told-5 c = search needs
+number-requires : tie.Need-number-requires
+number-requires c κs = search needs
 
 returns-2 : tie.Need-returns-2
 returns-2 c =
-    let e = sym (c .before .before .before .before .before .before .find .ensures) ∙ c .before .before .before .before .at .given .1 in
-    phase-answer _ _ _ e _ _ (c .before .before .load .ensures) (c .enum-told2 .given .1)
-
-returns-3 : tie.Need-returns-3
-returns-3 c =
-    let e = sym (c .before .before .before .before .before .before .find .ensures) ∙ c .before .before .before .before .at .given .1 in
-    phase-answer _ _ _ e _ _ (c .before .before .load .ensures) (c .enum-told3 .given .1)
-
-returns-4 : tie.Need-returns-4
-returns-4 c =
-    let e = sym (c .before .before .before .before .before .before .find .ensures) ∙ c .before .before .before .before .at .given .1 in
-    phase-answer _ _ _ e _ _ (c .before .before .load .ensures) (c .enum-told4 .given .1)
-
-returns-5 : tie.Need-returns-5
-returns-5 c =
-    let e = sym (c .before .before .before .before .before .before .find .ensures) ∙ c .before .before .before .before .at .given .1 in
-    phase-answer _ _ _ e _ _ (c .before .before .load .ensures) (c .enum-told5 .given .1)
+    let l = c .before in
+    let a = l .before .before in
+    ap (λ n. Accepted (n ∷ [])) (c .number .ensures)
+    ∙ phase-answer _ _ _ (sym (a .before .before .find .ensures) ∙ a .at .given .1) _ _ (l .load .ensures) refl
 
 pub phase-spec : {M : Type 1} → statement M
 phase-spec =
@@ -62,11 +42,5 @@ phase-spec =
     enum-told
     returns
     load-requires
-    enum-told-2
-    enum-told-3
-    enum-told-4
-    enum-told-5
-    returns-2
-    returns-3
-    returns-4
-    returns-5)
+    number-requires
+    returns-2)

@@ -39,12 +39,12 @@ use denote.Triple.Spec.{Meets, tripleOf}
 use denote.Triple.Table.{entered, cited}
 use denote.Triple.Walked.{says, Stays, stay-none, walkOf, AllGo, goes-none, Walks, ends-at, walked, walk-meets}
 use denote.Exit.{yes}
-use Rattle.registry_replace.specs.Recipes.{changeOf}
-use Rattle.registry_replace.specs.declared.Recipe.{Recipe}
+use Rattle.registry_replace.specs.Records.{changeOf}
+use Rattle.registry_replace.specs.declared.PayloadRecord.{PayloadRecord}
 use Rattle.registry_replace.specs.declared.Change.{Change}
 use Rattle.registry_replace.specs.declared.Replaced.{Replaced}
-use Rattle.registry_replace.proofs.Recipe as T
-use Rattle.registry_replace.proofs.Recipe.Laws as T′
+use Rattle.registry_replace.proofs.PayloadRecord as T
+use Rattle.registry_replace.proofs.PayloadRecord.Laws as T′
 use Rattle.registry_replace.proofs.Change as O
 use Rattle.registry_replace.proofs.Change.Laws as O′
 use Rattle.registry_replace.proofs.Replaced as B
@@ -61,24 +61,24 @@ use Rattle.registry_replace.proofs.by_lending.Code as code
 abbrev stayed : Stays (f.ended .signature .params) (f.ended .kept)
 stayed = (stay-none (λ _. T.the-row) yes, (stay-none (λ _. u64) yes, tt))
 
--- the machine values of a recipe and of a change
-abbrev cell : Recipe → Val
+-- the machine values of a record and of a change
+abbrev cell : PayloadRecord → Val
 cell = LL.val T.the-type T′.the-laws
 
 abbrev both : Change → Val
 both = LL.val O.the-type O′.the-laws
 
-abbrev made : Recipe → Replaced → Change
-made z r = record { recipe = z; answer = r }
+abbrev made : PayloadRecord → Replaced → Change
+made z r = record { next = z; answer = r }
 
-made-is : (z : Recipe) (r : Replaced) (w : Val) → Is T.the-row z (cell z ∷ []) → Is B.the-row r (w ∷ []) → Is O.the-row (made z r) (both (made z r) ∷ [])
+made-is : (z : PayloadRecord) (r : Replaced) (w : Val) → Is T.the-row z (cell z ∷ []) → Is B.the-row r (w ∷ []) → Is O.the-row (made z r) (both (made z r) ∷ [])
 made-is z r w g is = LL.owes O.the-type O′.the-laws (made z r) (g, (EL.owes B.the-type B′.the-laws r (EL.owed B.the-type B′.the-laws r (w ∷ []) is), tt))
 
 module _ {M : Type 1} (𝓤 : URA M) (H : Heap 𝓤) (A : Atoms 𝓤) (at-mem : Memory → SProp 𝓤) (run : Routine → Fun 𝓤) where
   abbrev Callee : Contract 𝓤
   Callee = tripleOf 𝓤 H A callee.signature (callee.spec 𝓤 H A at-mem run)
 
-module _ {M : Type 1} (𝓤 : URA M) (H : Heap 𝓤) (A : Atoms 𝓤) (W : Given 𝓤 H A) (at-mem : Memory → SProp 𝓤) (run : Routine → Fun 𝓤) (h : Recipe) (n : ℕ) (h-is : Is T.the-row h (cell h ∷ [])) (n-fits : n < 2 ^ 64) where
+module _ {M : Type 1} (𝓤 : URA M) (H : Heap 𝓤) (A : Atoms 𝓤) (W : Given 𝓤 H A) (at-mem : Memory → SProp 𝓤) (run : Routine → Fun 𝓤) (h : PayloadRecord) (n : ℕ) (h-is : Is T.the-row h (cell h ∷ [])) (n-fits : n < 2 ^ 64) where
   abbrev at : List Val × (List Val × Unit {0})
   at = (cell h ∷ [], (vint w64 n ∷ [], tt))
 
@@ -93,7 +93,7 @@ module _ {M : Type 1} (𝓤 : URA M) (H : Heap 𝓤) (A : Atoms 𝓤) (W : Given
       owned ! T.the-row (Is T.the-row) (LL.makes T.the-type T′.the-plain 𝓤 H A) h _ h-is $ fjoin ! $ nothing ! $ keep ! (0 ∷ 1 ∷ 2 ∷ []) $ done !
 
   -- the local that is lent, at block l for the lifetime ν under the name δ
-  abbrev lent : ℕ → GName → RefT Recipe
+  abbrev lent : ℕ → GName → RefT PayloadRecord
   lent l δ = record { ptr = (l, 0); name = δ; now = h }
 
   abbrev to-callee : ℕ → ℕ → GName → Callee 𝓤 H A at-mem run .Ghost
@@ -104,8 +104,8 @@ module _ {M : Type 1} (𝓤 : URA M) (H : Heap 𝓤) (A : Atoms 𝓤) (W : Given
       qed W (‵ (flft (ν ∷ []) fullShare) ∷ ‵ (MutRef (named 0) (ν ∷ []) T.the-row .own (lent l δ) (vptr l 0 ∷ [])) ∷ []) ∵ nothing ! $ move ! (1 ∷ 0 ∷ []) $ join ! $
       nothing ! $ owned ! u64 (Is u64) (uint-makes 𝓤 H A W w64) n _ (refl, n-fits) $ fjoin ! $ move ! (2 ∷ 0 ∷ []) $ fjoin ! $ move ! (1 ∷ 0 ∷ []) $ join ! $ frame ! $ done !
 
-  abbrev Ensured : Recipe → Replaced → Type 0
-  Ensured z r = (z ≡ changeOf h n .recipe) × (r ≡ changeOf h n .answer)
+  abbrev Ensured : PayloadRecord → Replaced → Type 0
+  Ensured z r = (z ≡ changeOf h n .next) × (r ≡ changeOf h n .answer)
 
   module _ (C : Calls 𝓤 H) (Λ : Loops 𝓤 H) (fm : FmC 𝓤 H (W .laws) C) (known : Triple 𝓤 (C #registry-replace·replace-lent) (Callee 𝓤 H A at-mem run)) where
     walk : ent 𝓤 (onEntry 𝓤 H A f.signature tt tt (h, (n, tt)) at) (WpFn 𝓤 H C Λ code.function (cell h ∷ vint w64 n ∷ []) Post)
@@ -126,7 +126,7 @@ module _ {M : Type 1} (𝓤 : URA M) (H : Heap 𝓤) (A : Atoms 𝓤) (W : Given
         calls-at ! fm (Callee 𝓤 H A at-mem run) known (to-callee l₃ ν δ) (and-then ! (load ! (from ! (stop !)) (look ! 4 refl)) (and-then ! (load ! (from ! (stop !)) (look ! 9 refl)) (no-more !))) (λ w.
         use1 W (later (some (λ (r : Replaced). ((‵ (flft (ν ∷ []) fullShare) ⊛ ‵ ftrue) ⊛ ‵ (B.the-row .own r (w ∷ []))) ⊛ raw (ensured 𝓤 H A callee.ended (callee.clauses 𝓤 H A at-mem run) (ν ∷ [], tt) (lent l₃ δ, (n, tt)) tt r)))) (id⊢ 𝓤 _) $ await ! tt $ pick ! (λ r.
         -- what `replace_lent` ensures, at some last record
-        split ! $ move ! (1 ∷ []) $ use1 W (some (λ (zs : Recipe × (Unit {0} × Unit {0})). ‵ (lasts callee.ended (ν ∷ [], tt) (lent l₃ δ, (n, tt)) zs) ⊛ raw (fact 𝓤 (Ensured (zs .0) r)))) (id⊢ 𝓤 _) $ pick ! (λ zs.
+        split ! $ move ! (1 ∷ []) $ use1 W (some (λ (zs : PayloadRecord × (Unit {0} × Unit {0})). ‵ (lasts callee.ended (ν ∷ [], tt) (lent l₃ δ, (n, tt)) zs) ⊛ raw (fact 𝓤 (Ensured (zs .0) r)))) (id⊢ 𝓤 _) $ pick ! (λ zs.
         split ! $ move ! (1 ∷ []) $ heard ! (Ensured (zs .0) r) (λ e. fsplit ! $
         move ! (2 ∷ []) $ split ! $ move ! (1 ∷ []) $ peeks ! B.the-row (Is B.the-row) (shows 𝓤 H A B.the-row) r (w ∷ []) (λ is. drop ! $
         -- [the token; last; …; the loan; _6; …; _5; …; _4; …; _3's end; _2; …; _1; …; _0; …]

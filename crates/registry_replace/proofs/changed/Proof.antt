@@ -1,6 +1,6 @@
 -- `changed` meets its contract: the test decides the definition.
 use mathlib.Core.Path.{sym}
-use Rattle.registry_replace.specs.Recipes.{change-last, change-next}
+use Rattle.registry_replace.specs.Records.{change-last, change-next}
 use borrow.Author.Needs.{needs}
 use Rattle.registry_replace.proofs.changed.Statement.{statement}
 use Rattle.registry_replace.proofs.changed.Tie as tie

@@ -38,12 +38,12 @@ use denote.Triple.Spec.{Meets, tripleOf}
 use denote.Triple.Table.{entered, cited}
 use denote.Triple.Walked.{says, Stays, stay-ref, stay-none, walkOf, AllGo, goes-none, goes-ref, Walks, ends-at, walked, walk-meets}
 use denote.Exit.{yes}
-use Rattle.registry_replace.specs.Recipes.{changeOf}
-use Rattle.registry_replace.specs.declared.Recipe.{Recipe}
+use Rattle.registry_replace.specs.Records.{changeOf}
+use Rattle.registry_replace.specs.declared.PayloadRecord.{PayloadRecord}
 use Rattle.registry_replace.specs.declared.Change.{Change}
 use Rattle.registry_replace.specs.declared.Replaced.{Replaced}
-use Rattle.registry_replace.proofs.Recipe as T
-use Rattle.registry_replace.proofs.Recipe.Laws as T′
+use Rattle.registry_replace.proofs.PayloadRecord as T
+use Rattle.registry_replace.proofs.PayloadRecord.Laws as T′
 use Rattle.registry_replace.proofs.Change as O
 use Rattle.registry_replace.proofs.Change.Laws as O′
 use Rattle.registry_replace.proofs.Replaced as B
@@ -60,8 +60,8 @@ use Rattle.registry_replace.proofs.replace_lent.Code as code
 abbrev stayed : Stays (f.ended .signature .params) (f.ended .kept)
 stayed = (stay-ref (0 ∷ []) tt (plain (λ _. T.the-row)), (stay-none (λ _. u64) yes, tt))
 
--- the machine values of a recipe, of an answer and of both in a change
-abbrev cell : Recipe → Val
+-- the machine values of a record, of an answer and of both in a change
+abbrev cell : PayloadRecord → Val
 cell = LL.val T.the-type T′.the-laws
 
 abbrev said : Replaced → Val
@@ -71,8 +71,8 @@ abbrev both : Change → Val
 both = LL.val O.the-type O′.the-laws
 
 -- what a change's machine value says of its two fields
-recipe-is : (r : Change) (v : Val) → Is O.the-row r (v ∷ []) → Is T.the-row (r .recipe) (cell (r .recipe) ∷ [])
-recipe-is r v is = LL.owed O.the-type O′.the-laws r (v ∷ []) is .0
+record-is : (r : Change) (v : Val) → Is O.the-row r (v ∷ []) → Is T.the-row (r .next) (cell (r .next) ∷ [])
+record-is r v is = LL.owed O.the-type O′.the-laws r (v ∷ []) is .0
 
 answer-is : (r : Change) (v : Val) → Is O.the-row r (v ∷ []) → Is B.the-row (r .answer) (said (r .answer) ∷ [])
 answer-is r v is = LL.owed O.the-type O′.the-laws r (v ∷ []) is .1 .0
@@ -82,11 +82,11 @@ module _ {M : Type 1} (𝓤 : URA M) (H : Heap 𝓤) (A : Atoms 𝓤) (at-mem : 
   abbrev Callee : Contract 𝓤
   Callee = tripleOf 𝓤 H A callee.signature (callee.spec 𝓤 H A at-mem run)
 
-  said-of : (h : Recipe) (n : ℕ) (r : Change) → ent 𝓤 (ensured 𝓤 H A callee.ended (callee.clauses 𝓤 H A at-mem run) tt (h, (n, tt)) tt r) (fact 𝓤 (r ≡ changeOf h n))
+  said-of : (h : PayloadRecord) (n : ℕ) (r : Change) → ent 𝓤 (ensured 𝓤 H A callee.ended (callee.clauses 𝓤 H A at-mem run) tt (h, (n, tt)) tt r) (fact 𝓤 (r ≡ changeOf h n))
   said-of h n r = exE 𝓤 _ (λ ws. snd∗ 𝓤 (sem 𝓤 H A (lasts callee.ended tt (h, (n, tt)) ws)) (fact 𝓤 (r ≡ changeOf h n)))
 
-module _ {M : Type 1} (𝓤 : URA M) (H : Heap 𝓤) (A : Atoms 𝓤) (W : Given 𝓤 H A) (at-mem : Memory → SProp 𝓤) (run : Routine → Fun 𝓤) (κ : Lft) (q : Share) (b o : ℕ) (γ : GName) (h : Recipe) (n : ℕ) (n-fits : n < 2 ^ 64) where
-  abbrev x : RefT Recipe × (ℕ × Unit {0})
+module _ {M : Type 1} (𝓤 : URA M) (H : Heap 𝓤) (A : Atoms 𝓤) (W : Given 𝓤 H A) (at-mem : Memory → SProp 𝓤) (run : Routine → Fun 𝓤) (κ : Lft) (q : Share) (b o : ℕ) (γ : GName) (h : PayloadRecord) (n : ℕ) (n-fits : n < 2 ^ 64) where
+  abbrev x : RefT PayloadRecord × (ℕ × Unit {0})
   x = (record { ptr = (b, o); name = γ; now = h }, (n, tt))
 
   abbrev at : List Val × (List Val × Unit {0})
@@ -96,10 +96,10 @@ module _ {M : Type 1} (𝓤 : URA M) (H : Heap 𝓤) (A : Atoms 𝓤) (W : Given
   Post = walkOf 𝓤 H A f.ended stayed (f.clauses 𝓤 H A at-mem run) .post (((κ, tt), (q, tt), tt, x, at), tt)
 
   exits : (r : Change) → Is B.the-row (r .answer) (said (r .answer) ∷ []) → r ≡ changeOf h n
-      → ent 𝓤 (sep 𝓤 (A .obs γ (T.the-row .coded .code (r .recipe))) (sep 𝓤 (A .bor κ (Body (mem T.the-row) b o γ)) (A .lft κ q))) (Post (said (r .answer)))
+      → ent 𝓤 (sep 𝓤 (A .obs γ (T.the-row .coded .code (r .next))) (sep 𝓤 (A .bor κ (Body (mem T.the-row) b o γ)) (A .lft κ q))) (Post (said (r .answer)))
   exits r is e =
-      qed W (‵ (fobs γ (T.the-row .coded .code (r .recipe))) ∷ ‵ (fbor κ (Body (mem T.the-row) b o γ)) ∷ ‵ (flft κ q) ∷ []) ∵
-      suffices ! _ (ends-at 𝓤 H A f.ended stayed (f.clauses 𝓤 H A at-mem run) W (((κ, tt), (q, tt), tt, x, at), tt) (said (r .answer)) (r .answer) (r .recipe, (tt, tt)) (tt, (tt, tt))) $ says ! (ap (λ (o : Change). o .recipe) e, ap (λ (o : Change). o .answer) e) $ nothing ! $ move ! (3 ∷ 0 ∷ []) $ join ! $
+      qed W (‵ (fobs γ (T.the-row .coded .code (r .next))) ∷ ‵ (fbor κ (Body (mem T.the-row) b o γ)) ∷ ‵ (flft κ q) ∷ []) ∵
+      suffices ! _ (ends-at 𝓤 H A f.ended stayed (f.clauses 𝓤 H A at-mem run) W (((κ, tt), (q, tt), tt, x, at), tt) (said (r .answer)) (r .answer) (r .next, (tt, tt)) (tt, (tt, tt))) $ says ! (ap (λ (o : Change). o .next) e, ap (λ (o : Change). o .answer) e) $ nothing ! $ move ! (3 ∷ 0 ∷ []) $ join ! $
       frame ! $ feqI ! (List Val) (vptr b o ∷ []) (vptr b o ∷ []) refl $ fjoin3 ! $ nothing ! $ owned ! u64 (Is u64) (uint-makes 𝓤 H A W w64) n _ (refl, n-fits) $ fjoin ! $ move ! (1 ∷ 0 ∷ []) $ fjoin ! $
       owned ! B.the-row (Is B.the-row) (EL.makes B.the-type B′.the-plain 𝓤 H A) (r .answer) _ is $ move ! (1 ∷ 0 ∷ []) $ done !
 
@@ -130,9 +130,9 @@ module _ {M : Type 1} (𝓤 : URA M) (H : Heap 𝓤) (A : Atoms 𝓤) (W : Given
         land ! (from ! (stop !)) (init ! 6 refl (LL.lawful O.the-type O′.the-laws 𝓤 H A W .typed r _ is .0)) $
         rewrite ! 6 (λ (u : Val). ‵ (fat fullShare O′.mir l₃ 0 u)) (ap only (LL.tells O.the-type O′.the-laws r (v ∷ []) is)) refl $
         -- the change's record goes into the borrow's cell, and its answer into the result
-        assigns ! (of-opd ! (load ! (from ! (fld ! refl (stop !))) (look-in ! 6 (sub ! 0 refl (whole !))))) (from ! (hop ! (look ! 10 refl) (stop !))) (store-raw ! 0 refl (LL.lawful T.the-type T′.the-laws 𝓤 H A W .typed (r .recipe) _ (recipe-is r v is) .0)) $
+        assigns ! (of-opd ! (load ! (from ! (fld ! refl (stop !))) (look-in ! 6 (sub ! 0 refl (whole !))))) (from ! (hop ! (look ! 10 refl) (stop !))) (store-raw ! 0 refl (LL.lawful T.the-type T′.the-laws 𝓤 H A W .typed (r .next) _ (record-is r v is) .0)) $
         assigns ! (of-opd ! (load ! (from ! (fld ! refl (stop !))) (look-in ! 6 (sub ! 1 refl (whole !))))) (from ! (stop !)) (init ! 12 refl (EL.lawful B.the-type B′.the-laws 𝓤 H A W tt .typed (r .answer) _ (answer-is r v is) .0)) $
-        owned ! T.the-row (Is T.the-row) (LL.makes T.the-type T′.the-plain 𝓤 H A) (r .recipe) _ (recipe-is r v is) $ move ! (1 ∷ 0 ∷ []) $ closes ! tt T.the-row (r .recipe) (cell (r .recipe) ∷ []) b o $
+        owned ! T.the-row (Is T.the-row) (LL.makes T.the-type T′.the-plain 𝓤 H A) (r .next) _ (record-is r v is) $ move ! (1 ∷ 0 ∷ []) $ closes ! tt T.the-row (r .next) (cell (r .next) ∷ []) b o $
         returns ! (look ! 11 refl) $ forget ! 3 refl $ forget ! 5 refl $ forget ! 7 refl $ forget ! 9 refl $ forget ! 11 refl $
         move ! (11 ∷ 12 ∷ []) $ free1 ! $ move ! (9 ∷ 10 ∷ []) $ free1 ! $ move ! (7 ∷ 8 ∷ []) $ free1 ! $ move ! (5 ∷ 6 ∷ []) $ free1 ! $ move ! (3 ∷ 4 ∷ []) $ free1 ! $ free0 ! $
         keep ! (0 ∷ 1 ∷ 2 ∷ []) $ by ! (exits r (answer-is r v is) e))))))))))))

@@ -1,6 +1,6 @@
 -- `missing` meets its contract: the id is unknown, or the first port or none.
 use mathlib.Core.Path.{sym, _∙_}
-use Rattle.registry_values.specs.Questions.{missing-none, missing-nothing, missing-within, missing-port}
+use Rattle.registry_values.specs.Questions.{missing-none, missing-nothing, missing-port}
 use borrow.Author.Needs.{needs}
 use Rattle.registry_values.proofs.missing.Statement.{statement}
 use Rattle.registry_values.proofs.missing.Tie as tie
@@ -36,11 +36,7 @@ provision-words-requires : tie.Need-provision-words-requires
 provision-words-requires c κs = search needs
 
 port-at-requires : tie.Need-port-at-requires
-port-at-requires c κs =
-    let j = c .before .before in
-    let f = j .before .before in
-    let a = f .before .before in
-    missing-within _ _ _ (sym (a .before .before .find .ensures) ∙ a .at .given .1) _ (f .first-lacking .ensures) _ (j .j .given .1) _ (c .provision-words .ensures)
+port-at-requires c κs = search needs
 
 returns-3 : tie.Need-returns-3
 returns-3 c =

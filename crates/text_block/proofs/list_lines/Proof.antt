@@ -1,5 +1,6 @@
 -- The anchor, then the realms, then the dependencies, as the words have them.
 use Prim.Native.Nat.{_%_}
+use Rattle.memory.specs.Layout.{places}
 use Rattle.text_lines.specs.Laid.{laid-then}
 use Rattle.text_block.specs.Parts.{laid-as}
 use Rattle.text_block.proofs.Laws.{list-bytes}
@@ -48,7 +49,7 @@ returns c =
     let a = c .before .before .before .before .before .before .before .before .before .before .before .before .before .before .before .before .before .before .before .before .before .args in
     let deps = laid-then (c .before .before .before .before .before .before .before .before .before .ports-lines .ensures) (c .before .before .ports-lines2 .ensures) in
     laid-as
-    (list-bytes (a .m .now) (a .place % 32) (c .before .before .before .before .before .before .before .before .before .before .before .before .before .before .before .before .before .before .before .anchor .ensures) (c .before .before .before .before .before .before .before .before .before .before .realm-words .ensures) (c .before .before .before .dependency-words .ensures))
+    (list-bytes (a .m .now) (a .place % places) (c .before .before .before .before .before .before .before .before .before .before .before .before .before .before .before .before .before .before .before .anchor .ensures) (c .before .before .before .before .before .before .before .before .before .before .realm-words .ensures) (c .before .before .before .dependency-words .ensures))
     (laid-then (c .before .before .before .before .before .before .before .before .before .before .before .before .before .before .before .before .pair-line .ensures) deps)
 
 pub list-lines-spec : {M : Type 1} → statement M

@@ -1,5 +1,6 @@
 -- The id, then the parent.
 use Prim.Native.Nat.{_%_}
+use Rattle.memory.specs.Layout.{places}
 use Rattle.text_lines.specs.Laid.{laid-then}
 use Rattle.text_block.specs.Parts.{laid-as}
 use Rattle.text_block.proofs.Laws.{name-bytes}
@@ -32,7 +33,7 @@ returns : tie.Need-returns
 returns c =
     let a = c .before .before .before .before .before .before .before .before .before .before .before .before .before .args in
     laid-as
-    (name-bytes (a .m .now) (a .place % 32) (c .before .before .before .before .before .before .before .before .before .id .ensures) (c .before .before .before .parent .ensures))
+    (name-bytes (a .m .now) (a .place % places) (c .before .before .before .before .before .before .before .before .before .id .ensures) (c .before .before .before .parent .ensures))
     (laid-then (c .before .before .before .before .before .before .before .before .number-line .ensures) (c .before .before .optional-line .ensures))
 
 pub name-lines-spec : {M : Type 1} → statement M

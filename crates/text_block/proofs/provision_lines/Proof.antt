@@ -4,6 +4,7 @@ use native.Mathlib.Omega.{arith}
 use mathlib.Core.Path.{_≡_, refl, _∙_}
 use mathlib.Core.List.{List}
 use lib.ListN.{length}
+use Rattle.memory.specs.Layout.{places}
 use Rattle.rules.specs.Basics.{last}
 use Rattle.text_lines.specs.Laid.{Laid, laid-none, laid-then, laid-same}
 use Rattle.text_block.specs.Parts.{laid-as}
@@ -16,7 +17,7 @@ abbrev Inv-loop : tie.InvT-loop
 Inv-loop m place text₀ at words behind₀ j₀ text behind j =
     (behind ≤ last)
     × (length text ≡ length text₀)
-    × ((v : List ℕ) (r : ℕ) → Laid (provsFrom m (place % 32) j words) behind text v r → Laid (provsFrom m (place % 32) 0 words) behind₀ text₀ v r)
+    × ((v : List ℕ) (r : ℕ) → Laid (provsFrom m (place % places) j words) behind text v r → Laid (provsFrom m (place % places) 0 words) behind₀ text₀ v r)
 
 abbrev μ-loop : tie.MeasureT-loop
 μ-loop m place text₀ at words behind₀ j₀ text behind j = length words / 2 - j
@@ -69,7 +70,7 @@ loop-again c =
     let a = c .before .before .before .before .before .before .before .before .before .before .before .before .before .before .before .args in
     let w = c .before .before .before .before .before .before .before .before .before .before .before .before .before .provision-words in
     let line = c .before .before .provision-line .ensures in
-    let next = one-provision (a .m .now) (a .place % 32) (l .j) (w .ensures) (omega arith) in
+    let next = one-provision (a .m .now) (a .place % places) (l .j) (w .ensures) (omega arith) in
     (omega (arith, line .place), laid-same line ∙ l .inv .1, λ v r x. l .inv .2 v r (laid-as next (laid-then line x)))
 
 same-length : tie.Need-same-length Inv-loop μ-loop
@@ -82,8 +83,8 @@ returns c =
     let w = c .before .before .before .before .before .before .before .provision-words in
     let count = c .before .before .before .before .number-line .ensures in
     let fits : length (l .text) ≤ last = omega (arith, l .inv .1, laid-same count, count .fits) in
-    let end = laid-as (no-provision (a .m .now) (a .place % 32) (l .j) (w .result .now) (omega arith)) (laid-none (l .behind) (l .text) (l .inv .0) fits) in
-    laid-as (provision-bytes (a .m .now) (a .place % 32) (w .ensures)) (laid-then count (l .inv .2 _ _ end))
+    let end = laid-as (no-provision (a .m .now) (a .place % places) (l .j) (w .result .now) (omega arith)) (laid-none (l .behind) (l .text) (l .inv .0) fits) in
+    laid-as (provision-bytes (a .m .now) (a .place % places) (w .ensures)) (laid-then count (l .inv .2 _ _ end))
 
 pub provision-lines-spec : {M : Type 1} → statement M
 provision-lines-spec =

@@ -1,8 +1,5 @@
 -- `begun` meets its contract: the next generation's promise goes into the life's.
-use mathlib.Core.Path.{ap, _∙_}
 use borrow.Author.Needs.{needs}
-use Rattle.rules.specs.declared.Root.the-variants.{Unissued}
-use Rattle.memory.specs.Lives.{changedLife}
 use Rattle.memory.proofs.Life.begun.Statement.{statement}
 use Rattle.memory.proofs.Life.begun.Tie as tie
 
@@ -13,9 +10,7 @@ changed-requires : tie.Need-changed-requires
 changed-requires c κs = search needs
 
 returns : tie.Need-returns
-returns c =
-    let a = c .before .before .args in
-    c .changed .ensures ∙ ap (λ g. changedLife (a .self) (a .phase) (a .self .retired) g Unissued) (c .before .next .ensures)
+returns c = simp (c .changed .ensures, c .before .next .ensures)
 
 pub begun-spec : {M : Type 1} → statement M
 begun-spec = tie.close (tie.spec next-requires changed-requires returns)

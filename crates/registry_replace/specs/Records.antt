@@ -1,4 +1,4 @@
--- A recipe, what a replacement makes of it, and whether a count of them fits.
+-- A record of revision and payload, what a replacement makes of it, and whether a count of them fits.
 use Prim.Native.Nat.{ℕ, _+_, _-_, _≤_}
 use native.Mathlib.Omega.{arith}
 use mathlib.Core.Path.{_≡_, sym, _∙_}
@@ -10,22 +10,22 @@ use Rattle.rules.specs.Basics.{pick, last}
 use Rattle.rules.specs.Refusals.{number, Exhausted}
 use Rattle.rules.specs.Laws.Tests.{by-test}
 use Rattle.memory.specs.declared.Life.{Life}
-use Rattle.registry_replace.specs.declared.Recipe.{Recipe}
+use Rattle.registry_replace.specs.declared.PayloadRecord.{PayloadRecord}
 use Rattle.registry_replace.specs.declared.Change.{Change}
 use Rattle.registry_replace.specs.declared.Replaced.the-variants.{Former, Refused}
 
 -- At the last revision nothing changes; else the former payload is answered.
-abbrev pub changeOf : Recipe → ℕ → Change
+abbrev pub changeOf : PayloadRecord → ℕ → Change
 changeOf r v =
     pick (eqb (r .revision) last)
-    (record { recipe = r; answer = Refused (number Exhausted) v })
-    (record { recipe = record { revision = r .revision + 1; payload = v }; answer = Former (r .payload) })
+    (record { next = r; answer = Refused (number Exhausted) v })
+    (record { next = record { revision = r .revision + 1; payload = v }; answer = Former (r .payload) })
 
-module _ (r : Recipe) (v : ℕ) where
-  pub change-last : r .revision ≡ last → changeOf r v ≡ record { recipe = r; answer = Refused (number Exhausted) v }
+module _ (r : PayloadRecord) (v : ℕ) where
+  pub change-last : r .revision ≡ last → changeOf r v ≡ record { next = r; answer = Refused (number Exhausted) v }
   change-last t = rw (eq-eqb (r .revision) last t)
 
-  pub change-next : r .revision ≢ last → changeOf r v ≡ record { recipe = record { revision = r .revision + 1; payload = v }; answer = Former (r .payload) }
+  pub change-next : r .revision ≢ last → changeOf r v ≡ record { next = record { revision = r .revision + 1; payload = v }; answer = Former (r .payload) }
   change-next n = rw (ne-eqb (r .revision) last n)
 
   -- what the answer says of the revision
@@ -35,8 +35,8 @@ module _ (r : Recipe) (v : ℕ) where
   pub not-last : (p : ℕ) → changeOf r v .answer ≡ Former p → eqb (r .revision) last ≡ false
   not-last p a = by-test (eqb (r .revision) last) (λ t. let g : Refused (number Exhausted) v ≡ Former p = rw t at a in cc) (λ f. f)
 
-abbrev pub recipeOf : Life → Recipe
-recipeOf l = record { revision = l .revision; payload = l .payload }
+abbrev pub recordOf : Life → PayloadRecord
+recordOf l = record { revision = l .revision; payload = l .payload }
 
 -- a count fits behind a revision: no more than the revisions that are left
 abbrev pub fitsBehind : ℕ → ℕ → Bool
