@@ -3,3 +3,4 @@ pub mod Values
 pub mod Told
 pub mod Said
 pub mod Written
+pub mod Bytes
