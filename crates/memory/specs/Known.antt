@@ -10,7 +10,7 @@ use borrow.Author.Tests.{eqb-true}
 use Rattle.rules.specs.Holds.{Plugin, lookup}
 use Rattle.rules.specs.Generations.{generationOf}
 use Rattle.rules.specs.Refusals.{Unknown}
-use Rattle.rules.specs.Outcomes.{Outcome, refuses, stores, found, known, after, answers, writes, adds, removes}
+use Rattle.rules.specs.Outcomes.{Outcome, refuses, stores, found, known, after}
 use Rattle.memory.specs.Layout.{taken, memoryWords, places}
 use Rattle.memory.specs.View.{lifeAt, pluginAt, view}
 use Rattle.memory.specs.Writes.{findAt, putLife}

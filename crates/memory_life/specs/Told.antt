@@ -3,7 +3,7 @@ use Prim.Native.Nat.{ℕ, _%_}
 use mathlib.Core.Path.{_≡_, sym, ap, _∙_}
 use mathlib.Core.List.{List}
 use Rattle.rules.specs.Refusals.{Refusal, number}
-use Rattle.rules.specs.Outcomes.{Answer, Refused, Accepted, Outcome, refuses, answers, stores, Meets}
+use Rattle.rules.specs.Outcomes.{Refused, Accepted, Outcome, refuses, answers, stores, Meets}
 use Rattle.memory.specs.Ways.{leftBy, meets-refused}
 use Rattle.memory.specs.View.{lifeAt, pluginAt}
 use Rattle.memory.specs.Writes.{findAt, putLife}

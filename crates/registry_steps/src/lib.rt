@@ -1,5 +1,4 @@
 // Document 01, "Phases": each step looks the id up once, and the table of phases and steps says where it leads.
-ghost use mathlib.Core.Path.{_≡_};
 ghost use Rattle.rules.specs.Outcomes.{Meets};
 ghost use Rattle.rules.specs.Phases.{begin, fail, unload};
 ghost use Rattle.rules.specs.Answers.{doneAnswer};

@@ -73,7 +73,8 @@ fn life_lines(text: &mut [u8], at: usize, life: Life) -> usize
 
 // A count, and a line for each port.
 fn ports_lines(text: &mut [u8], at: usize, plural: &[u8], name: &[u8], ports: &[u64]) -> usize
-    ensures { λ r. ⌜ Laid (portsLines (now (plural .entry)) (now (name .entry)) (pairs (now (ports .entry)))) at (now (text .entry)) (now (text .exit)) r ⌝ }
+    ensures { λ r. ⌜ Laid (portsLines (now (plural .entry)) (now (name .entry)) (pairs (now (ports .entry)))) at
+        (now (text .entry)) (now (text .exit)) r ⌝ }
 {
     let behind = text_lines::number_line(text, at, plural, (ports.len() / 2) as u64);
     text_lines::port_lines(text, behind, name, ports)
@@ -111,7 +112,8 @@ fn provision_line(
     key: u64,
     realm: u64,
 ) -> usize
-    ensures { λ r. ⌜ Laid (provisionLine key realm (valueAt (now (m .entry)) (place % places) (provision % maxProvisionKeys))) at (now (text .entry)) (now (text .exit)) r ⌝ }
+    ensures { λ r. ⌜ Laid (provisionLine key realm (valueAt (now (m .entry)) (place % places) (provision % maxProvisionKeys))) at
+        (now (text .entry)) (now (text .exit)) r ⌝ }
 {
     text_lines::triple_line(
         text,

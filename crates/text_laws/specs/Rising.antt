@@ -21,8 +21,6 @@ use Rattle.rules.specs.Laws.Lowest.{Registered, Lowest, id-lowest, none-below}
 use Rattle.rules.specs.Laws.Once.{found-once}
 use Rattle.rules.specs.Laws.Tests.{by-test, neither}
 use Rattle.rules.specs.Text.{insert, byId}
--- No law of the order before the examples: another order falls to a computed line first.
-use Rattle.rules.specs.TextExamples as example
 
 -- The first plugin of an id, as `lookup` finds it.
 abbrev pub ofId : ℕ → List Plugin → Option Plugin
