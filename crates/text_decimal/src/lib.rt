@@ -12,35 +12,48 @@ pub enum Decimal {
     Not,
 }
 
-// How many digits a number has: one more for each power of ten that it reaches.
-fn digit_count(n: u64) -> usize
+// How many digits a number has: four for each time that it is divided by 10,000, and those of what is left.
+pub fn digit_count(n: u64) -> usize
     ensures { λ r. ⌜ r ≡ length (decimalOf n) ⌝ }
 {
-    let mut count: usize = 1;
-    let mut power: u64 = 10;
-    while count < 19 {
-        if n < power {
-            return count;
-        }
-        power *= 10;
-        count += 1;
+    let mut left = n;
+    let mut count: usize = 0;
+    while 10000 <= left {
+        left /= 10000;
+        count += 4;
     }
-    if n < power { 19 } else { 20 }
+    if left < 10 {
+        return count + 1;
+    }
+    if left < 100 {
+        return count + 2;
+    }
+    if left < 1000 {
+        return count + 3;
+    }
+    count + 4
 }
 
-// The digits of the number, so many, at the front of the scratch, from the last to the first.
+// The digits of the number, so many, at the front of the scratch, from the last to the first, two for each division.
 fn fill(n: u64, count: usize, scratch: &mut [u8])
     requires { ⌜ count ≡ length (decimalOf n) ⌝ ∗ ⌜ count ≤ length (now scratch) ⌝ }
     ensures { λ _. ⌜ now (scratch .exit) ≡ over (decimalOf n) (now (scratch .entry)) ⌝ }
 {
     let mut left = n;
     let mut i = count - 1;
-    while 10 <= left {
-        scratch[i] = (48 + left % 10) as u8;
-        left /= 10;
-        i -= 1;
+    while 100 <= left {
+        let two = left % 100;
+        left /= 100;
+        scratch[i] = (48 + two % 10) as u8;
+        scratch[i - 1] = (48 + two / 10) as u8;
+        i -= 2;
     }
-    scratch[0] = (48 + left) as u8;
+    if left < 10 {
+        scratch[0] = (48 + left) as u8;
+        return;
+    }
+    scratch[1] = (48 + left % 10) as u8;
+    scratch[0] = (48 + left / 10) as u8;
 }
 
 // The number stands in decimal at the front of the scratch, whose rest stays. The result is how many bytes it takes. A scratch that
@@ -50,6 +63,10 @@ pub fn write_digits(n: u64, scratch: &mut [u8]) -> usize
 {
     if scratch.len() < 20 {
         return 0;
+    }
+    if n < 10 {
+        scratch[0] = (48 + n) as u8;
+        return 1;
     }
     let count = digit_count(n);
     fill(n, count, scratch);

@@ -6,7 +6,7 @@ use mathlib.Core.Logic.{_⊎_, inl, inr, ⊎-elim}
 use native.Mathlib.Nat.{pow-suc, one-le-pow, eq-zero-or-pos}
 use native.Mathlib.Numerals.{add-one}
 use native.Mathlib.Omega.{arith}
-use lib.ListN.{length, take, drop, set, length-append}
+use lib.ListN.{length, take, drop, set, length-append, length-set}
 use lib.Seq.{set-split, drop-at, take-at, length-take-le}
 use borrow.Author.Tests.{lt-ltb, le-ltb}
 use Rattle.text_form.specs.Digits.{digitsIn, decimalOf, over, shown, Written}
@@ -38,6 +38,20 @@ digits-more (suc n) h = rw (le-ltb (suc n) 10 h, enough n (suc n / 10) (suc n / 
 
 pub digits-length : (n : ℕ) → 10 ≤ n → length (decimalOf n) ≡ length (decimalOf (n / 10)) + 1
 digits-length n h = ap length (digits-more n h) ∙ length-append (decimalOf (n / 10)) ((48 + n % 10) ∷ [])
+
+pub digits-two : (n : ℕ) → 100 ≤ n → length (decimalOf n) ≡ length (decimalOf (n / 100)) + 2
+digits-two n h =
+    let e : n / 10 / 10 ≡ n / 100 = omega arith in
+    let a = digits-length n (omega arith) in
+    let b = digits-length (n / 10) (omega arith) in
+    rw (← e) (omega arith)
+
+pub digits-four : (n : ℕ) → 10000 ≤ n → length (decimalOf n) ≡ length (decimalOf (n / 10000)) + 4
+digits-four n h =
+    let e : n / 100 / 100 ≡ n / 10000 = omega arith in
+    let a = digits-two n (omega arith) in
+    let b = digits-two (n / 100) (omega arith) in
+    rw (← e) (omega arith)
 
 -- A number below 10 ^ (k + 1) has at most k + 1 digits.
 pub digits-most : (k n : ℕ) → n < 10 ^ suc k → length (decimalOf n) ≤ suc k
@@ -103,3 +117,21 @@ module _ (n : ℕ) (l : List ℕ) where
   -- The part that is handed back.
   pub written-part : (r : ℕ) (after : List ℕ) → Written n r l after → take r after ≡ shown n l
   written-part r after w = ap (λ (s : List ℕ). take r s) (w .bytes) ∙ take-at (shown n l) (drop (length (shown n l)) l) r (sym (w .count))
+
+-- The last two digits, from what is left of a division by 100.
+pub two-stored : (n : ℕ) (l : List ℕ) (i : ℕ) → 100 ≤ n → i + 1 ≡ length (decimalOf n) → i < length l → over (decimalOf n) l ≡ over (decimalOf (n / 100)) (set (set l i (48 + n % 100 % 10)) (i - 1) (48 + n % 100 / 10))
+two-stored n l i g e h =
+    let d : n / 10 / 10 ≡ n / 100 = omega arith in
+    let u : n % 10 ≡ n % 100 % 10 = omega arith in
+    let v : n / 10 % 10 ≡ n % 100 / 10 = omega arith in
+    let k = digits-length n (omega arith) in
+    let some = digits-some (n / 10) in
+    let last = digit-stored n l i (omega arith) e h in
+    let former = digit-stored (n / 10) (set l i (48 + n % 10)) (i - 1) (omega arith) (omega arith) (simp length-set (omega arith)) in
+    rw (← d, ← u, ← v) (last ∙ former)
+
+pub pair-stored : (n : ℕ) (l : List ℕ) → 10 ≤ n → n < 100 → 1 < length l → over (decimalOf n) l ≡ set (set l 1 (48 + n % 10)) 0 (48 + n / 10)
+pair-stored n l g b h =
+    let one = digits-length n g in
+    let first = ap length (digits-one (n / 10) (omega arith)) in
+    digit-stored n l 1 g (omega arith) h ∙ first-stored (n / 10) (set l 1 (48 + n % 10)) (omega arith) (simp length-set (omega arith))

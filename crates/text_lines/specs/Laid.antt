@@ -37,23 +37,20 @@ pub laid-past : (t : List ℕ) (at : ℕ) (l : List ℕ) → length t ≤ at →
 unfolding laid
 laid-past t at l h = sets-past t at l h
 
--- One byte more.
-module _ (t bytes : List ℕ) (p i : ℕ) where
-  pub laid-next : i < length bytes → laid t p (drop i bytes) ≡ laid (set t p (getD bytes i 0)) (p + 1) (drop (i + 1) bytes)
+-- From the first byte on, one byte more, and none left.
+module _ (t bytes : List ℕ) (at i : ℕ) where
+  pub laid-next : i < length bytes → laid t (at + i) (drop i bytes) ≡ laid (set t (at + i) (getD bytes i 0)) (at + (i + 1)) (drop (i + 1) bytes)
   unfolding laid
-  laid-next h = rw (add-one i, add-one p, drop-cons bytes i 0 h)
+  laid-next h =
+      let e : at + suc i ≡ suc (at + i) = omega arith in
+      rw (add-one i, e, drop-cons bytes i 0 h)
 
-  laid-end : length bytes ≤ i → laid t p (drop i bytes) ≡ t
+  pub laid-end : length bytes ≤ i → laid t (at + i) (drop i bytes) ≡ t
   unfolding laid
   laid-end h = rw (drop-of-length-le bytes h)
 
-  -- There is no byte left, or no place for it.
-  pub laid-done : (at : ℕ) → p ≡ at + i → length t ≤ last → min (min (at + length bytes) last) (length t) ≤ p → laid t p (drop i bytes) ≡ t
-  laid-done at e f h =
-      ⊎-elim
-      (λ (z : length bytes - i ≡ 0). laid-end (omega arith))
-      (λ (g : 0 < length bytes - i). laid-past t p (drop i bytes) (omega arith))
-      (eq-zero-or-pos (length bytes - i))
+pub laid-start : (t : List ℕ) (at : ℕ) (bytes : List ℕ) → laid t at bytes ≡ laid t (at + 0) (drop 0 bytes)
+laid-start t at bytes = let e : at + 0 ≡ at = omega arith in rw e
 
 pub laid-byte : (t : List ℕ) (at b : ℕ) → laid t at (b ∷ []) ≡ set t at b
 unfolding laid

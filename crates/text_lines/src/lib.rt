@@ -2,20 +2,15 @@
 // end go nowhere and count all the same: the same functions write a text, and on an empty one tell how long it is.
 ghost use mathlib.Core.Path.{_≡_};
 ghost use mathlib.Core.List.{[], _∷_, _++_};
-ghost use Prim.Native.Nat.{_+_, min};
+ghost use Prim.Native.Nat.{_+_, _≤_, min};
+ghost use lib.ListN.{length};
 ghost use Rattle.rules.specs.Basics.{last};
 ghost use Rattle.rules.specs.Answers.{optionOf};
 ghost use Rattle.rules.specs.Ports.{pairs};
-ghost use Rattle.text_lines.specs.Laid.{Laid};
+ghost use Rattle.text_lines.specs.Laid.{laid, Laid};
 ghost use Rattle.text_lines.specs.Lines.{ended, orNone, pair, triple, rootLines, portLines};
 use rules::Optional;
 use rules::Root;
-
-fn least(a: usize, b: usize) -> usize
-    ensures { λ r. ⌜ r ≡ min a b ⌝ }
-{
-    if a < b { a } else { b }
-}
 
 // The place so many bytes behind another, at most 2^64 − 1: no text reaches there.
 fn behind(at: usize, count: usize) -> usize
@@ -27,36 +22,69 @@ fn behind(at: usize, count: usize) -> usize
     at + count
 }
 
-pub fn put(text: &mut [u8], at: usize, bytes: &[u8]) -> usize
-    ensures { λ r. ⌜ Laid (now (bytes .entry)) at (now (text .entry)) (now (text .exit)) r ⌝ }
-{
-    let end = behind(at, bytes.len());
-    let stop = least(end, text.len());
-    let mut place = at;
-    let mut i: usize = 0;
-    while place < stop {
-        text[place] = bytes[i];
-        place += 1;
-        i += 1;
-    }
-    end
-}
-
+// One byte, if it has a place.
 fn put_byte(text: &mut [u8], at: usize, byte: u8) -> usize
     ensures { λ r. ⌜ Laid (byte ∷ []) at (now (text .entry)) (now (text .exit)) r ⌝ }
 {
     if at < text.len() {
         text[at] = byte;
+        return at + 1;
     }
     behind(at, 1)
 }
 
-// A number, and the byte that ends it.
+// All of the bytes, where each has a place. Their count is known where a name is put, so that the compiler stores it whole.
+fn put_whole(text: &mut [u8], at: usize, bytes: &[u8])
+    requires { ⌜ at + length (now bytes) ≤ length (now text) ⌝ }
+    ensures { λ _. ⌜ now (text .exit) ≡ laid (now (text .entry)) at (now (bytes .entry)) ⌝ }
+{
+    let mut i: usize = 0;
+    while i < bytes.len() {
+        text[at + i] = bytes[i];
+        i += 1;
+    }
+}
+
+// Each of the bytes that has a place.
+fn put_each(text: &mut [u8], at: usize, bytes: &[u8]) -> usize
+    ensures { λ r. ⌜ Laid (now (bytes .entry)) at (now (text .entry)) (now (text .exit)) r ⌝ }
+{
+    let mut place = at;
+    let mut i: usize = 0;
+    while i < bytes.len() {
+        place = put_byte(text, place, bytes[i]);
+        i += 1;
+    }
+    place
+}
+
+pub fn put(text: &mut [u8], at: usize, bytes: &[u8]) -> usize
+    ensures { λ r. ⌜ Laid (now (bytes .entry)) at (now (text .entry)) (now (text .exit)) r ⌝ }
+{
+    let end = behind(at, bytes.len());
+    if end < text.len() {
+        put_whole(text, at, bytes);
+        return end;
+    }
+    if text.len() <= at {
+        return end;
+    }
+    put_each(text, at, bytes)
+}
+
+// A number, and the byte that ends it. Past the text's end its digits are counted and not made.
 pub fn number(text: &mut [u8], at: usize, n: u64, end: u8) -> usize
     ensures { λ r. ⌜ Laid (ended n end) at (now (text .entry)) (now (text .exit)) r ⌝ }
 {
+    if text.len() <= at {
+        return behind(at, text_decimal::digit_count(n) + 1);
+    }
     let mut scratch = [0u8; 20];
     let digits = text_decimal::write_decimal(n, &mut scratch);
+    if digits.len() == 1 {
+        let place = put_byte(text, at, digits[0]);
+        return put_byte(text, place, end);
+    }
     let place = put(text, at, digits);
     put_byte(text, place, end)
 }
