@@ -1,23 +1,18 @@
--- Plugins by rising id: the order is strict, holds just what `lookup` finds, and is the only one that does. So a walk that asks for the
--- lowest id from a number on goes through it.
+-- Plugins by rising id: the order is strict, holds just what `lookup` finds, and is the only one that does.
 use Prim.Native.Nat.{ℕ, suc, _+_, _≤_, _<_}
 use native.Mathlib.Omega.{arith}
 use mathlib.Core.Path.{_≡_, refl, sym, ap, _∙_}
-use mathlib.Core.Bool.{true, false, true≢false}
+use mathlib.Core.Bool.{false}
 use mathlib.Core.List.{List, [], _∷_}
 use mathlib.Core.Option.{Option, none, some}
 use mathlib.Core.Logic.{_⊎_, inl, inr, ⊎-elim}
 use lib.Dec.{eqb, ltb}
 use lib.ListN.{length}
 use borrow.Author.Tests.{ltb-true, ltb-false, eqb-true, eqb-false, eq-eqb, ne-eqb}
-use Rattle.rules.specs.Basics.{pick, any, first, isSome, sum, twice}
+use Rattle.rules.specs.Basics.{pick, any, first, sum, twice}
 use Rattle.rules.specs.Holds.{Plugin, Registry, plugins, lookup, count}
-use Rattle.rules.specs.Outcomes.{Accepted, answerOf}
-use Rattle.rules.specs.Queries.{idFrom}
 use Rattle.rules.specs.Built.{Built, idsOf}
-use Rattle.rules.specs.Laws.Members.{In, first-in, lookup-in}
-use Rattle.rules.specs.Laws.Lookups.{lookup-id}
-use Rattle.rules.specs.Laws.Lowest.{Registered, Lowest, id-lowest, none-below}
+use Rattle.rules.specs.Laws.Members.{In, first-in}
 use Rattle.rules.specs.Laws.Once.{found-once}
 use Rattle.rules.specs.Laws.Tests.{by-test, neither}
 use Rattle.rules.specs.Text.{insert, byId}
@@ -167,12 +162,9 @@ by-id-found x (p ∷ l) =
 pub by-id-in : (p : Plugin) (l : List Plugin) → In p (byId l) → In p l
 by-id-in p l m = of-in (p .id) l p (sym (by-id-found (p .id) l) ∙ rising-found (byId l) p (by-id-rises l) m) .0
 
--- It is the only such list, so a list that rises stays as it is.
+-- It is the only such list.
 pub by-id-only : (k l : List Plugin) → Rises k → ((x : ℕ) → ofId x k ≡ ofId x l) → k ≡ byId l
 by-id-only k l h f = rising-same k (byId l) h (by-id-rises l) (λ x. f x ∙ sym (by-id-found x l))
-
-pub by-id-kept : (l : List Plugin) → Rises l → byId l ≡ l
-by-id-kept l h = sym (by-id-only l l h (λ x. refl))
 
 -- No sum over it is greater.
 insert-sum : (f : Plugin → ℕ) (p : Plugin) (l : List Plugin) → sum f (insert p l) ≤ f p + sum f l
@@ -215,136 +207,6 @@ by-id-length (p ∷ l) e =
 
 pub by-id-all : (l : List Plugin) (p : Plugin) → twice (idsOf l) ≡ false → In p l → In p (byId l)
 by-id-all l p e m = of-in (p .id) (byId l) p (by-id-found (p .id) l ∙ found-once (λ (q : Plugin). q .id) l p e m) .0
-
--- A walk: the plugins from a number on, in that order.
-unfoldable pub from : ℕ → List Plugin → List Plugin
-from n [] = []
-from n (p ∷ l) = pick (ltb (p .id) n) (from n l) (p ∷ from n l)
-
-from-in : (n : ℕ) (l : List Plugin) (p : Plugin) → In p (from n l) → In p l × (n ≤ p .id)
-unfolding from
-from-in n (q ∷ l) p m =
-    let more = from-in n l p in
-    by-test (ltb (q .id) n)
-    (λ y. let w = more (rw y at m) in (inr (w .0), w .1))
-    (λ f.
-    let a = ltb-false (q .id) n f in
-    go a more (rw f at m))
-  where
-    go : n ≤ q .id → (In p (from n l) → In p l × (n ≤ p .id)) → In p (q ∷ from n l) → In p (q ∷ l) × (n ≤ p .id)
-    go a more (inl e) = let i : q .id ≡ p .id = ap (λ (x : Plugin). x .id) e in (inl e, omega arith)
-    go a more (inr w) = let v = more w in (inr (v .0), v .1)
-
-from-rises : (n : ℕ) (l : List Plugin) → Rises l → Rises (from n l)
-unfolding from
-from-rises n [] h = tt
-from-rises n (p ∷ l) h =
-    let more = from-rises n l (h .1) in
-    by-test (ltb (p .id) n) (λ y. rw y more) (λ f. rw f (λ q m. h .0 q (from-in n l q m .0), more))
-
-from-found : (n x : ℕ) (l : List Plugin) → n ≤ x → ofId x (from n l) ≡ ofId x l
-unfolding from
-from-found n x [] a = refl
-from-found n x (p ∷ l) a =
-    let more = from-found n x l a in
-    by-test (ltb (p .id) n)
-    (λ y. let b = ltb-true (p .id) n y in rw y (more ∙ sym (of-other x p l (λ e. omega arith))))
-    (λ f. rw f (rw more))
-
-from-below : (n x : ℕ) (l : List Plugin) → x < n → ofId x (from n l) ≡ none
-from-below n x l a = of-above x (from n l) (λ q m. let b = from-in n l q m .1 in omega arith)
-
-module _ (r : Registry) where
-  -- What the text still has to say from a number on.
-  unfoldable pub restFrom : ℕ → List Plugin
-  restFrom n = from n (byId (plugins r))
-
-  rest-found : (n x : ℕ) → n ≤ x → ofId x (restFrom n) ≡ lookup r x
-  unfolding restFrom lookup
-  rest-found n x a = from-found n x (byId (plugins r)) a ∙ by-id-found x (plugins r)
-
-  rest-below : (n x : ℕ) → x < n → ofId x (restFrom n) ≡ none
-  unfolding restFrom
-  rest-below n x a = from-below n x (byId (plugins r)) a
-
-  rest-rises : (n : ℕ) → Rises (restFrom n)
-  unfolding restFrom
-  rest-rises n = from-rises n (byId (plugins r)) (by-id-rises (plugins r))
-
-  rest-above : (n : ℕ) (q : Plugin) → In q (restFrom n) → n ≤ q .id
-  unfolding restFrom
-  rest-above n q m = from-in n (byId (plugins r)) q m .1
-
-  unregistered : (x : ℕ) → (Registered r x → ⊥) → lookup r x ≡ none
-  unregistered x h = go (lookup r x) refl
-    where
-      go : (o : Option Plugin) → lookup r x ≡ o → o ≡ none
-      go none e = refl
-      go (some p) e = absurd (h (ap isSome e))
-
-  pub rest-all : restFrom 0 ≡ byId (plugins r)
-  unfolding lookup
-  rest-all = by-id-only (restFrom 0) (plugins r) (rest-rises 0) (λ x. rest-found 0 x (omega arith))
-
-  module _ (n : ℕ) where
-    -- There is a plugin of the lowest id, it comes next, and behind it the rest from the id after.
-    lowest : (x : ℕ) → answerOf (idFrom r n) ≡ Accepted (x ∷ []) → Lowest (Registered r) n x
-    unfolding idFrom
-    lowest x e = id-lowest r n x (cc)
-
-    pub next-registered : (x : ℕ) → answerOf (idFrom r n) ≡ Accepted (x ∷ []) → Registered r x
-    next-registered x e = lowest x e .one-of
-
-    pub rest-next : (x : ℕ) (p : Plugin) → answerOf (idFrom r n) ≡ Accepted (x ∷ []) → lookup r x ≡ some p → restFrom n ≡ p ∷ restFrom (x + 1)
-    rest-next x p e h =
-        rising-same (restFrom n) (p ∷ restFrom (x + 1)) (rest-rises n)
-        (λ q m. let a = rest-above (x + 1) q m in omega (arith, i), rest-rises (x + 1))
-        found
-      where
-        w : Lowest (Registered r) n x
-        w = lowest x e
-
-        i : p .id ≡ x
-        i = lookup-id r x p h
-
-        low : (y : ℕ) → y < x → ofId y (restFrom n) ≡ none
-        low y b =
-            by-test (ltb y n)
-            (λ t. rest-below n y (ltb-true y n t))
-            (λ f. let a = ltb-false y n f in rest-found n y a ∙ unregistered y (λ g. let c = w .least y g a in omega arith))
-
-        found : (y : ℕ) → ofId y (restFrom n) ≡ ofId y (p ∷ restFrom (x + 1))
-        found y =
-            by-test (ltb y x)
-            (λ t. let b = ltb-true y x t in low y b ∙ sym (of-other y p (restFrom (x + 1)) (λ j. omega (arith, i)) ∙ rest-below (x + 1) y (omega arith)))
-            (λ f.
-            let b = ltb-false y x f in
-            let a : n ≤ y = omega (arith, w .from) in
-            rest-found n y a ∙ by-test (eqb x y)
-            (λ t. let j = eqb-true x y t in ap (lookup r) (sym j) ∙ h ∙ sym (of-first y p (restFrom (x + 1)) (i ∙ j)))
-            (λ g.
-            let j = eqb-false x y g in
-            sym (of-other y p (restFrom (x + 1)) (λ k. j (sym i ∙ k)) ∙ rest-found (x + 1) y (omega (arith, j)))))
-
-    -- Nothing is left where there is no id from the number on.
-    rest-none : ((y : ℕ) → Registered r y → y < n) → restFrom n ≡ []
-    rest-none h =
-        rising-same (restFrom n) [] (rest-rises n) tt
-        (λ y.
-        by-test (ltb y n)
-        (λ t. rest-below n y (ltb-true y n t))
-        (λ f. let a = ltb-false y n f in rest-found n y a ∙ unregistered y (λ g. let b = h y g in omega arith)))
-
-    pub rest-end : answerOf (idFrom r n) ≡ Accepted [] → restFrom n ≡ []
-    unfolding idFrom
-    rest-end e = rest-none (none-below r n (cc))
-
-    pub rest-past : ((p : Plugin) → In p (plugins r) → p .id < n) → restFrom n ≡ []
-    rest-past h = rest-none (λ y g. go y (lookup r y) refl g)
-      where
-        go : (y : ℕ) (o : Option Plugin) → lookup r y ≡ o → isSome o ≡ true → y < n
-        go y none e g = absurd (true≢false (sym g))
-        go y (some p) e g = let a = h p (lookup-in r y p e) in let i = lookup-id r y p e in omega arith
 
 -- On a built registry: every registered plugin once, by strictly rising id, and the count is the registered count.
 pub record InOrder (r : Registry) : Type 0 where

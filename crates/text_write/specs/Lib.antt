@@ -1,2 +1,3 @@
+pub mod Order
 pub mod Written
 pub mod Numbers

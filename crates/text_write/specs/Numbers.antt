@@ -1,5 +1,5 @@
 -- Words are numbers of at most 2^64 − 1, so what they say has a text, and that is short.
-use Prim.Native.Nat.{ℕ, zero, suc, _+_, _*_, _/_, _%_, _^_, _≤_, _<_}
+use Prim.Native.Nat.{ℕ, zero, suc, _+_, _*_, _/_, _%_, _^_, _≤_}
 use Prim.Native.String.{String}
 use native.Mathlib.Omega.{arith}
 use mathlib.Core.Path.{_≡_, refl, subst}
@@ -18,7 +18,6 @@ use Rattle.rules.specs.Text.{block, text, said, textOf}
 use Rattle.text_form.specs.Forms.{FitAll}
 use Rattle.text_form.specs.Lines.{line, numberOrNone}
 use Rattle.text_laws.specs.Fit.{text-fits}
-use Rattle.text_laws.specs.Rising.{restFrom, rest-past}
 use Rattle.text_laws.specs.Sizes.{Lists, any-text, text-most, rows-most, held-most}
 use Rattle.memory.specs.Layout.{word, taken, startAt, depsAt, provsAt, realmsAt, rowWord, anchorWord, part, provPart, realmPart, depPart, placeWords, maskWord, valuesWord, idWord, tagWord, parentWord, generationWord, revisionWord, payloadWord, rootWord, rootRevisionWord, rootArgumentWord, realmRowsWord}
 use Rattle.memory.specs.View.{parentOf, rootOf, lifeAt, decoded, valueAt, valued, pluginAt, placeAt, placesFrom, view}
@@ -144,7 +143,7 @@ module _ (m : List ℕ) (i : ℕ) where
 
 -- On any words there are no more plugins and rows than this.
 module _ (m : List ℕ) where
-  pub all-places : length (view m .places) ≡ 32
+  all-places : length (view m .places) ≡ 32
   unfolding view placesFrom
   all-places = refl
 
@@ -174,11 +173,3 @@ module _ (m : List ℕ) (h : Small m) where
 
   pub words-most : length (textOf (view m)) ≤ 110 + 1399 * count (view m) + 46 * rowsInUse (view m)
   words-most = text-most (view m) words-fit (view-all m Lists (lists-few m))
-
-  below : (i : ℕ) → pluginAt m i .id < last + 1
-  unfolding pluginAt
-  below i = omega (arith, h (i * placeWords + idWord))
-
-  -- No id is above the last number.
-  pub last-rest : restFrom (view m) (last + 1) ≡ []
-  last-rest = rest-past (view m) (last + 1) (view-all m (λ p. p .id < last + 1) below)
