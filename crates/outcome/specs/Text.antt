@@ -7,8 +7,11 @@ use Rattle.text_lines.proofs as text_lines
 use Rattle.text_block.proofs as text_block
 use Rattle.text_write.proofs as text_write
 use Rattle.outcome.specs.One.{One, OneSeen}
-use Rattle.outcome.specs.Equations.{answer-alone, one-outcome, one-with-memory}
+use Rattle.outcome.specs.Equations.{answer-alone, by-equation, one-outcome, one-with-memory}
 use Rattle.outcome.specs.Records.{laid-one, written-one}
+
+pub text-decimal-digit-count : One text_decimal.«digit_count».ended text_decimal.«digit_count».Reads.Learnt
+text-decimal-digit-count κs a r s ms ns p q = by-equation p q
 
 pub text-decimal-write-digits : One text_decimal.«write_digits».ended text_decimal.«write_digits».Reads.Learnt
 text-decimal-write-digits κs a r s ms ns p q = written-one p q
