@@ -5,7 +5,7 @@ use mathlib.Core.Logic.{_≢_}
 use mathlib.Core.List.{List}
 use Rattle.rules.specs.Basics.{last}
 use Rattle.rules.specs.Refusals.{number-within}
-use Rattle.rules.specs.Outcomes.{Outcome, refuses, answers, writes, stores, adds, removes, answerOf}
+use Rattle.rules.specs.Outcomes.{Outcome, tells, refusing, accepting, writes, stores, adds, removes, answerOf}
 use Rattle.rules.specs.Steps.{Op, step}
 use Rattle.memory.specs.View.{view}
 use Rattle.host_answers.specs.Told.{statusOf}
@@ -14,8 +14,8 @@ use Rattle.host.specs.Tells.{answer}
 -- a status is a refusal's number, or 0
 status-within : (u : Outcome) → statusOf (answerOf u) ≤ 23
 unfolding statusOf
-status-within (refuses x vs) = number-within x .1
-status-within (answers vs) = omega arith
+status-within (tells (refusing x vs)) = number-within x .1
+status-within (tells (accepting vs)) = omega arith
 status-within (writes place l vs) = omega arith
 status-within (stores p vs) = omega arith
 status-within (adds p vs) = omega arith

@@ -5,6 +5,7 @@ use mathlib.Core.List.{List, [], _∷_}
 use mathlib.Core.Option.{Option, none, some}
 use lib.ListN.{getD}
 use Rattle.rules.specs.Registration.{Definition}
+use Rattle.rules.specs.Queries.{RowsInUse, Registered, NextId}
 use Rattle.rules.specs.Steps.{Write}
 use Rattle.rules.specs.Questions.{Listed}
 use Rattle.host.specs.Tells.{answer}
@@ -23,10 +24,13 @@ use Rattle.console_show.specs.Spoken.{lineOn, spokenOn}
 use Rattle.console_operations.specs.Asked.{whichOf}
 use Rattle.console_register.specs.Registrations.{registration}
 use Rattle.console_line.specs.Lines.{lineEnd, bad, listed, askedLine, numbersLine, registerLine}
+use Rattle.console_meaning.specs.Values.{Brief, register-brief, begin-brief, replace-brief, fits-brief, admit-brief, call-brief, child-brief, read-brief}
+use Rattle.console_meaning.specs.Values.{visible-brief, missing-brief, matches-brief, declares-brief, lookup-brief, resolve-brief, total-brief, listed-brief}
 use Rattle.console_meaning.specs.Values.{Silent, ready-silent, fail-silent, unload-silent, finish-silent}
 use Rattle.console_meaning.specs.Values.{retire-silent, retire-child-silent, remove-silent, offer-silent}
 use Rattle.console_meaning.specs.Told.{said, silent}
 
+infixr 20 _&_
 -- What the line of a thing asked for says: that it is bad, that a registry is opened, or the rules' answer.
 abbrev pub saidOf : Page → List ℕ → Values → Asked → Page
 saidOf p m v Bad = bad p
@@ -34,12 +38,12 @@ saidOf p m v (Open domain first) = lineEnd (putOn p okWord)
 saidOf p m v (Stated o) = lineEnd (lineOn p v (answer m o))
 saidOf p m v (Told o) = lineEnd (lineOn p v (answer m o))
 
--- A registry is opened with no values, and what is only stated answers no number.
+-- A registry is opened with no values, what is only stated answers no number, and what is told six at most.
 abbrev pub Plain : Values → Asked → Type 0
 Plain v Bad = Unit {0}
 Plain v (Open domain first) = v ≡ Nothing
 Plain v (Stated o) = Silent o
-Plain v (Told o) = Unit {0}
+Plain v (Told o) = Brief o
 
 open-said : (p : Page) (m : List ℕ) (domain first : ℕ) → askedLine p m Nothing (Open domain first) ≡ lineEnd (putOn p okWord)
 unfolding spokenOn numbersOn
@@ -54,7 +58,7 @@ pub plainly : (p : Page) (m : List ℕ) (v : Values) (a : Asked) → Plain v a �
 plainly p m v Bad h = bad-said p m v
 plainly p m v (Open domain first) h = rw h (open-said p m domain first)
 plainly p m v (Stated o) h = silent p m v o h
-plainly p m v (Told o) h = said p m v o
+plainly p m v (Told o) h = said p m v o h
 
 -- The values that a row says of an acceptance.
 abbrev pub valuesBy : Row → Values
@@ -67,12 +71,16 @@ valuesBy (Takes count (Registry v)) = v
 valuesBy (Takes count Text) = Numbers
 valuesBy Unknown = Nothing
 
--- What is to be shown of a row, beside that of the others: nothing where numbers are told.
+-- What is to be shown of a row, beside that of the others: nothing where nothing is asked for.
 abbrev Shown : Values → Asked → Type 0 → Type 0
 Shown v Bad N = N
 Shown v (Open domain first) N = (v ≡ Nothing) × N
 Shown v (Stated o) N = Silent o × N
-Shown v (Told o) N = N
+Shown v (Told o) N = Brief o × N
+
+-- a fact, and those of the rows behind
+_&_ : {A B : Type 0} → A → B → A × B
+a & b = (a, b)
 
 abbrev ShownRows : List ℕ → List Operation → Type 0
 ShownRows l [] = Unit {0}
@@ -82,38 +90,52 @@ shown-plain : (v : Values) (a : Asked) (N : Type 0) → Shown v a N → Plain v 
 shown-plain v Bad N h = (tt, h)
 shown-plain v (Open domain first) N h = h
 shown-plain v (Stated o) N h = h
-shown-plain v (Told o) N h = (tt, h)
+shown-plain v (Told o) N h = h
 
 plain-in : (l : List ℕ) (os : List Operation) → ShownRows l os → (place : ℕ) → Plain (valuesBy (getD os place unknown .row)) (getD os place unknown .asks l)
 plain-in l [] h place = tt
 plain-in l (o ∷ os) h zero = shown-plain (valuesBy (o .row)) (o .asks l) (ShownRows l os) h .0
 plain-in l (o ∷ os) h (suc place) = plain-in l os (shown-plain (valuesBy (o .row)) (o .asks l) (ShownRows l os) h .1) place
 
--- Plain is all that a line of numbers asks for: a fact for each row that says nothing behind `ok`, in the table's order,
+-- a fact for each row that asks for something, in the table's order
+shown : (l : List ℕ) → ShownRows l operations
+shown l =
+    refl
+    & begin-brief _
+    & ready-silent _
+    & fail-silent _
+    & unload-silent _
+    & finish-silent _
+    & replace-brief _ _
+    & fits-brief _ _
+    & admit-brief _ _
+    & call-brief _
+    & retire-silent _
+    & retire-child-silent _
+    & remove-silent _
+    & child-brief _
+    & offer-silent _ _ _
+    & read-brief _ _
+    & visible-brief _
+    & missing-brief _
+    & matches-brief _ _
+    & declares-brief _ _
+    & lookup-brief _ _
+    & resolve-brief _ _
+    & total-brief RowsInUse
+    & total-brief Registered
+    & total-brief NextId
+    & tt
+
+-- Plain is all that a line of numbers asks for,
 pub plain-asked : (place : ℕ) (l : List ℕ) → Plain (valuesBy (rowAt place)) (askedAt place l)
 unfolding operationAt
-plain-asked place l =
-    plain-in l operations (
-      refl,
-      (
-        ready-silent _,
-        (
-          fail-silent _,
-          (
-            unload-silent _,
-            (
-              finish-silent _,
-              (retire-silent _, (retire-child-silent _, (remove-silent _, (offer-silent _ _ _, tt)))),
-            ),
-          ),
-        ),
-      ),
-    ) place
+plain-asked place l = plain-in l operations (shown l) place
 
 -- .. and a registration.
 pub plain-registration : (v : Values) (d : Option Definition) → Plain v (registration d)
 plain-registration v none = tt
-plain-registration v (some d) = tt
+plain-registration v (some d) = register-brief d
 
 module _ (p : Page) (m : List ℕ) where
   -- A line of numbers says the rules' answer, with the row's values;
@@ -128,4 +150,4 @@ module _ (p : Page) (m : List ℕ) where
   -- and the line of a listing.
   pub listed-said : (buffer : List ℕ) (held : Held) (l : List ℕ)
       → listed p m buffer held l .page ≡ lineEnd (lineOn p Numbers (answer m (Write (Listed (whichOf held) (first l) (second l)) buffer)))
-  listed-said buffer held l = said p m Numbers (Write (Listed (whichOf held) (first l) (second l)) buffer)
+  listed-said buffer held l = said p m Numbers (Write (Listed (whichOf held) (first l) (second l)) buffer) (listed-brief _ _ _ _)

@@ -9,24 +9,23 @@ use lib.Dec.{eqb}
 use lib.ListN.{length}
 use Rattle.rules.specs.Basics.{pick, isNone, one}
 use Rattle.rules.specs.declared.Port.{Port}
-use Rattle.rules.specs.Holds.{Plugin, Provision, Registry, plugins, lookup, provider, isActive}
-use Rattle.rules.specs.Outcomes.{Outcome, refuses, answers, writes, stores, adds, removes, answerOf, Check, checked, known, handingBack}
+use Rattle.rules.specs.Holds.{Plugin, Provision, Registry, lookup, provider, isActive}
+use Rattle.rules.specs.Outcomes.{Outcome, tells, refusing, accepting, writes, stores, adds, removes, answerOf, Check, checked, known, handingBack}
 use Rattle.rules.specs.Ports.{flat, resolveKey}
 use Rattle.rules.specs.Dependencies.{firstPort, dependencyPort}
-use Rattle.rules.specs.Registration.{register}
+use Rattle.rules.specs.Registration.{Definition, register}
 use Rattle.rules.specs.Phases.{begin, ready, fail, unload, finish}
 use Rattle.rules.specs.Replacement.{replace, fits}
-use Rattle.rules.specs.Admission.{admit, admits, call}
+use Rattle.rules.specs.Admission.{Ticket, Invocation, admit, call}
 use Rattle.rules.specs.Retirement.{Identity, retireFound, retire, retireChild, identity, childIdentity, remove}
-use Rattle.rules.specs.Values.{valueIn, given, served, seen, firstMissing, offer, read, visible, own, missing, matching, declares}
-use Rattle.rules.specs.Lists.{listing, list}
-use Rattle.rules.specs.Text.{writeText}
-use Rattle.rules.specs.Queries.{Field, fieldOf, askPlugin, lowestFrom, idFrom}
+use Rattle.rules.specs.Values.{valueIn, given, served, seen, firstMissing, offer, read, visible, missing, matching, declares}
+use Rattle.rules.specs.Lists.{Which, listing, list}
+use Rattle.rules.specs.Queries.{Total}
 use Rattle.rules.specs.Steps.{Op, answerTo, Register, Begin, Ready, Fail, Unload, Finish, Replace, Admit, Call, Retire, RetireChild, Remove, Offer, Ask, Write}
-use Rattle.rules.specs.Questions.{ResolveKey, DependencyPort, Fits, Admits, ChildIdentity, Read, Visible, Own, FirstMissing, Matching, Declares, Listed, AskPlugin, AskRegistry, IdFrom, Text}
+use Rattle.rules.specs.Questions.{ResolveKey, DependencyPort, Fits, ChildIdentity, Read, Visible, FirstMissing, Matching, Declares, AskRegistry, Listed}
 use Rattle.rules.specs.Laws.Tests.{checked-elim, found-elim}
 use Rattle.console_show.specs.Shown.{valuesOf}
-use Rattle.console_show.specs.Told.{one-fits, field-fits}
+use Rattle.console_show.specs.Told.{one-fits}
 
 -- The numbers that an outcome answers.
 abbrev pub saying : Outcome → List ℕ
@@ -61,8 +60,8 @@ few-known = of-known Few (omega arith)
 -- a refusal hands one number back
 few-handed : (v : ℕ) (u : Outcome) → Few (saying u) → Few (saying (handingBack v u))
 unfolding handingBack
-few-handed v (refuses x vs) h = omega arith
-few-handed v (answers vs) h = h
+few-handed v (tells (refusing x vs)) h = omega arith
+few-handed v (tells (accepting vs)) h = h
 few-handed v (writes place l vs) h = h
 few-handed v (stores p vs) h = h
 few-handed v (adds p vs) h = h
@@ -71,11 +70,6 @@ few-handed v (removes id vs) h = h
 few-one : (u : Option ℕ) → Few (one u)
 few-one u =
     let h = one-fits u in
-    omega arith
-
-few-field : (f : Field) (p : Plugin) → Few (fieldOf f p)
-few-field f p =
-    let h = field-fits f p in
     omega arith
 
 few-first : (k : ℕ) (ps : List Port) → Few (firstPort k ps)
@@ -102,38 +96,72 @@ few-seen : (q : Port) (u : Option Plugin) → Few (seen q u)
 few-seen q none = omega arith
 few-seen q (some p) = few-picked (isActive (p .phase)) (one (valueIn q (p .provisions))) [] (few-one (valueIn q (p .provisions))) (omega arith)
 
--- No operation answers more than six numbers.
-pub few-values : (r : Registry) (o : Op) → length (valuesOf (answerTo r o)) ≤ 6
-unfolding resolveKey dependencyPort register begin ready fail unload finish replace fits admit admits call retire retireChild childIdentity remove offer read visible own missing matching declares listing list askPlugin idFrom writeText
-few-values r (Ask (ResolveKey realms key)) = few-checked _ _ (omega arith)
-few-values r (Ask (DependencyPort id key)) = few-known r id _ λ p. few-first key (p .dependencies)
-few-values r (Register d) = few-checked _ _ (omega arith)
-few-values r (Begin id) = few-known r id _ λ p. few-checked _ _ (omega arith)
-few-values r (Ready id) = few-known r id _ λ p. few-checked _ _ (omega arith)
-few-values r (Fail id) = few-known r id _ λ p. few-checked _ _ (omega arith)
-few-values r (Unload id) = few-known r id _ λ p. few-checked _ _ (omega arith)
-few-values r (Finish id) = few-known r id _ λ p. few-checked _ _ (omega arith)
-few-values r (Replace id payload) = few-handed payload _ (few-known r id _ λ p. few-checked _ _ (omega arith))
-few-values r (Ask (Fits id times)) = few-known r id _ λ p. omega arith
-few-values r (Admit t argument) = few-checked _ _ (few-known r (t .id) _ λ p. few-checked _ _ (omega arith))
-few-values r (Ask (Admits t)) = omega arith
-few-values r (Call t) = few-checked _ _ (few-known r (t .id) _ λ p. few-checked _ _ (omega arith))
-few-values r (Retire id) = few-known r id _ λ p. few-checked _ _ (omega arith)
-few-values r (RetireChild c) = few-checked _ _ (of-child Few (omega arith) (c .parent) (lookup r (c .id)))
-few-values r (Ask (ChildIdentity id)) = few-known r id _ λ p. few-identity (r .domain) id (p .parent)
-few-values r (Remove id) = few-known r id _ λ p. few-checked _ _ (omega arith)
-few-values r (Offer id q value) = few-known r id _ λ p. few-checked _ _ (omega arith)
-few-values r (Ask (Read id q)) = few-known r id _ λ p. few-checked _ _ (few-served q (provider r q))
-few-values r (Ask (Visible q)) = few-seen q (provider r q)
-few-values r (Ask (Own id q)) = few-known r id _ λ p. few-one (valueIn q (p .provisions))
-few-values r (Ask (FirstMissing id)) = few-known r id _ λ p. few-missing (p .provisions)
-few-values r (Ask (Matching id ports)) = few-known r id _ λ p. omega arith
-few-values r (Ask (Declares id q)) = few-known r id _ λ p. omega arith
-few-values r (Write (Listed w id place) buffer) = few-known r id _ λ p. few-checked _ _ (omega arith)
-few-values r (Write Text buffer) = few-checked _ _ (omega arith)
-few-values r (Ask (AskPlugin f id)) = few-known r id _ λ p. few-field f p
-few-values r (Ask (AskRegistry t)) = omega arith
-few-values r (Ask (IdFrom n)) = few-one (lowestFrom n (plugins r))
+-- The operation answers six numbers at most, whatever the registry.
+abbrev pub Brief : Op → Type 0
+Brief o = (r : Registry) → length (valuesOf (answerTo r o)) ≤ 6
+
+pub register-brief : (d : Definition) → Brief (Register d)
+unfolding register
+register-brief d r = few-checked _ _ (omega arith)
+
+pub begin-brief : (id : ℕ) → Brief (Begin id)
+unfolding begin
+begin-brief id r = few-known r id _ λ p. few-checked _ _ (omega arith)
+
+pub replace-brief : (id payload : ℕ) → Brief (Replace id payload)
+unfolding replace
+replace-brief id payload r = few-handed payload _ (few-known r id _ λ p. few-checked _ _ (omega arith))
+
+pub fits-brief : (id times : ℕ) → Brief (Ask (Fits id times))
+unfolding fits
+fits-brief id times r = few-known r id _ λ p. omega arith
+
+pub admit-brief : (t : Ticket) (argument : ℕ) → Brief (Admit t argument)
+unfolding admit
+admit-brief t argument r = few-checked _ _ (few-known r (t .id) _ λ p. few-checked _ _ (omega arith))
+
+pub call-brief : (t : Invocation) → Brief (Call t)
+unfolding call
+call-brief t r = few-checked _ _ (few-known r (t .id) _ λ p. few-checked _ _ (omega arith))
+
+pub child-brief : (id : ℕ) → Brief (Ask (ChildIdentity id))
+unfolding childIdentity
+child-brief id r = few-known r id _ λ p. few-identity (r .domain) id (p .parent)
+
+pub read-brief : (id : ℕ) (q : Port) → Brief (Ask (Read id q))
+unfolding read
+read-brief id q r = few-known r id _ λ p. few-checked _ _ (few-served q (provider r q))
+
+pub visible-brief : (q : Port) → Brief (Ask (Visible q))
+unfolding visible
+visible-brief q r = few-seen q (provider r q)
+
+pub missing-brief : (id : ℕ) → Brief (Ask (FirstMissing id))
+unfolding missing
+missing-brief id r = few-known r id _ λ p. few-missing (p .provisions)
+
+pub matches-brief : (id : ℕ) (ports : List ℕ) → Brief (Ask (Matching id ports))
+unfolding matching
+matches-brief id ports r = few-known r id _ λ p. omega arith
+
+pub declares-brief : (id : ℕ) (q : Port) → Brief (Ask (Declares id q))
+unfolding declares
+declares-brief id q r = few-known r id _ λ p. omega arith
+
+pub lookup-brief : (id key : ℕ) → Brief (Ask (DependencyPort id key))
+unfolding dependencyPort
+lookup-brief id key r = few-known r id _ λ p. few-first key (p .dependencies)
+
+pub resolve-brief : (realms : List ℕ) (key : ℕ) → Brief (Ask (ResolveKey realms key))
+unfolding resolveKey
+resolve-brief realms key r = few-checked _ _ (omega arith)
+
+pub total-brief : (t : Total) → Brief (Ask (AskRegistry t))
+total-brief t r = omega arith
+
+pub listed-brief : (w : Which) (id place : ℕ) (buffer : List ℕ) → Brief (Write (Listed w id place) buffer)
+unfolding list listing
+listed-brief w id place buffer r = few-known r id _ λ p. few-checked _ _ (omega arith)
 
 -- none at all
 abbrev Empty : List ℕ → Type 0

@@ -6,7 +6,9 @@ use mathlib.Core.Bool.{Bool, true, false}
 use mathlib.Core.List.{List, [], _∷_}
 use lib.Dec.{eqb, leb}
 use lib.ListN.{getD, drop}
+use Rattle.rules.specs.Holds as rules
 use Rattle.rules.specs.Holds.{port}
+use Rattle.rules.specs.Outcomes.{Outcome}
 use Rattle.rules.specs.Queries.{RowsInUse, Registered, NextId}
 use Rattle.rules.specs.Steps.{Op, Begin, Ready, Fail, Unload, Finish, Replace, Admit, Call, Retire, RetireChild, Remove, Offer, Ask}
 use Rattle.rules.specs.Questions.{Question, ResolveKey, DependencyPort, Fits, ChildIdentity, Read, Visible, FirstMissing, Matching, Declares, AskRegistry}
@@ -53,13 +55,13 @@ asking changes name count v f = record { name = name; row = Takes count (Registr
 abbrev pub step : String → ℕ → Values → (List ℕ → Op) → Operation
 step name n v f = asking true name (Exactly n) v (λ l. asked v (f l))
 
--- A question of so many numbers.
-abbrev pub ask : String → ℕ → Values → (List ℕ → Question) → Operation
-ask name n v f = asking false name (Exactly n) v (λ l. asked v (Ask (f l)))
+-- A question of so many numbers; f is what it comes to.
+abbrev pub ask : {k : ℕ} {f : List ℕ → rules.Registry → Outcome} → String → ℕ → Values → ((l : List ℕ) → Question k (f l)) → Operation
+ask name n v q = asking false name (Exactly n) v (λ l. asked v (Ask (q l)))
 
 -- The same, and then as many as wished.
-abbrev pub askMore : String → ℕ → Values → (List ℕ → Question) → Operation
-askMore name n v f = asking false name (AtLeast n) v (λ l. asked v (Ask (f l)))
+abbrev pub askMore : {k : ℕ} {f : List ℕ → rules.Registry → Outcome} → String → ℕ → Values → ((l : List ℕ) → Question k (f l)) → Operation
+askMore name n v q = asking false name (AtLeast n) v (λ l. asked v (Ask (q l)))
 
 -- An operation that is not the registry's alone.
 abbrev pub other : String → Row → Operation

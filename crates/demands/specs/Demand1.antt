@@ -5,7 +5,7 @@ use mathlib.Core.Path.{_≡_, refl, ap, _∙_}
 use mathlib.Core.List.{List}
 use mathlib.Core.Option.{Option, none, some}
 use Rattle.rules.specs.Refusals.{Refusal, number}
-use Rattle.rules.specs.Outcomes.{Refused, Outcome, refuses, answers, writes, stores, adds, removes, answerOf}
+use Rattle.rules.specs.Outcomes.{Refused, Outcome, tells, refusing, accepting, refuses, writes, stores, adds, removes, answerOf}
 use Rattle.rules.specs.Steps.{Op, step, answerTo, lent, lentAfterStep}
 use Rattle.rules.specs.Demand1.{refusal-changes-nothing}
 use Rattle.memory.specs.Ways.{Way, leftBy}
@@ -20,8 +20,8 @@ pub record IsRefusal (o : Outcome) (n : ℕ) : Type 0 where
   pub numbered : n ≡ number refusal
 
 refused : (o : Outcome) (n : ℕ) (vs : List ℕ) → answerOf o ≡ Refused n vs → IsRefusal o n
-refused (refuses x ws) n vs e = record { refusal = x; values = ws; outcome = refl; numbered = cc }
-refused (answers ws) n vs e = let z : _≡_ {A = ℕ} 0 1 = cc in absurd (omega arith)
+refused (tells (refusing x ws)) n vs e = record { refusal = x; values = ws; outcome = refl; numbered = cc }
+refused (tells (accepting ws)) n vs e = let z : _≡_ {A = ℕ} 0 1 = cc in absurd (omega arith)
 refused (writes place l ws) n vs e = let z : _≡_ {A = ℕ} 0 1 = cc in absurd (omega arith)
 refused (stores p ws) n vs e = let z : _≡_ {A = ℕ} 0 1 = cc in absurd (omega arith)
 refused (adds p ws) n vs e = let z : _≡_ {A = ℕ} 0 1 = cc in absurd (omega arith)

@@ -6,7 +6,7 @@ use mathlib.Core.List.{List}
 use lib.ListN.{length}
 use Rattle.rules.specs.Holds.{Plugin}
 use Rattle.rules.specs.Refusals.{Refusal, number}
-use Rattle.rules.specs.Outcomes.{Refused, Outcome, refuses, answers, writes, stores, adds, removes, Meets}
+use Rattle.rules.specs.Outcomes.{Refused, Outcome, tells, refuses, writes, stores, adds, removes, Meets}
 
 pub record Way : Type 0 where
   pub stored : List ℕ → Plugin → List ℕ
@@ -14,8 +14,7 @@ pub record Way : Type 0 where
   pub removed : List ℕ → ℕ → List ℕ
 
 unfoldable pub leftBy : Way → List ℕ → Outcome → List ℕ
-leftBy w m (refuses x vs) = m
-leftBy w m (answers vs) = m
+leftBy w m (tells a) = m
 leftBy w m (writes place l vs) = m
 leftBy w m (stores q vs) = w .stored m q
 leftBy w m (adds q vs) = w .added m q
@@ -39,8 +38,7 @@ pub record Sized (w : Way) : Type 0 where
 
 pub left-size : (w : Way) → Sized w → (m : List ℕ) (o : Outcome) → length (leftBy w m o) ≡ length m
 unfolding leftBy
-left-size w s m (refuses x vs) = refl
-left-size w s m (answers vs) = refl
+left-size w s m (tells a) = refl
 left-size w s m (writes place l vs) = refl
 left-size w s m (stores q vs) = s .stored m q
 left-size w s m (adds q vs) = s .added m q

@@ -12,7 +12,7 @@ use borrow.Author.Tests.{eq-eqb, ne-eqb, eqb-true, eqb-false}
 use Rattle.rules.specs.Basics.{pick}
 use Rattle.rules.specs.Holds.{Plugin, lookup}
 use Rattle.rules.specs.Refusals.{Unknown}
-use Rattle.rules.specs.Outcomes.{Outcome, refuses, answers, writes, stores, adds, removes, known, storedAt, after}
+use Rattle.rules.specs.Outcomes.{Outcome, tells, refuses, writes, stores, adds, removes, known, storedAt, after}
 use Rattle.rules.specs.Steps.{Op, step}
 use Rattle.rules.specs.Kept.Plugins.{Alike}
 use Rattle.rules.specs.Kept.Reach.{life, reach, Within}
@@ -160,8 +160,7 @@ module _ (m : List ℕ) (d : Dense m) where
   life-refines o e = go (step (view m) o) (lawful (view m) o)
     where
       go : (u : Outcome) → Lawful (view m) o u → Stored u
-      go (refuses x vs) w = record { registry = refl; dense = d }
-      go (answers vs) w = record { registry = refl; dense = d }
+      go (tells a) w = record { registry = refl; dense = d }
       go (writes place l vs) w = record { registry = refl; dense = d }
       go (stores q vs) w = stored-alike (w .0) q vs (w .2) (w .3 .alike) (subst (λ x. Within x (w .0) q) e (w .4))
       go (adds q vs) w = absurd (subst (λ x. Within x q q) (sym e ∙ w .5) refl)

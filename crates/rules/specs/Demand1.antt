@@ -3,7 +3,7 @@ use Prim.Native.Nat.{ℕ}
 use mathlib.Core.Path.{_≡_, refl}
 use mathlib.Core.List.{List}
 use Rattle.rules.specs.Holds.{Registry}
-use Rattle.rules.specs.Outcomes.{Refused, Outcome, refuses, answers, writes, stores, adds, removes, answerOf, after, lentAfter}
+use Rattle.rules.specs.Outcomes.{Refused, Outcome, tells, writes, stores, adds, removes, answerOf, after, lentAfter}
 use Rattle.rules.specs.Steps.{Op, step, answerTo, afterStep, lent, lentAfterStep}
 
 pub record Unchanged (r r′ : Registry) (buffer buffer′ : List ℕ) : Type 0 where
@@ -13,8 +13,7 @@ pub record Unchanged (r r′ : Registry) (buffer buffer′ : List ℕ) : Type 0 
 refused-outcome : (r : Registry) (buffer : List ℕ) (u : Outcome) (n : ℕ) (vs : List ℕ) → answerOf u ≡ Refused n vs
     → Unchanged r (after r u) buffer (lentAfter buffer u)
 unfolding after lentAfter
-refused-outcome r buffer (refuses x ws) n vs e = record { registry = refl; lent = refl }
-refused-outcome r buffer (answers ws) n vs e = record { registry = cc; lent = cc }
+refused-outcome r buffer (tells a) n vs e = record { registry = refl; lent = refl }
 refused-outcome r buffer (writes place l ws) n vs e = record { registry = cc; lent = cc }
 refused-outcome r buffer (stores p ws) n vs e = record { registry = cc; lent = cc }
 refused-outcome r buffer (adds p ws) n vs e = record { registry = cc; lent = cc }

@@ -20,7 +20,7 @@ use mathlib.Core.Option.{some}
 use mathlib.Core.Logic.{_≢_}
 use Rattle.rules.specs.Basics.{last}
 use Rattle.rules.specs.Holds.{Port, Plugin, Registry, opened, lookup, provides, rowsInUse, Queued}
-use Rattle.rules.specs.Outcomes.{Accepted, Outcome, refuses, answers, writes, stores, adds, removes, answerOf, after}
+use Rattle.rules.specs.Outcomes.{Accepted, Outcome, tells, refusing, accepting, writes, stores, adds, removes, answerOf, after}
 use Rattle.rules.specs.Steps.{Op, Run, step, afterStep, goOn, goOnWith, run, runFresh}
 use Rattle.rules.specs.Acts.{Act, begins, stays, act}
 use Rattle.rules.specs.Demand3.{Start}
@@ -47,8 +47,7 @@ opened-built d f l = record {
 
 outcome-built : (r : Registry) → Built r → (o : Op) (u : Outcome) → Lawful r o u → Built (after r u)
 unfolding Lawful after
-outcome-built r b o (refuses x vs) w = b
-outcome-built r b o (answers vs) w = b
+outcome-built r b o (tells a) w = b
 outcome-built r b o (writes place l vs) w = b
 outcome-built r b o (stores q vs) w = turn-built r b (w .0) q (w .2) (w .3) vs
 outcome-built r b o (adds q vs) w = join-built r b q (w .4) vs
@@ -82,8 +81,8 @@ built-start r b n = record { room = b .room; fresh = fresh r b; unqueued = n }
 outcome-rises : (m : ℕ) (r : Registry) (o : Op) (u : Outcome) → Lawful r o u → (ids : List ℕ) → Rise m (r .next) ids
     → Rise m (after r u .next) (issuedBy (answerOf u) (act o) ++ ids)
 unfolding Lawful after
-outcome-rises m r o (refuses x vs) w ids i = i
-outcome-rises m r o (answers vs) w ids i = none-issued m (r .next) ids _ i (ap (issuedBy (Accepted vs)) w)
+outcome-rises m r o (tells (refusing x vs)) w ids i = i
+outcome-rises m r o (tells (accepting vs)) w ids i = none-issued m (r .next) ids _ i (ap (issuedBy (Accepted vs)) w)
 outcome-rises m r o (writes place l vs) w ids i = none-issued m (r .next) ids _ i (ap (issuedBy (Accepted vs)) w)
 outcome-rises m r o (stores q vs) w ids i = none-issued m (r .next) ids _ i (turned (act o) (w .1))
   where

@@ -11,7 +11,7 @@ use lib.ListN.{length, length-map, getD}
 use borrow.Author.Tests.{eqb-true, eq-eqb}
 use Rattle.rules.specs.Basics.{first, twice, sum, last}
 use Rattle.rules.specs.Holds.{Port, Plugin, Registry, plugins, lookup, count, provider, opened, rowsOf, sumRows, rowsInUse}
-use Rattle.rules.specs.Outcomes.{Answer, Refused, Accepted, Outcome, refuses, answers, writes, stores, adds, removes, checked, found, answerOf, after}
+use Rattle.rules.specs.Outcomes.{Answer, Refused, Accepted, Outcome, tells, refusing, accepting, writes, stores, adds, removes, checked, found, answerOf, after}
 use Rattle.rules.specs.Ports.{badRealms, realmsOf, resolve}
 use Rattle.rules.specs.Dependencies.{dependencyList}
 use Rattle.rules.specs.Registration.{Definition, parentOf, inheritedFrom, resolved, unoffered, dependenciesOf, newPlugin, register}
@@ -193,8 +193,8 @@ module _ (r : Registry) (b : Built r) (l : List Entry) (h : Booked l r) where
 
   outcome-booked : (o : Op) (u : Outcome) → Lawful r o u → Booked (entered (answerOf u) (act o) l) (after r u)
   unfolding Lawful after
-  outcome-booked o (refuses x vs) w = h
-  outcome-booked o (answers vs) w = rw w h
+  outcome-booked o (tells (refusing x vs)) w = h
+  outcome-booked o (tells (accepting vs)) w = rw w h
   outcome-booked o (writes place m vs) w = rw w h
   outcome-booked o (stores q vs) w = turned (act o) vs (w .0) q (w .1) (w .2) (w .3)
   outcome-booked o (adds q vs) w = rw (w .1, w .2) (joined (w .0) vs q (w .3) (w .4))

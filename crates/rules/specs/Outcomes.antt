@@ -17,11 +17,15 @@ pub data Answer : Type 0 where
   Refused : ℕ → List ℕ → Answer
   Accepted : List ℕ → Answer
 
+-- What is told: a refusal, with the offered payload where that is handed back; or the numbers of an acceptance.
+pub data Reply : Type 0 where
+  refusing : Refusal → List ℕ → Reply
+  accepting : List ℕ → Reply
+
 -- What an operation comes to. All but the first are acceptances with the numbers answered.
 pub data Outcome : Type 0 where
-  refuses : Refusal → List ℕ → Outcome
-  -- nothing changes
-  answers : List ℕ → Outcome
+  -- it is told, and nothing changes
+  tells : Reply → Outcome
   -- numbers go into the lent buffer from a place
   writes : (place : ℕ) → List ℕ → List ℕ → Outcome
   -- the registered plugin of this one's id becomes this one
@@ -30,6 +34,12 @@ pub data Outcome : Type 0 where
   adds : Plugin → List ℕ → Outcome
   -- the plugin's place is freed, and its rows with it
   removes : ℕ → List ℕ → Outcome
+
+abbrev pub refuses : Refusal → List ℕ → Outcome
+refuses x vs = tells (refusing x vs)
+
+abbrev pub answers : List ℕ → Outcome
+answers vs = tells (accepting vs)
 
 -- Checks run in the order given for each operation: the first test that holds refuses.
 pub record Check : Type 0 where
@@ -58,20 +68,28 @@ known r id f = found (lookup r id) f
 
 -- A refusal that also answers the offered payload.
 unfoldable pub handingBack : ℕ → Outcome → Outcome
-handingBack v (refuses x vs) = refuses x (v ∷ [])
-handingBack v (answers vs) = answers vs
+handingBack v (tells (refusing x vs)) = refuses x (v ∷ [])
+handingBack v (tells (accepting vs)) = answers vs
 handingBack v (writes place l vs) = writes place l vs
 handingBack v (stores p vs) = stores p vs
 handingBack v (adds p vs) = adds p vs
 handingBack v (removes id vs) = removes id vs
 
+-- What is told, whatever else changes.
+abbrev pub replyOf : Outcome → Reply
+replyOf (tells a) = a
+replyOf (writes place l vs) = accepting vs
+replyOf (stores p vs) = accepting vs
+replyOf (adds p vs) = accepting vs
+replyOf (removes id vs) = accepting vs
+
+-- A refusal is answered by its number, so no other number is.
+abbrev pub numbered : Reply → Answer
+numbered (refusing x vs) = Refused (number x) vs
+numbered (accepting vs) = Accepted vs
+
 abbrev pub answerOf : Outcome → Answer
-answerOf (refuses x vs) = Refused (number x) vs
-answerOf (answers vs) = Accepted vs
-answerOf (writes place l vs) = Accepted vs
-answerOf (stores p vs) = Accepted vs
-answerOf (adds p vs) = Accepted vs
-answerOf (removes id vs) = Accepted vs
+answerOf o = numbered (replyOf o)
 
 -- The registry afterwards.
 abbrev pub storedAt : Plugin → Option Plugin → Option Plugin
@@ -91,8 +109,7 @@ abbrev pub withPlaces : Registry → ℕ → Places → Registry
 withPlaces r n ps = record { domain = r .domain; first = r .first; next = n; places = ps }
 
 unfoldable pub after : Registry → Outcome → Registry
-after r (refuses x vs) = r
-after r (answers vs) = r
+after r (tells a) = r
 after r (writes place l vs) = r
 after r (stores p vs) = withPlaces r (r .next) (map (storedAt p) (r .places))
 after r (adds p vs) = withPlaces r (r .next + 1) (atLowestFree p (r .places))
@@ -103,8 +120,7 @@ abbrev pub written : List ℕ → ℕ → List ℕ → List ℕ
 written buffer place l = take place buffer ++ l ++ drop (place + length l) buffer
 
 unfoldable pub lentAfter : List ℕ → Outcome → List ℕ
-lentAfter buffer (refuses x vs) = buffer
-lentAfter buffer (answers vs) = buffer
+lentAfter buffer (tells a) = buffer
 lentAfter buffer (writes place l vs) = written buffer place l
 lentAfter buffer (stores p vs) = buffer
 lentAfter buffer (adds p vs) = buffer

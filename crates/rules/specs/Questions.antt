@@ -13,37 +13,27 @@ use Rattle.rules.specs.Lists.{Which, list}
 use Rattle.rules.specs.Text.{writeText}
 use Rattle.rules.specs.Queries.{Field, Total, askPlugin, askRegistry, idFrom}
 
-pub data Question : Type 0 where
-  ResolveKey : (realms : List ℕ) (key : ℕ) → Question
-  DependencyPort : (id key : ℕ) → Question
-  Fits : (id times : ℕ) → Question
-  Admits : Ticket → Question
-  ChildIdentity : (id : ℕ) → Question
-  Read : (id : ℕ) → Port → Question
-  Visible : Port → Question
-  Own : (id : ℕ) → Port → Question
-  FirstMissing : (id : ℕ) → Question
-  Matching : (id : ℕ) (ports : List ℕ) → Question
-  Declares : (id : ℕ) → Port → Question
-  AskPlugin : Field → (id : ℕ) → Question
-  AskRegistry : Total → Question
-  IdFrom : (number : ℕ) → Question
+-- A question is a line here: its arguments, its number, and what it comes to in a registry r. Of that step tells the reply alone, so
+-- that it changes nothing.
+pub data Question : ℕ → (Registry → Outcome) → Type 0 where
+  ResolveKey : (realms : List ℕ) (key : ℕ) → Question 0 λ r. resolveKey realms key
+  DependencyPort : (id key : ℕ) → Question 1 λ r. dependencyPort r id key
+  Fits : (id times : ℕ) → Question 2 λ r. fits r id times
+  Admits : (t : Ticket) → Question 3 λ r. admits r t
+  ChildIdentity : (id : ℕ) → Question 4 λ r. childIdentity r id
+  Read : (id : ℕ) (q : Port) → Question 5 λ r. read r id q
+  Visible : (q : Port) → Question 6 λ r. visible r q
+  Own : (id : ℕ) (q : Port) → Question 7 λ r. own r id q
+  FirstMissing : (id : ℕ) → Question 8 λ r. missing r id
+  Matching : (id : ℕ) (ports : List ℕ) → Question 9 λ r. matching r id ports
+  Declares : (id : ℕ) (q : Port) → Question 10 λ r. declares r id q
+  AskPlugin : (f : Field) (id : ℕ) → Question 11 λ r. askPlugin r f id
+  AskRegistry : (t : Total) → Question 12 λ r. askRegistry r t
+  IdFrom : (number : ℕ) → Question 13 λ r. idFrom r number
 
-abbrev pub reply : Registry → Question → Outcome
-reply r (ResolveKey realms key) = resolveKey realms key
-reply r (DependencyPort id key) = dependencyPort r id key
-reply r (Fits id times) = fits r id times
-reply r (Admits t) = admits r t
-reply r (ChildIdentity id) = childIdentity r id
-reply r (Read id q) = read r id q
-reply r (Visible q) = visible r q
-reply r (Own id q) = own r id q
-reply r (FirstMissing id) = missing r id
-reply r (Matching id ports) = matching r id ports
-reply r (Declares id q) = declares r id q
-reply r (AskPlugin f id) = askPlugin r f id
-reply r (AskRegistry t) = askRegistry r t
-reply r (IdFrom n) = idFrom r n
+-- how many there are
+abbrev pub questionCount : ℕ
+questionCount = 14
 
 -- What is written to a lent buffer.
 pub data Writing : Type 0 where

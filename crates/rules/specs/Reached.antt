@@ -27,7 +27,7 @@ use Rattle.rules.specs.Queries.{askPlugin, idFrom}
 use Rattle.text_form.specs.Digits.{decimalOf, digitsIn}
 use Rattle.rules.specs.Text.{insert, byId, textOf, writeText}
 use Rattle.rules.specs.Steps.{Op, Register, Begin, Ready, Fail, Unload, Finish, Replace, Admit, Call, Ask, Retire, RetireChild, Remove, Offer, Write}
-use Rattle.rules.specs.Questions.{Question, ResolveKey, DependencyPort, Fits, Admits, ChildIdentity, Read, Visible, Own, FirstMissing, Matching, Declares, AskPlugin, AskRegistry, IdFrom, Writing, Listed, Text}
+use Rattle.rules.specs.Questions.{questionCount, Writing, Listed, Text}
 use Rattle.rules.specs.Examples.{fresh, worn, holding}
 use Rattle.rules.specs.Reached.Transcripts.{Line, Holds, keys}
 use Rattle.rules.specs.Reached.Registrations.{registrations, lastId, fullAndLast, crowd, fullAndLong}
@@ -35,22 +35,6 @@ use Rattle.rules.specs.Reached.Lives.{life, family, questions, exhausted
 
 -- the operations, numbered in their order: what changes the registry from 0 on, questions from 100 on, what is written to a lent
 -- buffer from 200 on
-abbrev pub questionKind : Question → ℕ
-questionKind (ResolveKey realms key) = 0
-questionKind (DependencyPort id key) = 1
-questionKind (Fits id times) = 2
-questionKind (Admits t) = 3
-questionKind (ChildIdentity id) = 4
-questionKind (Read id q) = 5
-questionKind (Visible q) = 6
-questionKind (Own id q) = 7
-questionKind (FirstMissing id) = 8
-questionKind (Matching id ports) = 9
-questionKind (Declares id q) = 10
-questionKind (AskPlugin f id) = 11
-questionKind (AskRegistry t) = 12
-questionKind (IdFrom n) = 13
-
 abbrev pub writingKind : Writing → ℕ
 writingKind (Listed w id place) = 0
 writingKind Text = 1
@@ -69,7 +53,7 @@ kind (Retire id) = 9
 kind (RetireChild c) = 10
 kind (Remove id) = 11
 kind (Offer id q value) = 12
-kind (Ask q) = 100 + questionKind q
+kind (Ask {n} q) = 100 + n
 kind (Write w buffer) = 200 + writingKind w
 
 abbrev pub isRefusal : ℕ → Answer → Bool
@@ -105,7 +89,7 @@ pub record Reached : Type 0 where
   pub fullAndLast : Holds (opened 7 (2 ^ 64 - 33)) fullAndLast
   pub crowd : Holds fresh crowd
   pub fullAndLong : Holds fresh fullAndLong
-  pub every-operation : all acceptedSomewhere (keys 13 0 ++ keys 14 100 ++ keys 2 200) ≡ true
+  pub every-operation : all acceptedSomewhere (keys 13 0 ++ keys questionCount 100 ++ keys 2 200) ≡ true
   pub every-refusal : all givenSomewhere (keys 23 1) ≡ true
 
 pub reached : Reached

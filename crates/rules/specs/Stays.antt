@@ -9,7 +9,7 @@ use lib.Dec.{eqb}
 use borrow.Author.Tests.{eqb-true, ne-eqb}
 use Rattle.rules.specs.Basics.{yesNo, last}
 use Rattle.rules.specs.Holds.{Plugin, Registry, lookup, opened, neverBegun}
-use Rattle.rules.specs.Outcomes.{Answer, Refused, Accepted, Outcome, refuses, answers, writes, stores, adds, removes, answerOf, after}
+use Rattle.rules.specs.Outcomes.{Answer, Refused, Accepted, Outcome, tells, refusing, accepting, writes, stores, adds, removes, answerOf, after}
 use Rattle.rules.specs.Registration.{newPlugin}
 use Rattle.rules.specs.Steps.{Op, Event, Run, step, answerTo, afterStep, goOn, goOnWith, run, runFresh}
 use Rattle.rules.specs.Acts.{Act, joins, leaves, begins, stays, act}
@@ -23,8 +23,7 @@ use Rattle.rules.specs.Kept.Operations.{Dated, Lawful, lawful}
 -- The domain and the first id, of any registry.
 outcome-domain : (r : Registry) (u : Outcome) → (after r u .domain ≡ r .domain) × (after r u .first ≡ r .first)
 unfolding after
-outcome-domain r (refuses x vs) = (refl, refl)
-outcome-domain r (answers vs) = (refl, refl)
+outcome-domain r (tells a) = (refl, refl)
 outcome-domain r (writes place l vs) = (refl, refl)
 outcome-domain r (stores q vs) = (refl, refl)
 outcome-domain r (adds q vs) = (refl, refl)
@@ -140,8 +139,8 @@ module _ (r : Registry) (b : Built r) (x g n : ℕ) (h : Begun x g n r) where
 
   outcome-begun : (o : Op) (u : Outcome) → Lawful r o u → Begun x g (begunBy x (answerOf u) (act o) + n) (after r u)
   unfolding Lawful after newPlugin
-  outcome-begun o (refuses k vs) w = still r h
-  outcome-begun o (answers vs) w = rw w (still r h)
+  outcome-begun o (tells (refusing k vs)) w = still r h
+  outcome-begun o (tells (accepting vs)) w = rw w (still r h)
   outcome-begun o (writes place l vs) w = rw w (still r h)
   outcome-begun o (stores q vs) w = turned (act o) vs (w .0) q (w .2) (w .1)
   outcome-begun o (adds q vs) w = rw (w .1) (still _ (joined vs q (w .4) (ap (λ (p : Plugin). p .generation) (w .3))))

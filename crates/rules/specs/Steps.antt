@@ -2,14 +2,14 @@
 use Prim.Native.Nat.{ℕ}
 use mathlib.Core.List.{List, [], _∷_}
 use Rattle.rules.specs.Holds.{Port, Registry, opened}
-use Rattle.rules.specs.Outcomes.{Answer, Outcome, answerOf, after, lentAfter}
+use Rattle.rules.specs.Outcomes.{Answer, Outcome, tells, replyOf, answerOf, after, lentAfter}
 use Rattle.rules.specs.Registration.{Definition, register}
 use Rattle.rules.specs.Phases.{begin, ready, fail, unload, finish}
 use Rattle.rules.specs.Replacement.{replace}
 use Rattle.rules.specs.Admission.{Ticket, Invocation, admit, call}
 use Rattle.rules.specs.Retirement.{Identity, retire, retireChild, remove}
 use Rattle.rules.specs.Values.{offer}
-use Rattle.rules.specs.Questions.{Question, reply, Writing, writing}
+use Rattle.rules.specs.Questions.{Question, Writing, writing}
 
 pub data Op : Type 0 where
   Register : Definition → Op
@@ -21,9 +21,10 @@ pub data Op : Type 0 where
   RetireChild : Identity → Op
   Remove : (id : ℕ) → Op
   Offer : (id : ℕ) → Port → (value : ℕ) → Op
-  Ask : Question → Op
+  Ask : {n : ℕ} {f : Registry → Outcome} → Question n f → Op
   Write : Writing → (buffer : List ℕ) → Op
 
+-- A question changes nothing: what it comes to is told, and no more.
 abbrev pub step : Registry → Op → Outcome
 step r (Register d) = register r d
 step r (Begin id) = begin r id
@@ -38,7 +39,7 @@ step r (Retire id) = retire r id
 step r (RetireChild c) = retireChild r c
 step r (Remove id) = remove r id
 step r (Offer id q value) = offer r id q value
-step r (Ask q) = reply r q
+step r (Ask {f} q) = tells (replyOf (f r))
 step r (Write w buffer) = writing r w buffer
 
 -- What an operation answers, and the registry afterwards.

@@ -8,7 +8,7 @@ use lib.Dec.{leb, ltb}
 use borrow.Author.Tests.{eqb-true, not-false, leb-false}
 use Rattle.rules.specs.Holds.{Port, Plugin, Registry, lookup, isLoading}
 use Rattle.rules.specs.Refusals.{Unknown}
-use Rattle.rules.specs.Outcomes.{Outcome, refuses, answers, writes, stores, adds, removes, Check, checked, known, handingBack}
+use Rattle.rules.specs.Outcomes.{refusing, accepting, Outcome, tells, writes, stores, adds, removes, Check, checked, known, handingBack}
 use Rattle.rules.specs.Registration.{Definition, newPlugin, register}
 use Rattle.rules.specs.Phases.{begin, ready, fail, unload, finish}
 use Rattle.rules.specs.Replacement.{replace}
@@ -18,10 +18,10 @@ use Rattle.rules.specs.Values.{offer}
 use Rattle.rules.specs.Steps.{Op, Event, step, Register, Begin, Ready, Fail, Unload, Finish, Replace, Admit, Call, Ask, Retire, RetireChild, Remove, Offer, Write}
 use Rattle.rules.specs.History.{registered, removed, replaced, settled, retired, admitted, called, told}
 use Rattle.rules.specs.Laws.Tests.{both, neither, Passed, checked-elim, found-elim}
-use Rattle.rules.specs.Laws.Quiet.{Quiet, reply-quiet, writing-quiet}
+use Rattle.rules.specs.Laws.Quiet.{Quiet, writing-quiet}
 use Rattle.rules.specs.Laws.Lookups.{lookup-id}
 use Rattle.rules.specs.Laws.Table.{begins, readies, fails, unloads, finishes, is-idle, is-loading}
-use Rattle.rules.specs.Demand3.Link.{callable, Linked, Good, tells, tells-none, refused, answered, wrote, answered-absent, stored-one, added-one, removed-one}
+use Rattle.rules.specs.Demand3.Link.{callable, Linked, Good, tells-one, tells-none, refused, quiet, wrote, answered-absent, stored-one, added-one, removed-one}
 use Rattle.rules.specs.Demand3.Lives.{is-unissued, would-accept, not-loading, not-callable, silent, resting, settling, retiring, replacing, admitting, calling}
 
 module _ (s : Registry) (es : List Event) (r : Registry) (w : Linked s es r) where
@@ -41,13 +41,13 @@ module _ (s : Registry) (es : List Event) (r : Registry) (w : Linked s es r) whe
   ready-kept : (id : ℕ) → Good s es r (Ready id) (ready r id)
   unfolding ready
   ready-kept id = knows _ _ _ λ p e. passes _ _ _ λ c.
-      stored-one s es r w _ _ id p _ _ (tells s _ _ id settled refl) e (lookup-id r id p e) λ t h i a.
+      stored-one s es r w _ _ id p _ _ (tells-one s _ _ id settled refl) e (lookup-id r id p e) λ t h i a.
       settling (s .domain) t h p a _ refl refl refl refl (not-loading (s .domain) _ t (rw (readies (p .phase) (c .1 .0))))
 
   fail-kept : (id : ℕ) → Good s es r (Fail id) (fail r id)
   unfolding fail
   fail-kept id = knows _ _ _ λ p e. passes _ _ _ λ c.
-      stored-one s es r w _ _ id p _ _ (tells s _ _ id settled refl) e (lookup-id r id p e) λ t h i a.
+      stored-one s es r w _ _ id p _ _ (tells-one s _ _ id settled refl) e (lookup-id r id p e) λ t h i a.
       settling (s .domain) t h p a _ refl refl refl refl (not-loading (s .domain) _ t (rw (fails (p .phase) (c .0))))
 
   unload-kept : (id : ℕ) → Good s es r (Unload id) (unload r id)
@@ -67,12 +67,12 @@ module _ (s : Registry) (es : List Event) (r : Registry) (w : Linked s es r) whe
   retire-kept : (id : ℕ) → Good s es r (Retire id) (retire r id)
   unfolding retire
   retire-kept id = knows _ _ _ λ p e. passes _ _ _ λ c.
-      stored-one s es r w _ _ id p _ _ (tells s _ _ id retired refl) e (lookup-id r id p e) λ t h i a. retiring (s .domain) t h p a
+      stored-one s es r w _ _ id p _ _ (tells-one s _ _ id retired refl) e (lookup-id r id p e) λ t h i a. retiring (s .domain) t h p a
 
   handing : (o : Op) (v : ℕ) (u : Outcome) → Good s es r o u → Good s es r o (handingBack v u)
   unfolding handingBack
-  handing o v (refuses x vs) g = refused s es r w o x (v ∷ [])
-  handing o v (answers vs) g = g
+  handing o v (tells (refusing x vs)) g = refused s es r w o x (v ∷ [])
+  handing o v (tells (accepting vs)) g = g
   handing o v (writes place l vs) g = g
   handing o v (stores p vs) g = g
   handing o v (adds p vs) g = g
@@ -81,7 +81,7 @@ module _ (s : Registry) (es : List Event) (r : Registry) (w : Linked s es r) whe
   replace-kept : (id v : ℕ) → Good s es r (Replace id v) (replace r id v)
   unfolding replace
   replace-kept id v = handing _ v _ (knows _ _ _ λ p e. passes _ _ _ λ c.
-      stored-one s es r w _ _ id p _ _ (tells s _ _ id (replaced v) refl) e (lookup-id r id p e) λ t h i a. replacing (s .domain) t h p a v)
+      stored-one s es r w _ _ id p _ _ (tells-one s _ _ id (replaced v) refl) e (lookup-id r id p e) λ t h i a. replacing (s .domain) t h p a v)
 
   offer-kept : (id : ℕ) (q : Port) (v : ℕ) → Good s es r (Offer id q v) (offer r id q v)
   unfolding offer callable isLive
@@ -92,14 +92,14 @@ module _ (s : Registry) (es : List Event) (r : Registry) (w : Linked s es r) whe
   admit-kept : (k : Ticket) (b : ℕ) → Good s es r (Admit k b) (admit r k b)
   unfolding admit
   admit-kept k b = passes _ _ _ λ c. knows _ _ _ λ p e. passes _ _ _ λ f.
-      stored-one s es r w _ _ (p .id) p _ _ (tells s _ _ (p .id) (admitted _) refl) (subst (λ x. lookup r x ≡ some p) (sym (lookup-id r (k .id) p e)) e) refl λ t h i a.
+      stored-one s es r w _ _ (p .id) p _ _ (tells-one s _ _ (p .id) (admitted _) refl) (subst (λ x. lookup r x ≡ some p) (sym (lookup-id r (k .id) p e)) e) refl λ t h i a.
       admitting (s .domain) t h p a (r .domain) b (w .domain) (is-loading (p .phase) (not-false _ (neither _ _ (f .1 .0) .0)))
       (f .0) (is-unissued (p .root) (not-false _ (f .1 .1 .0))) i
 
   call-kept : (u : Invocation) → Good s es r (Call u) (call r u)
   unfolding call
   call-kept u = passes _ _ _ λ c. knows _ _ _ λ p e. passes _ _ _ λ f.
-      stored-one s es r w _ _ (u .id) p _ _ (tells s _ _ (u .id) (called (five u)) refl) e (lookup-id r (u .id) p e) λ t h i a.
+      stored-one s es r w _ _ (u .id) p _ _ (tells-one s _ _ (u .id) (called (five u)) refl) e (lookup-id r (u .id) p e) λ t h i a.
       calling (s .domain) t h p a u i (would-accept (s .domain) p u (not-false _ (f .1 .0)) (f .0) (eqb-true _ _ (not-false _ (c .0)) ∙ w .domain))
 
   remove-kept : (id : ℕ) → Good s es r (Remove id) (remove r id)
@@ -118,7 +118,7 @@ module _ (s : Registry) (es : List Event) (r : Registry) (w : Linked s es r) whe
       go : c .id < r .next → (u : Option Plugin) → lookup r (c .id) ≡ u → Good s es r (RetireChild c) (retireFound (c .parent) u)
       go l none e = answered-absent s es r w _ _ (c .id) retired refl e l λ t h a. record { once = a .once; gone = a .gone; dead = refl }
       go l (some p) e = passes _ _ _ λ f.
-          stored-one s es r w _ _ (c .id) p _ _ (tells s _ _ (c .id) retired refl) e (lookup-id r (c .id) p e) λ t h i a. retiring (s .domain) t h p a
+          stored-one s es r w _ _ (c .id) p _ _ (tells-one s _ _ (c .id) retired refl) e (lookup-id r (c .id) p e) λ t h i a. retiring (s .domain) t h p a
 
   register-kept : (f : Definition) → Good s es r (Register f) (register r f)
   unfolding register newPlugin
@@ -132,17 +132,16 @@ module _ (s : Registry) (es : List Event) (r : Registry) (w : Linked s es r) whe
         alive = rw (not-loading (s .domain) (newPlugin r f) t refl);
       }
 
-  -- a question, and what is written to a lent buffer
+  -- what is written to a lent buffer
   quietly : (o : Op) (u : Outcome) → ((vs : List ℕ) → told o vs ≡ none) → Quiet u → Good s es r o u
-  quietly o (refuses x vs) n h = refused s es r w o x vs
-  quietly o (answers vs) n h = answered s es r w o vs (n vs)
+  quietly o (tells a) n h = quiet s es r w o a n
   quietly o (writes place l vs) n h = wrote s es r w o place l vs (n vs)
   quietly o (stores q vs) n h = absurd h
   quietly o (adds q vs) n h = absurd h
   quietly o (removes id vs) n h = absurd h
 
   pub kept : (o : Op) → Good s es r o (step r o)
-  kept (Ask q) = quietly _ _ (λ vs. refl) (reply-quiet r q)
+  kept (Ask q) = quiet s es r w _ _ (λ vs. refl)
   kept (Write k l) = quietly _ _ (λ vs. refl) (writing-quiet r k l)
   kept (Register f) = register-kept f
   kept (Begin id) = begin-kept id

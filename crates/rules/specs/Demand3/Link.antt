@@ -12,7 +12,7 @@ use borrow.Author.Tests.{eqb-true, eqb-false, eq-eqb, ne-eqb, leb-true, leb-fals
 use Rattle.rules.specs.Basics.{pick, sameNumbers}
 use Rattle.rules.specs.Holds.{Plugin, Registry, lookup, count, Queued}
 use Rattle.rules.specs.Refusals.{Refusal, number}
-use Rattle.rules.specs.Outcomes.{Answer, Refused, Accepted, Outcome, refuses, answers, writes, stores, adds, removes, answerOf, after, lentAfter}
+use Rattle.rules.specs.Outcomes.{Answer, Refused, Accepted, Reply, refusing, accepting, Outcome, tells, refuses, answers, writes, stores, adds, removes, answerOf, after, lentAfter}
 use Rattle.rules.specs.Admission.{Invocation, five, isLive}
 use Rattle.rules.specs.Steps.{Op, Event, lent}
 use Rattle.rules.specs.History.{Told, registered, removed, replaced, settled, retired, admitted, called, of, told, noted, story, stored, isRegistered, isRetired, ends}
@@ -86,9 +86,9 @@ pub record Tells (s : Registry) (o : Op) (a : Answer) (id : ℕ) (add : List Tol
   pub here : (l : List ℕ) (es : List Event) → story s id (saying o a l ∷ es) ≡ add (story s id es)
   pub other : (l : List ℕ) (es : List Event) (x : ℕ) → eqb id x ≡ false → story s x (saying o a l ∷ es) ≡ story s x es
 
-pub tells : (s : Registry) (o : Op) (a : Answer) (id : ℕ) (k : Told) → noted o a ≡ of id k → Tells s o a id (λ h. k ∷ h)
+pub tells-one : (s : Registry) (o : Op) (a : Answer) (id : ℕ) (k : Told) → noted o a ≡ of id k → Tells s o a id (λ h. k ∷ h)
 unfolding story
-tells s o a id k n = record {
+tells-one s o a id k n = record {
   here = λ l es. rw (n, eq-eqb id id refl);
   other = λ l es x f. rw (n, f);
 }
@@ -143,9 +143,11 @@ module _ (s : Registry) (es : List Event) (r : Registry) (w : Linked s es r) whe
   unfolding Good after
   refused o x vs = still o (Refused (number x) vs) _ refl
 
-  pub answered : (o : Op) (vs : List ℕ) → told o vs ≡ none → Good s es r o (answers vs)
+  -- nothing of a plugin is told, and nothing changes
+  pub quiet : (o : Op) (a : Reply) → ((vs : List ℕ) → told o vs ≡ none) → Good s es r o (tells a)
   unfolding Good after
-  answered o vs n = still o (Accepted vs) _ n
+  quiet o (refusing x vs) n = still o (Refused (number x) vs) _ refl
+  quiet o (accepting vs) n = still o (Accepted vs) _ (n vs)
 
   pub wrote : (o : Op) (place : ℕ) (l vs : List ℕ) → told o vs ≡ none → Good s es r o (writes place l vs)
   unfolding Good after
@@ -155,7 +157,7 @@ module _ (s : Registry) (es : List Event) (r : Registry) (w : Linked s es r) whe
       → ((t : Invocation) (h : List Told) → Absent t h → Absent t (k ∷ h)) → Good s es r o (answers vs)
   unfolding Good after
   answered-absent o vs id k n e l f =
-      touches o (Accepted vs) _ id (λ h. k ∷ h) r none none (tells s o (Accepted vs) id k n) refl refl (le-refl _) l e e (λ x y. refl) (λ t i a. f t _ a)
+      touches o (Accepted vs) _ id (λ h. k ∷ h) r none none (tells-one s o (Accepted vs) id k n) refl refl (le-refl _) l e e (λ x y. refl) (λ t i a. f t _ a)
 
   pub stored-one : (o : Op) (vs : List ℕ) (id : ℕ) (p q : Plugin) (add : List Told → List Told) → Tells s o (Accepted vs) id add
       → lookup r id ≡ some p → q .id ≡ id
@@ -173,7 +175,7 @@ module _ (s : Registry) (es : List Event) (r : Registry) (w : Linked s es r) whe
   unfolding Good after lookup count
   added-one o vs q k n i l f =
       let e = w .fresh (q .id) (omega arith) in
-      touches o (Accepted vs) _ (q .id) (λ h. k ∷ h) (after r (adds q vs)) none (some q) (tells s o (Accepted vs) (q .id) k n)
+      touches o (Accepted vs) _ (q .id) (λ h. k ∷ h) (after r (adds q vs)) none (some q) (tells-one s o (Accepted vs) (q .id) k n)
       refl (length-added (r .places) q) (omega arith) (omega arith)
       e (added-same (r .places) q e (omega (arith, w .room)))
       (λ x y. added-other x (r .places) q y)
@@ -183,7 +185,7 @@ module _ (s : Registry) (es : List Event) (r : Registry) (w : Linked s es r) whe
       → ((t : Invocation) (h : List Told) → Present (s .domain) t h p → Absent t (k ∷ h)) → Good s es r o (removes id vs)
   unfolding Good after lookup
   removed-one o vs id p k n e f =
-      touches o (Accepted vs) _ id (λ h. k ∷ h) (after r (removes id vs)) (some p) none (tells s o (Accepted vs) id k n)
+      touches o (Accepted vs) _ id (λ h. k ∷ h) (after r (removes id vs)) (some p) none (tells-one s o (Accepted vs) id k n)
       refl (length-freed (r .places) id) (le-refl _) (below id p e)
       e (freed-same id (r .places))
       (λ x y. freed-other id x (r .places) y)

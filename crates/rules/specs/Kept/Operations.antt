@@ -9,7 +9,7 @@ use mathlib.Core.Option.{Option, none, some}
 use borrow.Author.Tests.{eqb-false, not-false}
 use Rattle.rules.specs.Basics.{all, last}
 use Rattle.rules.specs.Holds.{Port, Plugin, Registry, lookup, Phase, Idle, Loading, Active, Unloading, isLoading, isActive, Root, Unissued, Queued, Spent, withRetired}
-use Rattle.rules.specs.Outcomes.{Outcome, refuses, answers, writes, stores, adds, removes, Check, checked, known, handingBack, after}
+use Rattle.rules.specs.Outcomes.{Reply, refusing, accepting, Outcome, tells, writes, stores, adds, removes, Check, checked, known, handingBack, after}
 use Rattle.rules.specs.Registration.{Definition, newPlugin, register}
 use Rattle.rules.specs.Phases.{available, inUse, isSpent, dropped, begin, ready, fail, unload, finish}
 use Rattle.rules.specs.Replacement.{replace}
@@ -19,7 +19,7 @@ use Rattle.rules.specs.Values.{offered, offer}
 use Rattle.rules.specs.Steps.{Op, step, Register, Begin, Ready, Fail, Unload, Finish, Replace, Admit, Call, Ask, Retire, RetireChild, Remove, Offer, Write}
 use Rattle.rules.specs.Acts.{Act, joins, leaves, begins, stays, act}
 use Rattle.rules.specs.Laws.Tests.{both, neither, Passed, checked-elim, found-elim}
-use Rattle.rules.specs.Laws.Quiet.{Quiet, reply-quiet, writing-quiet}
+use Rattle.rules.specs.Laws.Quiet.{Quiet, writing-quiet}
 use Rattle.rules.specs.Laws.Lookups.{lookup-id}
 use Rattle.rules.specs.Laws.Table as table
 use Rattle.rules.specs.Laws.Table.{readies, fails, unloads, finishes, is-loading}
@@ -39,8 +39,8 @@ Dated (leaves id) p q = ⊥
 -- What the operation o may come to. Only a registration adds a plugin, the one that it defines, under the next id, which it answers;
 -- only a removal takes one away.
 unfoldable pub Lawful : Registry → Op → Outcome → Type 0
-Lawful r o (refuses x vs) = Unit {0}
-Lawful r o (answers vs) = act o ≡ stays
+Lawful r o (tells (refusing x vs)) = Unit {0}
+Lawful r o (tells (accepting vs)) = act o ≡ stays
 Lawful r o (writes place l vs) = act o ≡ stays
 Lawful r o (stores q vs) = (p : Plugin) × Dated (act o) p q × (lookup r (q .id) ≡ some p) × Turn r p q × Within (reach o) p q
 Lawful r o (adds q vs) = (d : Definition) × (act o ≡ joins d) × (vs ≡ r .next ∷ []) × (q ≡ newPlugin r d) × Join r q × (reach o ≡ members)
@@ -68,9 +68,11 @@ module _ (r : Registry) where
   unfolding Lawful
   passes o cs u g = checked-elim (Lawful r o) cs u (λ x. tt) g
 
-  answered : (o : Op) (vs : List ℕ) → act o ≡ stays → Lawful r o (answers vs)
+  -- nothing changes, whatever is told
+  told : (o : Op) (a : Reply) → act o ≡ stays → Lawful r o (tells a)
   unfolding Lawful
-  answered o vs n = n
+  told o (refusing x vs) n = tt
+  told o (accepting vs) n = n
 
   -- the plugin p, found under id, becomes q
   module _ (o : Op) (vs : List ℕ) (id : ℕ) (p q : Plugin) (e : lookup r id ≡ some p) (n : Dated (act o) p q) (a : Alike p q) (l : Lively p → Lively q)
@@ -133,8 +135,8 @@ module _ (r : Registry) where
 
   handing : (o : Op) (v : ℕ) (u : Outcome) → Lawful r o u → Lawful r o (handingBack v u)
   unfolding handingBack Lawful
-  handing o v (refuses x vs) g = tt
-  handing o v (answers vs) g = g
+  handing o v (tells (refusing x vs)) g = tt
+  handing o v (tells (accepting vs)) g = g
   handing o v (writes place l vs) g = g
   handing o v (stores p vs) g = g
   handing o v (adds p vs) g = g
@@ -171,7 +173,7 @@ module _ (r : Registry) where
   retire-child-lawful c = passes _ _ _ λ f. go (lookup r (c .id)) refl
     where
       go : (u : Option Plugin) → lookup r (c .id) ≡ u → Lawful r (RetireChild c) (retireFound (c .parent) u)
-      go none e = answered _ [] refl
+      go none e = told _ _ refl
       go (some p) e = passes _ _ _ λ f. retires _ _ p e refl refl
 
   offer-lawful : (id : ℕ) (q : Port) (v : ℕ) → Lawful r (Offer id q v) (offer r id q v)
@@ -190,18 +192,17 @@ module _ (r : Registry) where
   unfolding register Lawful
   register-lawful d = passes _ _ _ λ c. (d, refl, refl, refl, new-joins r d c, refl)
 
-  -- a question, and what is written to a lent buffer
+  -- what is written to a lent buffer
   quietly : (o : Op) (u : Outcome) → act o ≡ stays → Quiet u → Lawful r o u
   unfolding Lawful
-  quietly o (refuses x vs) n h = tt
-  quietly o (answers vs) n h = n
+  quietly o (tells a) n h = told o a n
   quietly o (writes place l vs) n h = n
   quietly o (stores q vs) n h = absurd h
   quietly o (adds q vs) n h = absurd h
   quietly o (removes id vs) n h = absurd h
 
   pub lawful : (o : Op) → Lawful r o (step r o)
-  lawful (Ask q) = quietly _ _ refl (reply-quiet r q)
+  lawful (Ask q) = told _ _ refl
   lawful (Write w l) = quietly _ _ refl (writing-quiet r w l)
   lawful (Register d) = register-lawful d
   lawful (Begin id) = begin-lawful id
@@ -223,8 +224,7 @@ unfolding Lawful after
 asked-same r o e = go (step r o) (lawful r o)
   where
     go : (u : Outcome) → Lawful r o u → after r u ≡ r
-    go (refuses x vs) w = refl
-    go (answers vs) w = refl
+    go (tells a) w = refl
     go (writes place l vs) w = refl
     go (stores q vs) w = absurd (subst (λ x. Within x (w .0) q) e (w .4))
     go (adds q vs) w = let n : nothing ≡ members = sym e ∙ w .5 in cc
