@@ -2,17 +2,17 @@
 ghost use mathlib.Core.Path.{_≡_};
 ghost use lib.ListN.{length, take};
 ghost use Rattle.rules.specs.Answers.{optionOf};
-ghost use Rattle.slot.specs.Slots.{identityOf, decisionOf, slotOf, decidedOf};
+ghost use Rattle.slot_child.specs.Slots.{identityOf, decisionOf, slotOf, decidedOf};
 ghost use Rattle.console_answer.specs.Pages.{upTo, room, putOn, numberOn, numbersOn};
 ghost use Rattle.console_answer.specs.Answers.{okWord, toldIn, answerIn, refusalOn, answerOn, orNoneOn, answerOrNoneOn, saysYes, answerYesNoOn};
 ghost use Rattle.console_answer.specs.Slots.{generationOn, identityOn, decisionOn, slotOn, decidedOn};
 use host_answers::ANSWER;
 use rules::Done;
 use rules::Optional;
-use slot::Decided;
-use slot::Decision;
-use slot::Identity;
-use slot::Slot;
+use slot_child::Decided;
+use slot_child::Decision;
+use slot_child::Identity;
+use slot_child::Slot;
 
 // Room for the longest line of an answer: `ok`, a hundred numbers of 20 digits, each behind a space, and byte 10.
 const LINE_ROOM: usize = 2103;
@@ -176,7 +176,7 @@ pub fn front(bytes: &[u8], most: usize) -> &[u8]
     &bytes[..most]
 }
 
-fn episode(text: &mut [u8; ROOM], from: usize, generation: Optional) -> usize
+fn generation_or_none(text: &mut [u8; ROOM], from: usize, generation: Optional) -> usize
     ensures { λ r. ⌜ upTo (now (text .exit)) r ≡ generationOn (upTo (now (text .entry)) from) (optionOf generation) ⌝ }
 {
     match generation {
@@ -213,7 +213,7 @@ fn ok(text: &mut [u8; ROOM], slot: Slot) -> usize
     let word = put(text, 0, b"ok");
     let domain = number(text, word, slot.domain);
     let parent = number(text, domain, slot.parent);
-    let at = episode(text, parent, generation);
+    let at = generation_or_none(text, parent, generation);
     decision(text, at, standing)
 }
 

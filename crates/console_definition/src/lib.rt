@@ -69,7 +69,7 @@ pub fn read_parent(bytes: &[u8], from: usize) -> Under
             parent: Parent::Of(id),
             stop,
         },
-        Decimal::Not => Under {
+        Decimal::None => Under {
             parent: Parent::Bad,
             stop,
         },
@@ -89,7 +89,7 @@ fn read_number(bytes: &[u8], from: usize) -> Number
             value,
             stop,
         },
-        Decimal::Not => Number {
+        Decimal::None => Number {
             is: false,
             value: 0,
             stop,

@@ -1,6 +1,6 @@
 // A line of the console: what it says in a lent text, and what it leaves of the registry, the buffer and the slot.
 ghost use mathlib.Core.Path.{_≡_};
-ghost use Rattle.slot.specs.Slots.{slotOf};
+ghost use Rattle.slot_child.specs.Slots.{slotOf};
 ghost use Rattle.console_answer.specs.Pages.{upTo};
 ghost use Rattle.console_answer.specs.Answers.{toldIn};
 ghost use Rattle.console_names.specs.Behind.{numbersBehind};
@@ -25,7 +25,7 @@ use console_slot::Said;
 use console_words::LINE;
 use host_answers::ANSWER;
 use memory::WORDS;
-use slot::Slot;
+use slot_child::Slot;
 
 // Byte 10 ends an answer's line.
 fn end(at: usize, text: &mut [u8; ROOM]) -> usize

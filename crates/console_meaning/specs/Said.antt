@@ -13,7 +13,7 @@ use Rattle.console_answer.specs.Pages.{Page, putOn, numbersOn}
 use Rattle.console_answer.specs.Answers.{okWord}
 use Rattle.console_names.specs.declared.Count.{Count}
 use Rattle.console_names.specs.declared.Values.{Values}
-use Rattle.console_names.specs.declared.Values.the-variants.{Nothing, Numbers}
+use Rattle.console_names.specs.declared.Values.the-variants.{None, Numbers}
 use Rattle.console_names.specs.declared.Held.{Held}
 use Rattle.console_names.specs.declared.Kind.the-variants.{Show, Buffer, Lists, Registry, Text}
 use Rattle.console_names.specs.declared.Row.{Row}
@@ -41,11 +41,11 @@ saidOf p m v (Told o) = lineEnd (lineOn p v (answer m o))
 -- A registry is opened with no values, what is only stated answers no number, and what is told six at most.
 abbrev pub Plain : Values → Asked → Type 0
 Plain v Bad = Unit {0}
-Plain v (Open domain first) = v ≡ Nothing
+Plain v (Open domain first) = v ≡ None
 Plain v (Stated o) = Silent o
 Plain v (Told o) = Brief o
 
-open-said : (p : Page) (m : List ℕ) (domain first : ℕ) → askedLine p m Nothing (Open domain first) ≡ lineEnd (putOn p okWord)
+open-said : (p : Page) (m : List ℕ) (domain first : ℕ) → askedLine p m None (Open domain first) ≡ lineEnd (putOn p okWord)
 unfolding spokenOn numbersOn
 open-said p m domain first = refl
 
@@ -62,19 +62,19 @@ plainly p m v (Told o) h = said p m v o h
 
 -- The values that a row says of an acceptance.
 abbrev pub valuesBy : Row → Values
-valuesBy Slot = Nothing
+valuesBy Slot = None
 valuesBy Register = Numbers
 valuesBy (Takes count Show) = Numbers
 valuesBy (Takes count Buffer) = Numbers
 valuesBy (Takes count (Lists held)) = Numbers
 valuesBy (Takes count (Registry v)) = v
 valuesBy (Takes count Text) = Numbers
-valuesBy Unknown = Nothing
+valuesBy Unknown = None
 
 -- What is to be shown of a row, beside that of the others: nothing where nothing is asked for.
 abbrev Shown : Values → Asked → Type 0 → Type 0
 Shown v Bad N = N
-Shown v (Open domain first) N = (v ≡ Nothing) × N
+Shown v (Open domain first) N = (v ≡ None) × N
 Shown v (Stated o) N = Silent o × N
 Shown v (Told o) N = Brief o × N
 

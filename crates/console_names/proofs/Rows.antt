@@ -6,7 +6,7 @@ use mathlib.Core.List.{List, [], _∷_}
 use lib.ListN.{length, getD, take, drop, List·getD-eq-default}
 use lib.Seq.{take-length}
 use Rattle.console_names.specs.declared.Count.the-variants.{Exactly, AtLeast}
-use Rattle.console_names.specs.declared.Values.the-variants.{Nothing, Numbers, NumbersOrNone, YesOrNo}
+use Rattle.console_names.specs.declared.Values.the-variants.{None, Numbers, NumbersOrNone, YesOrNo}
 use Rattle.console_names.specs.declared.Held.the-variants.{Deps, Provs, Realms}
 use Rattle.console_names.specs.declared.Kind.{Kind}
 use Rattle.console_names.specs.declared.Kind.the-variants.{Show, Buffer, Lists, Registry, Text}
@@ -39,7 +39,7 @@ codedKind Buffer = 1
 codedKind (Lists Deps) = 2
 codedKind (Lists Provs) = 3
 codedKind (Lists Realms) = 4
-codedKind (Registry Nothing) = 5
+codedKind (Registry None) = 5
 codedKind (Registry Numbers) = 6
 codedKind (Registry NumbersOrNone) = 7
 codedKind (Registry YesOrNo) = 8

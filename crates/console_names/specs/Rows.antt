@@ -5,7 +5,7 @@ use lib.Dec.{eqb}
 use lib.ListN.{getD}
 use Rattle.rules.specs.Basics.{pick}
 use Rattle.console_names.specs.declared.Count.the-variants.{Exactly, AtLeast}
-use Rattle.console_names.specs.declared.Values.the-variants.{Nothing, Numbers, NumbersOrNone, YesOrNo}
+use Rattle.console_names.specs.declared.Values.the-variants.{None, Numbers, NumbersOrNone, YesOrNo}
 use Rattle.console_names.specs.declared.Held.the-variants.{Deps, Provs, Realms}
 use Rattle.console_names.specs.declared.Kind.{Kind}
 use Rattle.console_names.specs.declared.Kind.the-variants.{Show, Buffer, Lists, Registry, Text}
@@ -19,7 +19,7 @@ kinds =
     ∷ Lists Deps
     ∷ Lists Provs
     ∷ Lists Realms
-    ∷ Registry Nothing
+    ∷ Registry None
     ∷ Registry Numbers
     ∷ Registry NumbersOrNone
     ∷ Registry YesOrNo

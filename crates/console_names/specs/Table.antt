@@ -16,7 +16,7 @@ use Rattle.text_form.specs.Bytes.{bytes}
 use Rattle.console_names.specs.declared.Count.{Count}
 use Rattle.console_names.specs.declared.Count.the-variants.{Exactly, AtLeast}
 use Rattle.console_names.specs.declared.Values.{Values}
-use Rattle.console_names.specs.declared.Values.the-variants.{Nothing, Numbers, NumbersOrNone, YesOrNo}
+use Rattle.console_names.specs.declared.Values.the-variants.{None, Numbers, NumbersOrNone, YesOrNo}
 use Rattle.console_names.specs.declared.Held.the-variants.{Deps, Provs, Realms}
 use Rattle.console_names.specs.declared.Kind.the-variants.{Show, Buffer, Lists, Registry, Text}
 use Rattle.console_names.specs.declared.Row.{Row}
@@ -43,7 +43,7 @@ takes (Exactly due) given = eqb given due
 takes (AtLeast due) given = leb due given
 
 abbrev pub asked : Values → Op → Asked
-asked Nothing o = Stated o
+asked None o = Stated o
 asked Numbers o = Told o
 asked NumbersOrNone o = Told o
 asked YesOrNo o = Told o
@@ -89,22 +89,22 @@ rest l = drop 1 l
 -- Name, count of numbers, kind of values, and what is asked for.
 abbrev pub operations : List Operation
 operations =
-    asking true "open" (Exactly 2) Nothing (λ l. Open (first l) (second l))
+    asking true "open" (Exactly 2) None (λ l. Open (first l) (second l))
     ∷ other "register" Register
     ∷ step "begin" 1 Numbers (λ l. Begin (first l))
-    ∷ step "ready" 1 Nothing (λ l. Ready (first l))
-    ∷ step "fail" 1 Nothing (λ l. Fail (first l))
-    ∷ step "unload" 1 Nothing (λ l. Unload (first l))
-    ∷ step "finish" 1 Nothing (λ l. Finish (first l))
+    ∷ step "ready" 1 None (λ l. Ready (first l))
+    ∷ step "fail" 1 None (λ l. Fail (first l))
+    ∷ step "unload" 1 None (λ l. Unload (first l))
+    ∷ step "finish" 1 None (λ l. Finish (first l))
     ∷ step "replace" 2 Numbers (λ l. Replace (first l) (second l))
     ∷ ask "fits" 2 YesOrNo (λ l. Fits (first l) (second l))
     ∷ step "admit" 5 Numbers (λ l. Admit (record { domain = first l; id = second l; generation = third l; kind = fourth l }) (fifth l))
     ∷ step "call" 5 Numbers (λ l. Call (record { domain = first l; id = second l; generation = third l; revision = fourth l; argument = fifth l }))
-    ∷ step "retire" 1 Nothing (λ l. Retire (first l))
-    ∷ step "retire_child" 3 Nothing (λ l. RetireChild (record { domain = first l; parent = second l; id = third l }))
-    ∷ step "remove" 1 Nothing (λ l. Remove (first l))
+    ∷ step "retire" 1 None (λ l. Retire (first l))
+    ∷ step "retire_child" 3 None (λ l. RetireChild (record { domain = first l; parent = second l; id = third l }))
+    ∷ step "remove" 1 None (λ l. Remove (first l))
     ∷ ask "child" 1 NumbersOrNone (λ l. ChildIdentity (first l))
-    ∷ step "offer" 4 Nothing (λ l. Offer (first l) (port (second l) (third l)) (fourth l))
+    ∷ step "offer" 4 None (λ l. Offer (first l) (port (second l) (third l)) (fourth l))
     ∷ ask "read" 3 Numbers (λ l. Read (first l) (port (second l) (third l)))
     ∷ ask "visible" 2 NumbersOrNone (λ l. Visible (port (first l) (second l)))
     ∷ ask "missing" 1 NumbersOrNone (λ l. FirstMissing (first l))

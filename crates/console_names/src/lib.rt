@@ -15,7 +15,7 @@ pub enum Count {
 
 // The values behind `ok`: nothing, numbers, numbers or `none`, `yes` or `no`.
 pub enum Values {
-    Nothing,
+    None,
     Numbers,
     NumbersOrNone,
     YesOrNo,
@@ -107,7 +107,7 @@ const KINDS: [Kind; 10] = [
     Kind::Lists(Held::Deps),
     Kind::Lists(Held::Provs),
     Kind::Lists(Held::Realms),
-    Kind::Registry(Values::Nothing),
+    Kind::Registry(Values::None),
     Kind::Registry(Values::Numbers),
     Kind::Registry(Values::NumbersOrNone),
     Kind::Registry(Values::YesOrNo),
@@ -124,7 +124,7 @@ const PROVS: usize = 3;
 
 const REALMS: usize = 4;
 
-const NOTHING: usize = 5;
+const NONE: usize = 5;
 
 const NUMBERS: usize = 6;
 
@@ -147,22 +147,22 @@ const MORE: usize = 1;
 // A row for each operation: how many numbers are due, whether more may stand there, what is done with them. A new one goes to
 // the end, and its name to the end of the names below.
 const TABLE: [[usize; 3]; OPERATIONS] = [
-    [2, ONLY, NOTHING], // open
+    [2, ONLY, NONE], // open
     [0, ONLY, REGISTER], // register
     [1, ONLY, NUMBERS], // begin
-    [1, ONLY, NOTHING], // ready
-    [1, ONLY, NOTHING], // fail
-    [1, ONLY, NOTHING], // unload
-    [1, ONLY, NOTHING], // finish
+    [1, ONLY, NONE], // ready
+    [1, ONLY, NONE], // fail
+    [1, ONLY, NONE], // unload
+    [1, ONLY, NONE], // finish
     [2, ONLY, NUMBERS], // replace
     [2, ONLY, YES_OR_NO], // fits
     [5, ONLY, NUMBERS], // admit
     [5, ONLY, NUMBERS], // call
-    [1, ONLY, NOTHING], // retire
-    [3, ONLY, NOTHING], // retire_child
-    [1, ONLY, NOTHING], // remove
+    [1, ONLY, NONE], // retire
+    [3, ONLY, NONE], // retire_child
+    [1, ONLY, NONE], // remove
     [1, ONLY, NUMBERS_OR_NONE], // child
-    [4, ONLY, NOTHING], // offer
+    [4, ONLY, NONE], // offer
     [3, ONLY, NUMBERS], // read
     [2, ONLY, NUMBERS_OR_NONE], // visible
     [1, ONLY, NUMBERS_OR_NONE], // missing

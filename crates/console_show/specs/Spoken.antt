@@ -5,7 +5,7 @@ use lib.Dec.{eqb}
 use Rattle.rules.specs.Basics.{pick, last}
 use Rattle.rules.specs.Outcomes.{Answer}
 use Rattle.console_names.specs.declared.Values.{Values}
-use Rattle.console_names.specs.declared.Values.the-variants.{Nothing, Numbers, NumbersOrNone, YesOrNo}
+use Rattle.console_names.specs.declared.Values.the-variants.{None, Numbers, NumbersOrNone, YesOrNo}
 use Rattle.console_answer.specs.Pages.{Page, putOn}
 use Rattle.console_answer.specs.Answers.{badWord, answerIn, answerOn, answerOrNoneOn, answerYesNoOn}
 
@@ -15,7 +15,7 @@ bad = last
 
 -- The line of an answer, by the values that an acceptance has.
 abbrev pub lineOn : Page → Values → Answer → Page
-lineOn p Nothing a = answerOn p a
+lineOn p None a = answerOn p a
 lineOn p Numbers a = answerOn p a
 lineOn p NumbersOrNone a = answerOrNoneOn p a
 lineOn p YesOrNo a = answerYesNoOn p a

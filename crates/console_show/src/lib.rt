@@ -20,7 +20,7 @@ pub fn spoken(text: &mut [u8; ROOM], values: Values, status: u64, out: &[u64; AN
         return console_answer::put(text, 0, b"bad");
     }
     match values {
-        Values::Nothing => console_answer::told(text, status, out),
+        Values::None => console_answer::told(text, status, out),
         Values::Numbers => console_answer::told(text, status, out),
         Values::NumbersOrNone => console_answer::or_none(text, status, out),
         Values::YesOrNo => console_answer::yes_no(text, status, out),

@@ -1,7 +1,7 @@
 -- A contract allows one outcome.
 use mathlib.Core.Path.{_≡_, refl, ap}
-use Rattle.slot.specs.Slots.{decidedOf}
-use Rattle.slot.specs.Exact.{decided-exact}
+use Rattle.slot_child.specs.Slots.{decidedOf}
+use Rattle.slot_child.specs.Exact.{decided-exact}
 use Rattle.console_slot.specs.declared.Decides.{Decides}
 use Rattle.console_slot.specs.declared.Decides.the-variants.{Bad, Now}
 use Rattle.console_slot.specs.Operations.{decidesOf}

@@ -7,7 +7,7 @@ use Rattle.rules.specs.Outcomes.{Accepted}
 use Rattle.rules.specs.Retirement.{Identity}
 use Rattle.rules.specs.Slot as rules
 use Rattle.text_form.specs.Bytes.{bytes}
-use Rattle.slot.specs.Slots.{decidedOf}
+use Rattle.slot_child.specs.Slots.{decidedOf}
 use Rattle.console_slot.specs.declared.Decides.{Decides}
 use Rattle.console_slot.specs.declared.Decides.the-variants.{Bad, Now}
 

@@ -1,15 +1,15 @@
 // The slot's operations: a new slot, or a decision of the one that is there.
 ghost use mathlib.Core.Path.{_≡_};
 ghost use mathlib.Core.Option.{some};
-ghost use Rattle.slot.specs.Slots.{identityOf, slotOf};
+ghost use Rattle.slot_child.specs.Slots.{identityOf, slotOf};
 ghost use Rattle.console_answer.specs.Pages.{upTo};
 ghost use Rattle.console_slot.specs.Operations.{decidesOf, newSlot, withNone, withThree, decidedBy};
 ghost use Rattle.console_slot.specs.Lines.{LeavesSlot, decidedOr, slotLine};
 use console_answer::ROOM;
 use rules::Done;
-use slot::Decided;
-use slot::Identity;
-use slot::Slot;
+use slot_child::Decided;
+use slot_child::Identity;
+use slot_child::Slot;
 
 // The place behind what was said, and the slot.
 pub struct Said {

@@ -1,12 +1,12 @@
 // Child slot: it is made and decided in words of the host's.
 ghost use mathlib.Core.Path.{_≡_};
 ghost use Rattle.rules.specs.Slot as rules;
-ghost use Rattle.slot.specs.Slots.{slotOf};
+ghost use Rattle.slot_child.specs.Slots.{slotOf};
 ghost use Rattle.slot_words.specs.Words.{slotAt, putSlot};
 ghost use Rattle.registry_retire.specs.Answers.{identified};
 ghost use Rattle.host.specs.Tells.{Decides};
-use slot::Identity;
-use slot::Slot;
+use slot_child::Identity;
+use slot_child::Slot;
 use slot_words::SLOT;
 
 // A child slot is eight words of the host's: domain, parent, 1 with a generation or 0, generation, decision (0 Pending,

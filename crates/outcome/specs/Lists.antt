@@ -1,9 +1,9 @@
 -- Each promise of these crates allows one outcome: the forms that the rules and the code share, and lists of keys and ports.
 use Rattle.ports.specs.Answers.{resolved-exact}
-use Rattle.slot.specs.Exact.{decided-exact, slot-exact}
+use Rattle.slot_child.specs.Exact.{decided-exact, slot-exact}
 use Rattle.rules.proofs as rules
 use Rattle.rules.specs.Answers.{number-exact}
-use Rattle.slot.proofs as slot
+use Rattle.slot_child.proofs as slot_child
 use Rattle.ports_listed.proofs as ports_listed
 use Rattle.ports.proofs as ports
 use Rattle.ports_resolved.proofs as ports_resolved
@@ -26,20 +26,20 @@ rules-Generation-of κs a r s ms ns p q = by-equation p q
 pub rules-Generation-next : One rules.Generation.next.ended rules.Generation.next.Reads.Learnt
 rules-Generation-next κs a r s ms ns p q = by-equation p q
 
-pub slot-Slot-pending : One slot.Slot.pending.ended slot.Slot.pending.Reads.Learnt
-slot-Slot-pending κs a r s ms ns p q = one-outcome slot-exact p q
+pub slot-child-Slot-pending : One slot_child.Slot.pending.ended slot_child.Slot.pending.Reads.Learnt
+slot-child-Slot-pending κs a r s ms ns p q = one-outcome slot-exact p q
 
-pub slot-Slot-assigned : One slot.Slot.assigned.ended slot.Slot.assigned.Reads.Learnt
-slot-Slot-assigned κs a r s ms ns p q = one-outcome slot-exact p q
+pub slot-child-Slot-assigned : One slot_child.Slot.assigned.ended slot_child.Slot.assigned.Reads.Learnt
+slot-child-Slot-assigned κs a r s ms ns p q = one-outcome slot-exact p q
 
-pub slot-Slot-assign : One slot.Slot.assign.ended slot.Slot.assign.Reads.Learnt
-slot-Slot-assign κs a r s ms ns p q = one-outcome decided-exact p q
+pub slot-child-Slot-assign : One slot_child.Slot.assign.ended slot_child.Slot.assign.Reads.Learnt
+slot-child-Slot-assign κs a r s ms ns p q = one-outcome decided-exact p q
 
-pub slot-Slot-reject : One slot.Slot.reject.ended slot.Slot.reject.Reads.Learnt
-slot-Slot-reject κs a r s ms ns p q = one-outcome decided-exact p q
+pub slot-child-Slot-reject : One slot_child.Slot.reject.ended slot_child.Slot.reject.Reads.Learnt
+slot-child-Slot-reject κs a r s ms ns p q = one-outcome decided-exact p q
 
-pub slot-Slot-cancel : One slot.Slot.cancel.ended slot.Slot.cancel.Reads.Learnt
-slot-Slot-cancel κs a r s ms ns p q = one-outcome decided-exact p q
+pub slot-child-Slot-cancel : One slot_child.Slot.cancel.ended slot_child.Slot.cancel.Reads.Learnt
+slot-child-Slot-cancel κs a r s ms ns p q = one-outcome decided-exact p q
 
 pub ports-listed-list-ports : One ports_listed.«list_ports».ended ports_listed.«list_ports».Reads.Learnt
 ports-listed-list-ports κs a r s ms ns p q = one-with-memory number-exact p q

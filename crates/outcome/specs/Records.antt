@@ -2,8 +2,8 @@
 use Prim.Native.Nat.{ℕ}
 use mathlib.Core.Path.{_≡_, ap}
 use mathlib.Core.List.{List}
-use Rattle.slot.specs.Slots.{slotOf}
-use Rattle.slot.specs.Exact.{slot-exact}
+use Rattle.slot_child.specs.Slots.{slotOf}
+use Rattle.slot_child.specs.Exact.{slot-exact}
 use Rattle.text_form.specs.Digits.{Written}
 use Rattle.text_lines.specs.Laid.{Laid}
 use Rattle.console_words.specs.Words.{Spanned}

@@ -1,12 +1,12 @@
 // The console: operations from standard input, one a line, are carried out on one registry, and each is answered by a line.
 ghost use mathlib.Core.Path.{_≡_};
-ghost use Rattle.slot.specs.Slots.{slotOf};
+ghost use Rattle.slot_child.specs.Slots.{slotOf};
 ghost use Rattle.replay.specs.Fed.{kept, endLine, byteFed, fed};
 use console_answer::ROOM;
 use console_names::BUFFER_ROOM;
 use console_words::LINE;
 use memory::WORDS;
-use slot::Slot;
+use slot_child::Slot;
 
 // What a line leaves to the next part of the input: how many bytes of it came, and the slot.
 struct State {

@@ -4,13 +4,13 @@ use mathlib.Core.Path.{_≡_, refl}
 use mathlib.Core.List.{List, [], _∷_}
 use Rattle.rules.specs.Retirement as retirement
 use Rattle.rules.specs.Slot as rules
-use Rattle.slot.specs.declared.Identity.{Identity}
+use Rattle.slot_child.specs.declared.Identity.{Identity}
 use Rattle.rules.specs.declared.Optional.the-variants.{Is}
-use Rattle.slot.specs.declared.Decision.the-variants.{Cancelled}
+use Rattle.slot_child.specs.declared.Decision.the-variants.{Cancelled}
 use Rattle.rules.specs.declared.Done.the-variants.{Accepted, Refused}
 use Rattle.rules.specs.Answers.{doneAnswer}
-use Rattle.slot.specs.declared.Decided.{Decided}
-use Rattle.slot.specs.Slots.{slotOf, decidedOf}
+use Rattle.slot_child.specs.declared.Decided.{Decided}
+use Rattle.slot_child.specs.Slots.{slotOf, decidedOf}
 use Rattle.memory.specs.Writes.{puts}
 use Rattle.slot_words.specs.Words.{generationIn, decisionIn, hasWord, generationWord, decisionWord, childIn, putSlot, slotAfter, Decides}
 

@@ -12,14 +12,14 @@ use Rattle.rules.specs.Refusals.{number, InvalidState}
 use Rattle.rules.specs.Outcomes.{Answer, Refused, Accepted}
 use Rattle.rules.specs.Retirement as retirement
 use Rattle.rules.specs.Slot as rules
-use Rattle.slot.specs.declared.Identity.{Identity}
+use Rattle.slot_child.specs.declared.Identity.{Identity}
 use Rattle.rules.specs.declared.Optional.{Optional}
 use Rattle.rules.specs.declared.Optional.the-variants.{Is, None}
 use Rattle.rules.specs.Answers.{optionOf}
-use Rattle.slot.specs.declared.Decision.{Decision}
-use Rattle.slot.specs.declared.Decision.the-variants.{Pending, Assigned, Failed, Cancelled}
-use Rattle.slot.specs.declared.Slot.{Slot}
-use Rattle.slot.specs.Slots.{decisionOf, slotOf}
+use Rattle.slot_child.specs.declared.Decision.{Decision}
+use Rattle.slot_child.specs.declared.Decision.the-variants.{Pending, Assigned, Failed, Cancelled}
+use Rattle.slot_child.specs.declared.Slot.{Slot}
+use Rattle.slot_child.specs.Slots.{decisionOf, slotOf}
 use Rattle.memory.specs.Layout.{word}
 use Rattle.memory.specs.Writes.{puts}
 use Rattle.memory.specs.Frames.{puts-same}

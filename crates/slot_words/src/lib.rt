@@ -2,14 +2,14 @@
 ghost use mathlib.Core.Path.{_≡_};
 ghost use Rattle.rules.specs.Slot as rules;
 ghost use Rattle.rules.specs.Answers.{doneAnswer, optionOf};
-ghost use Rattle.slot.specs.Slots.{identityOf, decisionOf, slotOf, decidedOf};
+ghost use Rattle.slot_child.specs.Slots.{identityOf, decisionOf, slotOf, decidedOf};
 ghost use Rattle.slot_words.specs.Words.{generationIn, decisionIn, slotAt, hasWord, generationWord, decisionWord, childIn, putSlot, Decides};
 use rules::Done;
 use rules::Optional;
-use slot::Decided;
-use slot::Decision;
-use slot::Identity;
-use slot::Slot;
+use slot_child::Decided;
+use slot_child::Decision;
+use slot_child::Identity;
+use slot_child::Slot;
 
 // Domain, parent, whether there is a generation, generation, decision, and the assigned identity's three.
 pub const SLOT: usize = 8;

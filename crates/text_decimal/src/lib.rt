@@ -9,7 +9,7 @@ ghost use Rattle.text_decimal.specs.Numbers.{readOf};
 // The number that a word is, if it is one.
 pub enum Decimal {
     Is(u64),
-    Not,
+    None,
 }
 
 // How many digits a number has: four for each time that it is divided by 10,000, and those of what is left.
@@ -90,14 +90,14 @@ fn read_digits(word: &[u8]) -> Decimal
     while i < word.len() {
         let b = word[i];
         if b < 48 {
-            return Decimal::Not;
+            return Decimal::None;
         }
         if 57 < b {
-            return Decimal::Not;
+            return Decimal::None;
         }
         let digit = (b - 48) as u64;
         if (u64::MAX - digit) / 10 < n {
-            return Decimal::Not;
+            return Decimal::None;
         }
         n = n * 10 + digit;
         i += 1;
@@ -109,13 +109,13 @@ pub fn read_decimal(word: &[u8]) -> Decimal
     ensures { λ r. ⌜ readOf r ≡ numberOf (now (word .entry)) ⌝ }
 {
     if word.len() == 0 {
-        return Decimal::Not;
+        return Decimal::None;
     }
     if word.len() == 1 {
         return read_digits(word);
     }
     if word[0] == 48 {
-        return Decimal::Not;
+        return Decimal::None;
     }
     read_digits(word)
 }

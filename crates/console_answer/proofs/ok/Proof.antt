@@ -16,8 +16,8 @@ number-requires c κs = search needs
 number-requires-2 : tie.Need-number-requires-2
 number-requires-2 c κs = search needs
 
-episode-requires : tie.Need-episode-requires
-episode-requires c κs = search needs
+generation-or-none-requires : tie.Need-generation-or-none-requires
+generation-or-none-requires c κs = search needs
 
 decision-requires : tie.Need-decision-requires
 decision-requires c κs = search needs
@@ -34,6 +34,6 @@ ok-spec =
     put-requires
     number-requires
     number-requires-2
-    episode-requires
+    generation-or-none-requires
     decision-requires
     returns)

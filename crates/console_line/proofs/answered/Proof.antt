@@ -1,5 +1,5 @@
 -- `answered` meets its contract: the first word's place among the names is operated on.
-use Rattle.slot.specs.Slots.{slotOf}
+use Rattle.slot_child.specs.Slots.{slotOf}
 use Rattle.console_answer.specs.Pages.{upTo}
 use Rattle.console_line.proofs.Laws.{same-left, answered-is}
 use borrow.Author.Needs.{needs}

@@ -1,6 +1,6 @@
 -- `ended` meets its contract: an empty line, a remark, a line too long and any other are the definition's cases.
 use mathlib.Core.Path.{refl}
-use Rattle.slot.specs.Slots.{slotOf}
+use Rattle.slot_child.specs.Slots.{slotOf}
 use Rattle.console_answer.specs.Pages.{upTo}
 use Rattle.console_line.proofs.Laws.{same-left}
 use Rattle.console_line.proofs.Ends.{empty-line, remark, too-long, whole-line}

@@ -1,6 +1,6 @@
 -- `operate` meets its contract: each arm does what the definition does for the row at the place, and leaves the rest as it was.
 use mathlib.Core.Path.{refl}
-use Rattle.slot.specs.Slots.{slotOf}
+use Rattle.slot_child.specs.Slots.{slotOf}
 use Rattle.console_answer.specs.Pages.{upTo}
 use Rattle.console_line.proofs.Laws.{same-left, operate-is}
 use borrow.Author.Needs.{needs}

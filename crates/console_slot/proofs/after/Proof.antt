@@ -1,6 +1,6 @@
 -- `after` meets its contract: a bad line says so and leaves the slot, and a decision is shown and leaves its own.
 use mathlib.Core.Path.{refl, ap}
-use Rattle.slot.specs.Slots.{slotOf}
+use Rattle.slot_child.specs.Slots.{slotOf}
 use Rattle.console_answer.specs.Pages.{upTo}
 use Rattle.console_slot.specs.declared.Decides.{Decides}
 use Rattle.console_slot.specs.Operations.{decidesOf}

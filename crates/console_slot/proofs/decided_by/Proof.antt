@@ -1,6 +1,6 @@
 -- `decided_by` meets its contract: no number, three numbers and any other count are the definition's cases.
 use mathlib.Core.Path.{_∙_}
-use Rattle.slot.specs.Slots.{slotOf}
+use Rattle.slot_child.specs.Slots.{slotOf}
 use Rattle.console_slot.proofs.Operations.{no-number, three-numbers, other-count}
 use native.Mathlib.Omega.{arith}
 use borrow.Author.Needs.{needs}

@@ -1,5 +1,5 @@
 -- `slot_line` meets its contract: a word that is no number makes the line bad, and else `decided_by` has the name and the numbers.
-use Rattle.slot.specs.Slots.{slotOf}
+use Rattle.slot_child.specs.Slots.{slotOf}
 use Rattle.console_answer.specs.Pages.{upTo}
 use Rattle.console_names.specs.Behind.{no-numbers, all-numbers}
 use Rattle.console_slot.proofs.Lines.{same-after, bad-line, named-line}

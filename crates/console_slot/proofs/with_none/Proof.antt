@@ -1,7 +1,7 @@
 -- `with_none` meets its contract: the name is one of two words, each with its call's promise, or the line is bad.
 use mathlib.Core.Path.{sym, ap, _∙_}
 use mathlib.Core.Option.{some}
-use Rattle.slot.specs.Slots.{slotOf}
+use Rattle.slot_child.specs.Slots.{slotOf}
 use Rattle.console_slot.proofs.Operations.{is-reject, is-cancel, neither}
 use borrow.Author.Needs.{needs}
 use Rattle.console_slot.proofs.with_none.Statement.{statement}

@@ -1,7 +1,7 @@
 -- `with_three` meets its contract: the name is one of three words, each with its call's promise, or the line is bad.
 use mathlib.Core.Path.{sym, ap, _∙_}
 use mathlib.Core.Option.{some}
-use Rattle.slot.specs.Slots.{identityOf, slotOf}
+use Rattle.slot_child.specs.Slots.{identityOf, slotOf}
 use Rattle.console_slot.proofs.Operations.{newDecides, is-pending, is-assigned, is-assign, no-name}
 use borrow.Author.Needs.{needs}
 use Rattle.console_slot.proofs.with_three.Statement.{statement}

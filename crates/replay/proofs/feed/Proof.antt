@@ -3,7 +3,7 @@ use Prim.Native.Nat.{_+_, _-_, _≤_}
 use mathlib.Core.Path.{_≡_, refl, sym, ap, _∙_}
 use native.Mathlib.Omega.{arith}
 use lib.ListN.{length, drop}
-use Rattle.slot.specs.Slots.{slotOf}
+use Rattle.slot_child.specs.Slots.{slotOf}
 use Rattle.replay.specs.Fed.{Kept, kept, fed}
 use Rattle.replay.proofs.Laws.{fed-next, fed-end}
 use borrow.Author.Needs.{needs}

@@ -1,6 +1,6 @@
 -- `next_byte` meets its contract: byte 10 ends the line by `written`, and any other makes it longer by `longer`.
 use mathlib.Core.Path.{sym, _∙_}
-use Rattle.slot.specs.Slots.{slotOf}
+use Rattle.slot_child.specs.Slots.{slotOf}
 use Rattle.replay.specs.Fed.{kept}
 use Rattle.replay.proofs.Laws.{ends-line, grows}
 use borrow.Author.Needs.{needs}

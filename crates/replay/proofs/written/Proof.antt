@@ -1,6 +1,6 @@
 -- `written` meets its contract: what `ended` leaves of memory, buffer and slot is what is kept, and `say` changes none of it.
 use lib.ListN.{replicate}
-use Rattle.slot.specs.Slots.{slotOf}
+use Rattle.slot_child.specs.Slots.{slotOf}
 use Rattle.console_answer.specs.Pages.{upTo, room}
 use Rattle.console_line.specs.Console.{lineEnded}
 use Rattle.replay.proofs.Laws.{kept-left}

@@ -1,8 +1,8 @@
 -- `reject` meets its contract. Assumes nothing.
 use mathlib.Core.Path.{_∙_, ap}
 use Rattle.rules.specs.Slot as rules
-use Rattle.slot.specs.declared.Slot.{Slot}
-use Rattle.slot.specs.Slots.{slotOf}
+use Rattle.slot_child.specs.declared.Slot.{Slot}
+use Rattle.slot_child.specs.Slots.{slotOf}
 use Rattle.slot_words.specs.Words.{decides}
 use borrow.Author.Needs.{needs}
 use Rattle.slot_words.proofs.reject.Statement.{statement}

@@ -1,6 +1,6 @@
 -- The digits counted so far and those of what is left are the number's.
 use Prim.Native.Nat.{_+_, _≤_}
-use mathlib.Core.Path.{_≡_, refl}
+use mathlib.Core.Path.{_≡_}
 use native.Mathlib.Omega.{arith}
 use lib.ListN.{length}
 use Rattle.text_form.specs.Digits.{decimalOf}

@@ -1,7 +1,7 @@
 -- A short scratch stays; in another a number below 10 is its one digit, and the counted digits of any other are filled in: at most 20.
-use mathlib.Core.Path.{refl, sym, ap}
+use mathlib.Core.Path.{sym, ap}
 use native.Mathlib.Omega.{arith}
-use lib.ListN.{length, length-set}
+use lib.ListN.{length}
 use Rattle.text_form.specs.Writing.{digits-one, digits-room, first-stored, too-short, long-enough}
 use borrow.Author.Needs.{needs}
 use Rattle.text_decimal.proofs.write_digits.Statement.{statement}

@@ -1,8 +1,8 @@
 -- `Slot::reject` meets its contract. Assumes nothing.
 use borrow.Author.Needs.{needs}
 use Rattle.rules.specs.Slot.{reject}
-use Rattle.slot.proofs.Slot.reject.Statement.{statement}
-use Rattle.slot.proofs.Slot.reject.Tie as tie
+use Rattle.slot_child.proofs.Slot.reject.Statement.{statement}
+use Rattle.slot_child.proofs.Slot.reject.Tie as tie
 
 decided-requires : tie.Need-decided-requires
 decided-requires c κs = search needs

@@ -5,13 +5,13 @@ use Prim.Native.Nat.{ℕ}
 use Rattle.rules.specs.Slot as rules
 use Rattle.rules.specs.declared.Optional.{Optional}
 use Rattle.rules.specs.declared.Optional.the-variants.{Is, None}
-use Rattle.slot.specs.declared.Decision.{Decision}
-use Rattle.slot.specs.declared.Decision.the-variants.{Pending, Assigned, Failed, Cancelled}
-use Rattle.slot.specs.declared.Slot.{Slot}
+use Rattle.slot_child.specs.declared.Decision.{Decision}
+use Rattle.slot_child.specs.declared.Decision.the-variants.{Pending, Assigned, Failed, Cancelled}
+use Rattle.slot_child.specs.declared.Slot.{Slot}
 use Rattle.rules.specs.declared.Done.{Done}
 use Rattle.rules.specs.Answers.{optionOf, done-exact}
-use Rattle.slot.specs.declared.Decided.{Decided}
-use Rattle.slot.specs.Slots.{decisionOf, slotOf, decidedOf}
+use Rattle.slot_child.specs.declared.Decided.{Decided}
+use Rattle.slot_child.specs.Slots.{decisionOf, slotOf, decidedOf}
 
 -- The way back from document 01's values.
 abbrev optional : Option ℕ → Optional

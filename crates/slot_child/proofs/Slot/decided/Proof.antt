@@ -1,9 +1,9 @@
 -- `Slot::decided` meets its contract: each arm has the rule at the decision that stands.
 use mathlib.Core.Path.{_∙_}
 use borrow.Author.Needs.{needs}
-use Rattle.slot.proofs.Laws.{stands}
-use Rattle.slot.proofs.Slot.decided.Statement.{statement}
-use Rattle.slot.proofs.Slot.decided.Tie as tie
+use Rattle.slot_child.proofs.Laws.{stands}
+use Rattle.slot_child.proofs.Slot.decided.Statement.{statement}
+use Rattle.slot_child.proofs.Slot.decided.Tie as tie
 
 enum-told : tie.Need-enum-told
 enum-told c = search needs

@@ -4,12 +4,12 @@ use Rattle.rules.specs.Outcomes.{Refused}
 use Rattle.rules.specs.Refusals.{number, InvalidState}
 use Rattle.rules.specs.Retirement as retirement
 use Rattle.rules.specs.Slot as rules
-use Rattle.slot.specs.declared.Identity.{Identity}
-use Rattle.slot.specs.declared.Decision.{Decision}
-use Rattle.slot.specs.declared.Decision.the-variants.{Pending, Assigned, Failed, Cancelled}
-use Rattle.slot.specs.declared.Slot.{Slot}
+use Rattle.slot_child.specs.declared.Identity.{Identity}
+use Rattle.slot_child.specs.declared.Decision.{Decision}
+use Rattle.slot_child.specs.declared.Decision.the-variants.{Pending, Assigned, Failed, Cancelled}
+use Rattle.slot_child.specs.declared.Slot.{Slot}
 use Rattle.rules.specs.Answers.{doneAnswer, optionOf}
-use Rattle.slot.specs.declared.Decided.{Decided}
+use Rattle.slot_child.specs.declared.Decided.{Decided}
 
 abbrev pub identityOf : Identity → retirement.Identity
 identityOf c = record { domain = c .domain; parent = c .parent; id = c .id }

@@ -4,7 +4,7 @@ ghost use mathlib.Core.Bool.{true};
 ghost use mathlib.Core.List.{[]};
 ghost use Rattle.rules.specs.Outcomes.{Accepted};
 ghost use Rattle.rules.specs.Slot as rules;
-ghost use Rattle.slot.specs.Slots.{slotOf, identityOf, decisionOf, decidedOf, refusedOf};
+ghost use Rattle.slot_child.specs.Slots.{slotOf, identityOf, decisionOf, decidedOf, refusedOf};
 use rules::Done;
 use rules::Optional;
 use rules::refusal;

@@ -1,8 +1,8 @@
 -- `Slot::cancel` meets its contract. Assumes nothing.
 use borrow.Author.Needs.{needs}
 use Rattle.rules.specs.Slot.{cancel}
-use Rattle.slot.proofs.Slot.cancel.Statement.{statement}
-use Rattle.slot.proofs.Slot.cancel.Tie as tie
+use Rattle.slot_child.proofs.Slot.cancel.Statement.{statement}
+use Rattle.slot_child.proofs.Slot.cancel.Tie as tie
 
 decided-requires : tie.Need-decided-requires
 decided-requires c κs = search needs

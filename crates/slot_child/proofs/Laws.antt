@@ -4,7 +4,7 @@ use mathlib.Core.Bool.{true, false, and-false}
 use borrow.Author.Tests.{eq-eqb, ne-eqb}
 use Rattle.rules.specs.Retirement.{Identity}
 use Rattle.rules.specs.Slot.{Slot, Decision, Assigned, isPending, decided, assign}
-use Rattle.slot.specs.Slots.{refusedOf}
+use Rattle.slot_child.specs.Slots.{refusedOf}
 
 pub stands : (s : Slot) (v : Decision) → isPending (s .decision) ≡ false → refusedOf s ≡ decided s true v
 stands s v e = rw e

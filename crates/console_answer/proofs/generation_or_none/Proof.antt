@@ -1,7 +1,7 @@
--- `episode` meets its contract: in each arm the call puts what the definition puts for that generation.
+-- `generation_or_none` meets its contract: in each arm the call puts what the definition puts for that generation.
 use borrow.Author.Needs.{needs}
-use Rattle.console_answer.proofs.episode.Statement.{statement}
-use Rattle.console_answer.proofs.episode.Tie as tie
+use Rattle.console_answer.proofs.generation_or_none.Statement.{statement}
+use Rattle.console_answer.proofs.generation_or_none.Tie as tie
 
 enum-known-generation : tie.Need-enum-known-generation
 enum-known-generation c = search needs
@@ -24,8 +24,8 @@ returns c = rw (c .before .before .before .generation .given .1) (c .number .ens
 returns-2 : tie.Need-returns-2
 returns-2 c = rw (c .before .before .before .enum-told .given .1) (c .put .ensures)
 
-pub episode-spec : {M : Type 1} → statement M
-episode-spec =
+pub generation-or-none-spec : {M : Type 1} → statement M
+generation-or-none-spec =
     tie.close
     (tie.spec
     enum-known-generation

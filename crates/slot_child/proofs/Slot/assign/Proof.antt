@@ -2,9 +2,9 @@
 use mathlib.Core.Path.{_∙_}
 use native.Mathlib.Omega.{arith}
 use borrow.Author.Needs.{needs}
-use Rattle.slot.proofs.Laws.{foreign, stranger, akin}
-use Rattle.slot.proofs.Slot.assign.Statement.{statement}
-use Rattle.slot.proofs.Slot.assign.Tie as tie
+use Rattle.slot_child.proofs.Laws.{foreign, stranger, akin}
+use Rattle.slot_child.proofs.Slot.assign.Statement.{statement}
+use Rattle.slot_child.proofs.Slot.assign.Tie as tie
 
 refused-requires : tie.Need-refused-requires
 refused-requires c κs = search needs
