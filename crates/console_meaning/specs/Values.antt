@@ -23,7 +23,7 @@ use Rattle.rules.specs.Lists.{Which, listing, list}
 use Rattle.rules.specs.Queries.{Total}
 use Rattle.rules.specs.Steps.{Op, answerTo, Register, Begin, Ready, Fail, Unload, Finish, Replace, Admit, Call, Retire, RetireChild, Remove, Offer, Ask, Write}
 use Rattle.rules.specs.Questions.{ResolveKey, DependencyPort, Fits, ChildIdentity, Read, Visible, FirstMissing, Matching, Declares, AskRegistry, Listed}
-use Rattle.rules.specs.Laws.Tests.{checked-elim, found-elim}
+use Rattle.rules_laws.specs.Laws.Tests.{checked-elim, found-elim}
 use Rattle.console_show.specs.Shown.{valuesOf}
 use Rattle.console_show.specs.Told.{one-fits}
 

@@ -7,7 +7,7 @@ use mathlib.Core.Option.{Option, none, some}
 use Rattle.rules.specs.Refusals.{Refusal, number}
 use Rattle.rules.specs.Outcomes.{Refused, Outcome, tells, refusing, accepting, refuses, writes, stores, adds, removes, answerOf}
 use Rattle.rules.specs.Steps.{Op, step, answerTo, lent, lentAfterStep}
-use Rattle.rules.specs.Demand1.{refusal-changes-nothing}
+use Rattle.rules_laws.specs.Demand1.{refusal-changes-nothing}
 use Rattle.memory.specs.Ways.{Way, leftBy}
 use Rattle.memory.specs.View.{view}
 use Rattle.demands.specs.Leaves.{wayOf, left, leaves}

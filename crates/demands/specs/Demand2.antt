@@ -4,10 +4,10 @@ use Prim.Native.Nat.{ℕ}
 use mathlib.Core.Path.{_≡_, refl, sym, subst}
 use mathlib.Core.List.{List}
 use Rattle.rules.specs.Steps.{Op, step, Register, Begin, Ready, Fail, Unload, Finish, Replace, Admit, Call, Retire, RetireChild, Remove, Offer, Ask, Write}
-use Rattle.rules.specs.Built.{Built}
-use Rattle.rules.specs.Kept.{step-built}
-use Rattle.rules.specs.Kept.Reach.{nothing, reach}
-use Rattle.rules.specs.Kept.Operations.{asked-same}
+use Rattle.rules_laws.specs.Built.{Built}
+use Rattle.rules_laws.specs.Kept.{step-built}
+use Rattle.rules_laws.specs.Kept.Reach.{nothing, reach}
+use Rattle.rules_laws.specs.Kept.Operations.{asked-same}
 use Rattle.memory.specs.View.{view}
 use Rattle.memory_rows.specs.Dense.{Refines}
 use Rattle.memory_rows.specs.Stored.{life-refines}

@@ -8,8 +8,8 @@ use Rattle.rules.specs.Basics.{last}
 use Rattle.rules.specs.Holds.{Registry, opened}
 use Rattle.rules.specs.Admission.{Invocation}
 use Rattle.rules.specs.Steps.{Op, Event, event, answerTo, Run, goOnWith, run, Call}
-use Rattle.rules.specs.History.{story, Demand3}
-use Rattle.rules.specs.Demand3 as rules
+use Rattle.rules_laws.specs.History.{story, Demand3}
+use Rattle.rules_laws.specs.Demand3 as rules
 use Rattle.memory.specs.View.{view}
 use Rattle.memory.specs.Layout.{memoryWords}
 use Rattle.registry_remove.specs.Refines.{open-refines}

@@ -9,9 +9,9 @@ use lib.ListN.{length}
 use Rattle.rules.specs.Basics.{last}
 use Rattle.rules.specs.Holds.{Plugin, lookup}
 use Rattle.rules.specs.declared.Root.the-variants.{Queued}
-use Rattle.rules.specs.Demand3 as three
-use Rattle.rules.specs.Built.{Built}
-use Rattle.rules.specs.Kept.{opened-built, built-start}
+use Rattle.rules_laws.specs.Demand3 as three
+use Rattle.rules_laws.specs.Built.{Built}
+use Rattle.rules_laws.specs.Kept.{opened-built, built-start}
 use Rattle.memory.specs.View.{view}
 use Rattle.memory.specs.Writes.{puts}
 use Rattle.memory.specs.Layout.{memoryWords}

@@ -7,9 +7,9 @@ use mathlib.Core.Option.{some}
 use Rattle.rules.specs.Basics.{sum}
 use Rattle.rules.specs.Holds.{Plugin, Registry, lookup, rowsInUse}
 use Rattle.rules.specs.Steps.{Op, answerTo}
-use Rattle.rules.specs.Acts.{act}
-use Rattle.rules.specs.Stays.{domain-stays, first-stays, begunBy, generation-stays}
-use Rattle.rules.specs.Ledger.{Entry, entered, ledger, entryRows, Booked, start-booked, step-booked}
+use Rattle.rules_laws.specs.Acts.{act}
+use Rattle.rules_laws.specs.Stays.{domain-stays, first-stays, begunBy, generation-stays}
+use Rattle.rules_laws.specs.Ledger.{Entry, entered, ledger, entryRows, Booked, start-booked, step-booked}
 use Rattle.memory.specs.View.{view}
 use Rattle.demands.specs.Leaves.{leaves}
 use Rattle.demands.specs.Demand2.{Made, goesOn, made-sound, demand-2}

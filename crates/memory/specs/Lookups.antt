@@ -8,7 +8,7 @@ use mathlib.Core.Option.{Option, none, some}
 use lib.Dec.{eqb}
 use Rattle.rules.specs.Basics.{pick, first}
 use Rattle.rules.specs.Holds.{Plugin, held, lookup}
-use Rattle.rules.specs.Laws.Tests.{by-test, both}
+use Rattle.rules_laws.specs.Laws.Tests.{by-test, both}
 use Rattle.memory.specs.Layout.{taken, places}
 use Rattle.memory.specs.View.{pluginAt, placeAt, placesFrom, view}
 use Rattle.memory.specs.Writes.{namesAt, findFrom, findAt}

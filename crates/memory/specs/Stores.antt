@@ -10,7 +10,7 @@ use lib.ListN.{length}
 use borrow.Author.Tests.{eq-eqb, ne-eqb, eqb-true, eqb-false}
 use Rattle.rules.specs.Holds.{Plugin}
 use Rattle.rules.specs.Outcomes.{stores, after, storedAt}
-use Rattle.rules.specs.Laws.Tests.{by-test}
+use Rattle.rules_laws.specs.Laws.Tests.{by-test}
 use Rattle.rules.specs.Limits.{maxRows, maxProvisionKeys, maxDependencies, maxRealmRows}
 use Rattle.memory.specs.Layout.{word, part, taken, idAt, startAt, depsAt, provsAt, realmsAt, rowWord, anchorWord, memoryWords, placeWords, places, idWord, tagWord, parentWord, revisionWord, firstRowWord, dependenciesWord, provisionsWord, realmsWord, maskWord, valuesWord, realmRowsWord, placeEnd, rowWords, domainWord, firstWord, nextWord, occupancyWord}
 use Rattle.memory.specs.View.{lifeAt, pluginAt, placeAt, placesFrom, view}

@@ -11,7 +11,7 @@ use lib.ListN.{length, getD, set, length-set}
 use lib.Seq.{getD-set-same, getD-set-other}
 use borrow.Author.Tests.{ltb-true, ltb-false, le-leb}
 use Rattle.rules.specs.Outcomes.{adds, after}
-use Rattle.rules.specs.Laws.Tests.{by-test}
+use Rattle.rules_laws.specs.Laws.Tests.{by-test}
 use Rattle.rules.specs.Limits.{maxRows, maxDependencies}
 use Rattle.memory.specs.Layout.{word, taken, idAt, rowWord, memoryWords, placeWords, places, nextWord, rowsStart, idWord, realmRowsWord, placeEnd, rowWords, domainWord, firstWord, occupancyWord}
 use Rattle.memory.specs.View.{placeAt, view}

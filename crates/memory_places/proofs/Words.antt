@@ -13,7 +13,7 @@ use lib.Pow.{shr-shr, shr-lt}
 use borrow.Author.Tests.{lt-ltb, le-ltb, lt-leb, le-leb}
 use Rattle.rules.specs.Basics.{pick}
 use Rattle.rules.specs.Holds.{held, count}
-use Rattle.rules.specs.Laws.Tests.{by-test}
+use Rattle.rules_laws.specs.Laws.Tests.{by-test}
 use Rattle.memory.specs.Layout.{occupancy, taken, places, occupancyWord}
 use Rattle.memory.specs.View.{placeAt, placesFrom, view}
 use Rattle.memory.specs.declared.Place.{Place}

@@ -8,7 +8,7 @@ use lib.Dec.{leb, eqb}
 use lib.ListN.{length}
 use borrow.Author.Tests.{le-leb, eqb-true, eqb-false}
 use Rattle.rules.specs.Holds.{held, count}
-use Rattle.rules.specs.Laws.Tests.{by-test}
+use Rattle.rules_laws.specs.Laws.Tests.{by-test}
 use Rattle.memory.specs.Layout.{taken, places}
 use Rattle.memory.specs.View.{placeAt, placesFrom, view}
 use Rattle.memory.specs.declared.Place.the-variants.{At, None}

@@ -10,8 +10,8 @@ use lib.Dec.{eqb}
 use borrow.Author.Tests.{eq-eqb, ne-eqb, eqb-true, eqb-false}
 use Rattle.rules.specs.Holds.{Plugin, held, plugins}
 use Rattle.rules.specs.Outcomes.{atLowestFree, freedAt}
-use Rattle.rules.specs.Laws.Tests.{by-test}
-use Rattle.rules.specs.Laws.Members.{In}
+use Rattle.rules_laws.specs.Laws.Tests.{by-test}
+use Rattle.rules_laws.specs.Laws.Members.{In}
 use Rattle.memory.specs.Layout.{taken, idAt, places}
 use Rattle.memory.specs.View.{pluginAt, placeAt, placesFrom, view}
 use Rattle.memory.specs.Stores.{Alone}

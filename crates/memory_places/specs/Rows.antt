@@ -9,7 +9,7 @@ use Rattle.rules.specs.Basics.{pick}
 use Rattle.rules.specs.Holds.{held, rowsOf, sumRows, rowsInUse}
 use Rattle.rules.specs.Ports.{pairs}
 use Rattle.rules.specs.declared.Port.{Port}
-use Rattle.rules.specs.Laws.Tests.{by-test}
+use Rattle.rules_laws.specs.Laws.Tests.{by-test}
 use Rattle.memory.specs.Layout.{taken, depsAt, provsAt, depPart, provPart, memoryWords, places}
 use Rattle.memory.specs.View.{valued, pluginAt, placeAt, placesFrom, view}
 

@@ -11,7 +11,7 @@ use lib.ListN.{length, length-set}
 use lib.Seq.{getD-set-same, getD-set-other}
 use borrow.Author.Tests.{ltb-true, lt-ltb, eqb-true, eqb-false, lt-leb}
 use Rattle.rules.specs.Basics.{pick}
-use Rattle.rules.specs.Laws.Tests.{both}
+use Rattle.rules_laws.specs.Laws.Tests.{both}
 use Rattle.memory.specs.Layout.{word, occupancy, taken, memoryWords, places, occupancyWord}
 use Rattle.memory_places.specs.Changes.{occupiedAt, vacatedAt}
 use Rattle.memory_places.specs.Bits.{bit, set-there, set-others, set-lt, clear-there, clear-others}

@@ -14,7 +14,7 @@ use Rattle.rules.specs.Basics.{any, isSome}
 use Rattle.rules.specs.Holds.{port, Plugin, held, isIn, provides, provider, samePort}
 use Rattle.rules.specs.declared.Port.{Port}
 use Rattle.rules.specs.Ports.{pairs}
-use Rattle.rules.specs.Laws.Tests.{by-test}
+use Rattle.rules_laws.specs.Laws.Tests.{by-test}
 use Rattle.memory.specs.Layout.{word, taken, part, startAt, depsAt, provsAt, anchorWord, provPart, memoryWords, places, rowsStart, rowWords}
 use Rattle.memory.specs.View.{anchorAt, pluginAt, placesFrom, view}
 use Rattle.memory.specs.Lookups.{placed, searchFrom, search-first}

@@ -3,7 +3,7 @@ use mathlib.Core.Path.{_≡_, refl, ap, _∙_}
 use mathlib.Core.Bool.{Bool, true, false, _||_}
 use mathlib.Core.List.{List, [], _∷_}
 use Rattle.rules.specs.Basics.{any, first, isSome}
-use Rattle.rules.specs.Laws.Tests.{by-test}
+use Rattle.rules_laws.specs.Laws.Tests.{by-test}
 
 -- a list that starts with q
 module _ {A : Type 0} (f : A → Bool) {l qs : List A} {q : A} (s : l ≡ q ∷ qs) where

@@ -11,7 +11,7 @@ use lib.Pow.{pow-lt, pow-pos}
 use borrow.Author.Tests.{eqb-true, eq-eqb, ne-eqb}
 use Rattle.rules.specs.declared.Port.{Port}
 use Rattle.rules.specs.Holds.{samePort, isIn}
-use Rattle.rules.specs.Laws.Tests.{by-test, both}
+use Rattle.rules_laws.specs.Laws.Tests.{by-test, both}
 use Rattle.memory_providers.specs.Providers.{keyBits, wanted}
 
 abbrev bit : ℕ → ℕ → ℕ

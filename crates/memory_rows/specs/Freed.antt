@@ -9,7 +9,7 @@ use mathlib.Core.Option.{none, some}
 use lib.ListN.{length}
 use Rattle.rules.specs.Holds.{rowsInUse}
 use Rattle.rules.specs.Outcomes.{removes, after}
-use Rattle.rules.specs.Laws.Tests.{by-test}
+use Rattle.rules_laws.specs.Laws.Tests.{by-test}
 use Rattle.rules.specs.Limits.{maxRows}
 use Rattle.memory.specs.Layout.{word, taken, idAt, rowWord, memoryWords, placeWords, places, rowsStart, firstRowWord, rowWords, occupancyWord}
 use Rattle.memory.specs.View.{placeAt, view}

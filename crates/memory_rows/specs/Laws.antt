@@ -11,7 +11,7 @@ use lib.ListN.{length, set, length-set}
 use lib.Seq.{getD-set-same, getD-set-other}
 use borrow.Author.Tests.{eqb-true, eqb-false}
 use Rattle.rules.specs.Holds.{rowsInUse}
-use Rattle.rules.specs.Laws.Tests.{by-test}
+use Rattle.rules_laws.specs.Laws.Tests.{by-test}
 use Rattle.rules.specs.Limits.{maxRows}
 use Rattle.memory.specs.Layout.{word, taken, startAt, depsAt, provsAt, rowWord, placeWords, places, rowsStart, firstRowWord, rowWords}
 use Rattle.memory.specs.View.{view}

@@ -14,10 +14,10 @@ use Rattle.rules.specs.Holds.{Plugin, lookup}
 use Rattle.rules.specs.Refusals.{Unknown}
 use Rattle.rules.specs.Outcomes.{Outcome, tells, refuses, writes, stores, adds, removes, known, storedAt, after}
 use Rattle.rules.specs.Steps.{Op, step}
-use Rattle.rules.specs.Kept.Plugins.{Alike}
-use Rattle.rules.specs.Kept.Reach.{life, reach, Within}
-use Rattle.rules.specs.Kept.Operations.{Lawful, lawful}
-use Rattle.rules.specs.Laws.Tests.{by-test}
+use Rattle.rules_laws.specs.Kept.Plugins.{Alike}
+use Rattle.rules_laws.specs.Kept.Reach.{life, reach, Within}
+use Rattle.rules_laws.specs.Kept.Operations.{Lawful, lawful}
+use Rattle.rules_laws.specs.Laws.Tests.{by-test}
 use Rattle.memory.specs.Ways.{leftBy}
 use Rattle.memory.specs.Layout.{word, taken, idAt, placeWords, places, domainWord, firstWord, nextWord, occupancyWord, idWord, firstRowWord, dependenciesWord, provisionsWord, realmsWord}
 use Rattle.memory.specs.View.{pluginAt, placeAt, view}

@@ -18,8 +18,8 @@ use Rattle.rules.specs.Phases.{dropped}
 use Rattle.rules.specs.Ports.{pairs}
 use Rattle.rules.specs.Registration.{repeats}
 use Rattle.rules.specs.Values.{offered}
-use Rattle.rules.specs.Laws.Tests.{by-test, neither}
-use Rattle.rules.specs.Laws.Members.{same-port}
+use Rattle.rules_laws.specs.Laws.Tests.{by-test, neither}
+use Rattle.rules_laws.specs.Laws.Members.{same-port}
 use Rattle.rules.specs.Limits.{maxRows, maxProvisionKeys, maxDependencies, maxRealmRows}
 use Rattle.memory.specs.Layout.{word, taken, startAt, depsAt, provsAt, realmsAt, rowWord, anchorWord, depPart, provPart, realmPart, memoryWords, placeWords, places, rowsStart, idWord, tagWord, parentWord, revisionWord, payloadWord, phaseWord, retiredWord, generationWord, rootWord, rootRevisionWord, rootArgumentWord, firstRowWord, dependenciesWord, provisionsWord, realmsWord, maskWord, valuesWord, realmRowsWord, placeEnd, occupancyWord}
 use Rattle.memory.specs.View.{wordsAt, decoded, lifeAt, valueAt, valued, pluginAt}

@@ -11,8 +11,8 @@ use Rattle.rules.specs.Holds.{port, Provision, samePort, isIn}
 use Rattle.rules.specs.declared.Port.{Port}
 use Rattle.rules.specs.Ports.{pairs, flat}
 use Rattle.rules.specs.Values.{valueIn, firstMissing}
-use Rattle.rules.specs.Laws.Tests.{by-test}
-use Rattle.rules.specs.Laws.Members.{same-port}
+use Rattle.rules_laws.specs.Laws.Tests.{by-test}
+use Rattle.rules_laws.specs.Laws.Members.{same-port}
 use Rattle.rules.specs.Limits.{maxProvisionKeys}
 use Rattle.memory.specs.Layout.{provPart}
 use Rattle.memory.specs.View.{valueAt, valued, pluginAt}

@@ -13,8 +13,8 @@ use Rattle.rules.specs.declared.Port.{Port}
 use Rattle.rules.specs.Holds.{port, samePort, isIn}
 use Rattle.rules.specs.Ports.{pairs, oddLength, flat, resolveIn, rising, samePorts, badRealms}
 use Rattle.rules.specs.Registration.{repeats}
-use Rattle.rules.specs.Laws.Tests.{by-test, both, neither}
-use Rattle.rules.specs.Laws.Members.{same-port}
+use Rattle.rules_laws.specs.Laws.Tests.{by-test, both, neither}
+use Rattle.rules_laws.specs.Laws.Members.{same-port}
 use Rattle.rules.specs.Limits.{maxRealmRows}
 use Rattle.ports.specs.declared.Found.the-variants.{At}
 use Rattle.ports.specs.Answers.{firstFrom}

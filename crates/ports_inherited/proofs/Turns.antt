@@ -9,7 +9,7 @@ use Rattle.rules.specs.declared.Port.{Port}
 use Rattle.rules.specs.Holds.{port, Realms, isIn}
 use Rattle.rules.specs.Ports.{pairs, resolve, realmsWith}
 use Rattle.rules.specs.Dependencies.{candidates, inherit, skipped}
-use Rattle.rules.specs.Laws.Tests.{by-test}
+use Rattle.rules_laws.specs.Laws.Tests.{by-test}
 use Rattle.ports.specs.Places.{length-pairs, pairs-get}
 use Rattle.ports.specs.Found.{resolve-key-law}
 use Rattle.ports_resolved.specs.Keys.{candidateRealm}

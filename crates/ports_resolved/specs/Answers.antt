@@ -11,7 +11,7 @@ use Rattle.rules.specs.Basics.{any}
 use Rattle.rules.specs.Holds.{Realms, samePort, isIn}
 use Rattle.rules.specs.Ports.{resolveIn, resolve}
 use Rattle.rules.specs.Registration.{repeats}
-use Rattle.rules.specs.Laws.Tests.{by-test}
+use Rattle.rules_laws.specs.Laws.Tests.{by-test}
 use Rattle.rules.specs.Limits.{maxProvisionKeys}
 use Rattle.ports.specs.Found.{resolve-key-law}
 use Rattle.ports_resolved.specs.declared.Claimed.{Claimed}

@@ -8,8 +8,8 @@ use Rattle.rules.specs.Holds.{Registry, rowsOf, rowsInUse}
 use Rattle.rules.specs.Refusals.{Refusal, number}
 use Rattle.rules.specs.Outcomes.{Outcome, refuses, adds, Check, checked}
 use Rattle.rules.specs.Registration.{Definition, claimed, dependenciesOf, newPlugin, askedChecks, claimChecks, roomChecks, registrationChecks, register}
-use Rattle.rules.specs.Laws.Tests.{by-test}
-use Rattle.rules.specs.Laws.Tests as tests
+use Rattle.rules_laws.specs.Laws.Tests.{by-test}
+use Rattle.rules_laws.specs.Laws.Tests as tests
 use Rattle.memory.specs.declared.Place.{Place}
 use Rattle.rules.specs.declared.Done.{Done}
 use Rattle.rules.specs.declared.Done.the-variants.{Accepted, Refused}

@@ -17,8 +17,8 @@ use Rattle.rules.specs.Outcomes.{Outcome, refuses, stores, after, storedAt}
 use Rattle.rules.specs.Ports.{pairs}
 use Rattle.rules.specs.Registration.{repeats}
 use Rattle.rules.specs.Values.{valueIn, offer}
-use Rattle.rules.specs.Built.{Built}
-use Rattle.rules.specs.Laws.Tests.{by-test, neither, checked-elim}
+use Rattle.rules_laws.specs.Built.{Built}
+use Rattle.rules_laws.specs.Laws.Tests.{by-test, neither, checked-elim}
 use Rattle.memory.specs.Ways.{leftBy}
 use Rattle.memory.specs.Layout.{word, taken, idAt, depsAt, provsAt, provPart, memoryWords, placeWords, places, idWord, firstRowWord, dependenciesWord, provisionsWord, realmsWord, maskWord, valuesWord, realmRowsWord, domainWord, firstWord, nextWord}
 use Rattle.rules.specs.Limits.{maxProvisionKeys}

@@ -11,7 +11,7 @@ use Rattle.rules.specs.Holds.{Plugin, withProvisions}
 use Rattle.rules.specs.Refusals.{Refusal, Unknown}
 use Rattle.rules.specs.Outcomes.{Outcome, refuses, stores, after}
 use Rattle.rules.specs.Phases as rules
-use Rattle.rules.specs.Laws.Tests.{checked-elim}
+use Rattle.rules_laws.specs.Laws.Tests.{checked-elim}
 use Rattle.memory.specs.Ways.{leftBy}
 use Rattle.memory.specs.Layout.{word, taken, memoryWords, placeWords, idWord, firstRowWord, dependenciesWord, provisionsWord, realmsWord, maskWord, domainWord, firstWord, nextWord, occupancyWord}
 use Rattle.memory.specs.View.{lifeAt, pluginAt, view}

@@ -12,7 +12,7 @@ use borrow.Author.Tests.{eqb-false}
 use Rattle.rules.specs.Basics.{last}
 use Rattle.rules.specs.Holds.{rowsInUse}
 use Rattle.rules.specs.Outcomes.{Refused, Accepted}
-use Rattle.rules.specs.Laws.Tests.{Passed}
+use Rattle.rules_laws.specs.Laws.Tests.{Passed}
 use Rattle.memory.specs.Layout.{word, places, nextWord}
 use Rattle.memory.specs.View.{view}
 use Rattle.memory.specs.declared.Place.the-variants.{At, None}

@@ -14,8 +14,8 @@ use Rattle.rules.specs.Ports.{pairs, flat, badRealms, realmsWith, realmsOf}
 use Rattle.rules.specs.Dependencies.{dependencyList}
 use Rattle.rules.specs.Outcomes.{Refused, adds, answerOf}
 use Rattle.rules.specs.Registration.{Definition, parentOf, inheritedFrom, resolved, claimed, unoffered, dependenciesOf, newPlugin, claimChecks, roomChecks, register}
-use Rattle.rules.specs.Laws.Tests.{by-test, neither}
-use Rattle.rules.specs.Kept.New.{new-ports}
+use Rattle.rules_laws.specs.Laws.Tests.{by-test, neither}
+use Rattle.rules_laws.specs.Kept.New.{new-ports}
 use Rattle.memory.specs.Ways.{leftBy}
 use Rattle.rules.specs.Limits.{maxDependencies, maxDependencyKeys, maxProvisionKeys}
 use Rattle.memory.specs.Layout.{part, depPart}

@@ -13,9 +13,9 @@ use Rattle.rules.specs.Holds.{Registry, rowsOf, rowsInUse}
 use Rattle.rules.specs.Ports.{pairs, flat, realmsOf, resolve}
 use Rattle.rules.specs.Outcomes.{Outcome, adds, after}
 use Rattle.rules.specs.Registration.{Definition, resolved, unoffered, dependenciesOf, newPlugin, registrationChecks, register}
-use Rattle.rules.specs.Built.{Built}
-use Rattle.rules.specs.Kept.New.{new-ports}
-use Rattle.rules.specs.Laws.Tests.{neither, Passed, checked-elim}
+use Rattle.rules_laws.specs.Built.{Built}
+use Rattle.rules_laws.specs.Kept.New.{new-ports}
+use Rattle.rules_laws.specs.Laws.Tests.{neither, Passed, checked-elim}
 use Rattle.memory.specs.Ways.{leftBy}
 use Rattle.memory.specs.Layout.{word, taken, idAt, nextWord}
 use Rattle.rules.specs.Limits.{maxRows, maxDependencies, maxDependencyKeys, maxProvisionKeys}

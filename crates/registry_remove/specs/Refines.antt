@@ -12,7 +12,7 @@ use Rattle.rules.specs.Holds.{freePlaces, opened, plugins, isIdle}
 use Rattle.rules.specs.Refusals.{Refusal, Unknown, InvalidState, HasChildren}
 use Rattle.rules.specs.Outcomes.{Outcome, refuses, removes, _⇒_, after}
 use Rattle.rules.specs.Retirement.{isChildOf, remove}
-use Rattle.rules.specs.Laws.Tests.{checked-elim}
+use Rattle.rules_laws.specs.Laws.Tests.{checked-elim}
 use Rattle.memory.specs.Ways.{leftBy}
 use Rattle.memory.specs.Layout.{occupancy, taken, idAt, memoryWords, places}
 use Rattle.memory.specs.View.{pluginAt, placeAt, placesFrom, view}

@@ -8,7 +8,7 @@ use lib.Dec.{eqb, leb}
 use borrow.Author.Tests.{eq-eqb, ne-eqb, le-leb, lt-leb, leb-true, leb-false}
 use Rattle.rules.specs.Basics.{pick, last}
 use Rattle.rules.specs.Refusals.{number, Exhausted}
-use Rattle.rules.specs.Laws.Tests.{by-test}
+use Rattle.rules_laws.specs.Laws.Tests.{by-test}
 use Rattle.memory.specs.declared.Life.{Life}
 use Rattle.registry_replace.specs.declared.PayloadRecord.{PayloadRecord}
 use Rattle.registry_replace.specs.declared.Change.{Change}

@@ -7,7 +7,7 @@ use Rattle.rules.specs.Basics.{last}
 use Rattle.rules.specs.Refusals.{Refusal, Unknown, Exhausted}
 use Rattle.rules.specs.Outcomes.{Outcome, refuses, stores, after}
 use Rattle.rules.specs.Replacement.{replace}
-use Rattle.rules.specs.Laws.Tests.{by-test}
+use Rattle.rules_laws.specs.Laws.Tests.{by-test}
 use Rattle.memory.specs.Ways.{leftBy}
 use Rattle.memory.specs.View.{lifeAt, pluginAt, view}
 use Rattle.memory.specs.Writes.{findAt, renewedAt}

@@ -14,7 +14,7 @@ use Rattle.rules.specs.declared.Phase.{Phase}
 use Rattle.rules.specs.declared.Phase.the-variants.{Idle, Loading, Active, Unloading}
 use Rattle.rules.specs.Phases as rules
 use Rattle.rules.specs.Queries.{phaseNumber}
-use Rattle.rules.specs.Laws.Tests.{both}
+use Rattle.rules_laws.specs.Laws.Tests.{both}
 use Rattle.memory.specs.View.{phaseOf}
 use Rattle.registry_table.specs.Table.{ruled, cellOf, numbered}
 use Rattle.registry_table.specs.declared.Step.{Step}

@@ -22,12 +22,3 @@ pub mod Steps
 pub mod Examples
 pub mod TextExamples
 pub mod Reached
-pub mod Acts
-pub mod Demand1
-pub mod History
-pub mod Laws
-pub mod Demand3
-pub mod Built
-pub mod Kept
-pub mod Stays
-pub mod Ledger

@@ -13,11 +13,11 @@ use Rattle.rules.specs.Holds.{Plugin, Registry, lookup}
 use Rattle.rules.specs.Refusals.{number}
 use Rattle.rules.specs.Outcomes.{Refused, Accepted, Outcome, stores, answerOf, after, Check, checked, found, known}
 use Rattle.rules.specs.Admission.{isAccepted}
-use Rattle.rules.specs.Laws.Tests.{by-test, Passed, checked-elim, found-elim}
-use Rattle.rules.specs.Laws.Lookups.{lookup-id}
-use Rattle.rules.specs.Laws.Members.{In}
-use Rattle.rules.specs.Kept.Places.{Only, only-stored}
-use Rattle.rules.specs.Kept.Plugins.{Alike}
+use Rattle.rules_laws.specs.Laws.Tests.{by-test, Passed, checked-elim, found-elim}
+use Rattle.rules_laws.specs.Laws.Lookups.{lookup-id}
+use Rattle.rules_laws.specs.Laws.Members.{In}
+use Rattle.rules_laws.specs.Kept.Places.{Only, only-stored}
+use Rattle.rules_laws.specs.Kept.Plugins.{Alike}
 
 -- An operation is accepted exactly if no test refuses.
 abbrev pub accepted : Outcome → Bool

@@ -12,10 +12,10 @@ use Rattle.rules.specs.declared.Root.the-variants.{Queued, Spent}
 use Rattle.rules.specs.Outcomes.{Accepted, answerOf}
 use Rattle.rules.specs.Phases.{setup}
 use Rattle.rules.specs.Admission.{Ticket, Invocation, isUnissued, isLive, receipt, admit, admits, call}
-use Rattle.rules.specs.Laws.Tests.{both}
-use Rattle.rules.specs.Laws.Lookups.{lookup-id}
-use Rattle.rules.specs.Demand3.Lives.{Facts, facts, would-accept}
-use Rattle.rules.specs.Kept.Plugins.{alike}
+use Rattle.rules_laws.specs.Laws.Tests.{both}
+use Rattle.rules_laws.specs.Laws.Lookups.{lookup-id}
+use Rattle.rules_laws.specs.Demand3.Lives.{Facts, facts, would-accept}
+use Rattle.rules_laws.specs.Kept.Plugins.{alike}
 use Rattle.rules_upstream.specs.Accepted.{accepted, exact, held-by, Effect, When, when-passed, when-known, has-effect}
 
 -- R registered_root_ready: a Setup ticket of this domain, for a plugin that is not retired, Loading, of the ticket's generation,

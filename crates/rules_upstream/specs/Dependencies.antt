@@ -13,8 +13,8 @@ use Rattle.rules.specs.Ports.{flat, resolve}
 use Rattle.rules.specs.Dependencies.{candidates, skipped, inherit, dependencyList, firstPort}
 use Rattle.rules.specs.Registration.{repeats}
 use Rattle.rules.specs.Values.{isEmpty}
-use Rattle.rules.specs.Laws.Tests.{by-test, neither}
-use Rattle.rules.specs.Laws.Members.{In, same-port, is-in}
+use Rattle.rules_laws.specs.Laws.Tests.{by-test, neither}
+use Rattle.rules_laws.specs.Laws.Members.{In, same-port, is-in}
 
 pub any-append : {A : Type 0} (f : A → Bool) (l m : List A) → any f (l ++ m) ≡ (any f l || any f m)
 any-append f [] m = refl

@@ -19,11 +19,11 @@ use Rattle.rules.specs.Phases.{Begin, Ready, Finish, cell, moved, available, is
 use Rattle.rules.specs.Admission.{Ticket}
 use Rattle.rules.specs.Values.{valueIn, visible}
 use Rattle.rules.specs.Steps as op
-use Rattle.rules.specs.Laws.Members.{lookup-in}
-use Rattle.rules.specs.Laws.Table.{begins, readies, finishes}
-use Rattle.rules.specs.Built.{Built}
-use Rattle.rules.specs.Kept.{step-built}
-use Rattle.rules.specs.Kept.Plugins.{alike, unvalued}
+use Rattle.rules_laws.specs.Laws.Members.{lookup-in}
+use Rattle.rules_laws.specs.Laws.Table.{begins, readies, finishes}
+use Rattle.rules_laws.specs.Built.{Built}
+use Rattle.rules_laws.specs.Kept.{step-built}
+use Rattle.rules_laws.specs.Kept.Plugins.{alike, unvalued}
 use Rattle.rules_upstream.specs.Accepted.{accepted, exact, When, when-passed, when-known, Turns, turned}
 use Rattle.rules_upstream.specs.Admission.{rootReady}
 use Rattle.rules_upstream.specs.Values.{lacks, complete-values, valueless, provider-is}

@@ -11,8 +11,8 @@ use Rattle.rules.specs.Basics.{any}
 use Rattle.rules.specs.declared.Port.{Port}
 use Rattle.rules.specs.Holds.{Realms, port}
 use Rattle.rules.specs.Ports.{rising, resolveIn, resolve}
-use Rattle.rules.specs.Laws.Tests.{both, neither}
-use Rattle.rules.specs.Laws.Members.{In}
+use Rattle.rules_laws.specs.Laws.Tests.{both, neither}
+use Rattle.rules_laws.specs.Laws.Members.{In}
 
 rising-behind : (x : Port) (l : List Port) → rising (x ∷ l) ≡ true → rising l ≡ true
 rising-behind x [] e = refl

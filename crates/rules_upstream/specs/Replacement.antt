@@ -11,8 +11,8 @@ use Rattle.rules.specs.Holds.{Plugin, Registry, lookup, withRevision, withPaylo
 use Rattle.rules.specs.Refusals.{Refusal, number, Unknown}
 use Rattle.rules.specs.Outcomes.{Refused, Accepted, Outcome, refuses, stores, answerOf, checked, found, handingBack}
 use Rattle.rules.specs.Replacement.{replace, fits}
-use Rattle.rules.specs.Laws.Tests.{by-test, checked-elim, found-elim}
-use Rattle.rules.specs.Kept.Plugins.{alike}
+use Rattle.rules_laws.specs.Laws.Tests.{by-test, checked-elim, found-elim}
+use Rattle.rules_laws.specs.Kept.Plugins.{alike}
 use Rattle.rules_upstream.specs.Accepted.{accepted, below, Effect, When, has-effect}
 
 module _ (r : Registry) where

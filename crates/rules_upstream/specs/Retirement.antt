@@ -11,9 +11,9 @@ use Rattle.rules.specs.Holds.{Plugin, Registry, lookup, withRetired}
 use Rattle.rules.specs.Outcomes.{Accepted, answerOf, after, found}
 use Rattle.rules.specs.Retirement.{Identity, isChildOf, retireFound, retireChild, identity, childIdentity}
 use Rattle.rules.specs.Values.{isEmpty}
-use Rattle.rules.specs.Laws.Tests.{both, checked-elim}
-use Rattle.rules.specs.Laws.Lookups.{lookup-id}
-use Rattle.rules.specs.Kept.Plugins.{alike}
+use Rattle.rules_laws.specs.Laws.Tests.{both, checked-elim}
+use Rattle.rules_laws.specs.Laws.Lookups.{lookup-id}
+use Rattle.rules_laws.specs.Kept.Plugins.{alike}
 use Rattle.rules_upstream.specs.Accepted.{accepted, exact, held-by, Effect, When, when-passed, has-effect}
 
 -- a child that isn't registered, or a child of this parent that isn't retired

@@ -13,8 +13,8 @@ use Rattle.rules.specs.Admission.{isAccepted}
 use Rattle.rules.specs.Retirement.{Identity, childIdentity}
 use Rattle.rules.specs.Slot.{Decision, Pending, Assigned, Failed, Cancelled, Slot, pending, assigned, isPending, withDecision}
 use Rattle.rules.specs.Slot.{Decided, decided, assign, reject, cancel}
-use Rattle.rules.specs.Laws.Tests.{both}
-use Rattle.rules.specs.Laws.Lookups.{lookup-id}
+use Rattle.rules_laws.specs.Laws.Tests.{both}
+use Rattle.rules_laws.specs.Laws.Lookups.{lookup-id}
 use Rattle.rules_upstream.specs.Retirement.{child-identity-tells}
 
 -- What a slot is made with.

@@ -7,7 +7,7 @@ use mathlib.Core.Logic.{inl, inr}
 use lib.ListN.{length}
 use Rattle.rules.specs.Basics.{last}
 use Rattle.rules.specs.Holds.{Plugin, Registry, plugins}
-use Rattle.rules.specs.Laws.Members.{In}
+use Rattle.rules_laws.specs.Laws.Members.{In}
 use Rattle.text_form.specs.Forms.{Form, FitAll}
 use Rattle.rules.specs.Text.{block, text, byId, said}
 use Rattle.text_laws.specs.Rising.{by-id-in, by-id-sum}

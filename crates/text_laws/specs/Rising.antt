@@ -11,10 +11,10 @@ use lib.ListN.{length}
 use borrow.Author.Tests.{ltb-true, ltb-false, eqb-true, eqb-false, eq-eqb, ne-eqb}
 use Rattle.rules.specs.Basics.{pick, any, first, sum, twice}
 use Rattle.rules.specs.Holds.{Plugin, Registry, plugins, lookup, count}
-use Rattle.rules.specs.Built.{Built, idsOf}
-use Rattle.rules.specs.Laws.Members.{In, first-in}
-use Rattle.rules.specs.Laws.Once.{found-once}
-use Rattle.rules.specs.Laws.Tests.{by-test, neither}
+use Rattle.rules_laws.specs.Built.{Built, idsOf}
+use Rattle.rules_laws.specs.Laws.Members.{In, first-in}
+use Rattle.rules_laws.specs.Laws.Once.{found-once}
+use Rattle.rules_laws.specs.Laws.Tests.{by-test, neither}
 use Rattle.rules.specs.Text.{insert, byId}
 
 -- The first plugin of an id, as `lookup` finds it.

@@ -13,8 +13,8 @@ use Rattle.rules.specs.Basics.{sum, last}
 use Rattle.rules.specs.declared.Phase.{Phase}
 use Rattle.rules.specs.declared.Phase.the-variants.{Idle, Loading, Active, Unloading}
 use Rattle.rules.specs.Holds.{Plugin, Places, Registry, held, plugins, count, rowsOf, sumRows, rowsInUse}
-use Rattle.rules.specs.Built.{Built}
-use Rattle.rules.specs.Laws.Members.{In}
+use Rattle.rules_laws.specs.Built.{Built}
+use Rattle.rules_laws.specs.Laws.Members.{In}
 use Rattle.text_form.specs.Digits.{decimalOf}
 use Rattle.text_form.specs.Bytes.{bytes}
 use Rattle.text_form.specs.Words.{noDigit}

@@ -11,7 +11,7 @@ use lib.Dec.{eqb}
 use lib.ListN.{length, getD, take, drop, length-take, length-drop}
 use Rattle.rules.specs.Basics.{last, pick}
 use Rattle.rules.specs.Holds.{Plugin, held, plugins, count, rowsInUse}
-use Rattle.rules.specs.Laws.Members.{In}
+use Rattle.rules_laws.specs.Laws.Members.{In}
 use Rattle.rules.specs.Ports.{pairs}
 use Rattle.rules.specs.Text.Values.{keyRealm, keyRealmValue, rootAndQueued}
 use Rattle.rules.specs.Text.{block, text, said, textOf}

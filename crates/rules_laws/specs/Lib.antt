@@ -1,0 +1,9 @@
+pub mod Acts
+pub mod Demand1
+pub mod History
+pub mod Laws
+pub mod Demand3
+pub mod Built
+pub mod Kept
+pub mod Stays
+pub mod Ledger

@@ -1,0 +1,1 @@
+// What holds of the rules: theorems alone, in specs/. No code.
