@@ -41,7 +41,12 @@ fn ids() -> impl Iterator<Item = u64> {
     (0..32).map(|n| FIRST + (13 * n + 5) % 32)
 }
 
-unsafe fn register(side: &Side, m: *mut u64, new: &Stranger, room: &mut Room<'_>) -> u64 {
+unsafe fn register<const R: usize, const D: usize, const P: usize>(
+    side: &Side,
+    m: *mut u64,
+    new: &Stranger<R, D, P>,
+    room: &mut Room<'_>,
+) -> u64 {
     unsafe {
         (side.register)(
             m,
@@ -59,11 +64,11 @@ unsafe fn register(side: &Side, m: *mut u64, new: &Stranger, room: &mut Room<'_>
     }
 }
 
-unsafe fn register_child(
+unsafe fn register_child<const R: usize, const D: usize, const P: usize>(
     side: &Side,
     m: *mut u64,
     parent: u64,
-    new: &Stranger,
+    new: &Stranger<R, D, P>,
     room: &mut Room<'_>,
 ) -> u64 {
     unsafe {
@@ -130,6 +135,12 @@ cases! {
         |s, m, room| HEIRS[1..].iter().map(|new| register_child(s, m, FIRST, new, room));
     "register under a parent of 46 dependencies, the first 8", parent_of_46, 8 => 0;
         |s, m, room| STRANGERS[3..11].iter().map(|new| register_child(s, m, HEIR, new, room));
+    "register (16 dependencies, 15 provisions, 16 realm rows), filling 0 to 32", |_| {}, 32 => 0;
+        |s, m, room| SITES.iter().map(|new| register(s, m, new, room));
+    "register the first (16 dependencies, 15 provisions, 16 realm rows)", |_| {}, 1 => 0;
+        |s, m, room| SITES[..1].iter().map(|new| register(s, m, new, room));
+    "register under a parent of 16 dependencies (16 realm rows), filling 1 to 32", parent_of_16, 31 => 0;
+        |s, m, room| SITE_HEIRS[1..].iter().map(|new| register_child(s, m, FIRST, new, room));
     "register refused: taken by the last of 31", all_but_one, 1 => 8;
         |s, m, room| STRANGERS[30..31].iter().map(|new| register(s, m, new, room));
     "begin without dependencies", idle, 32 => 0;
@@ -297,6 +308,10 @@ cases! {
     "resolve in 16 realm rows", |_| {}, 16 => 0;
         |s, _m, room| (0..16).map(|n| {
             (s.resolve)(DEEP_REALMS.as_ptr(), DEEP_REALMS.len(), 401 + n, &mut room.out)
+        });
+    "resolve in 16 realm rows: no row", |_| {}, 16 => 0;
+        |s, _m, room| (0..16).map(|n| {
+            (s.resolve)(DEEP_REALMS.as_ptr(), DEEP_REALMS.len(), 430 + n, &mut room.out)
         });
     "rows of 32 plugins", strangers, 32 => 32 * 5;
         |s, m, _room| (0..32).map(|_| (s.rows)(m));

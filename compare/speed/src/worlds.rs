@@ -33,11 +33,11 @@ pub struct Lists<'a> {
 }
 
 /// Two dependencies, two provisions and three realm rows, none shared with another.
-pub struct Stranger {
+pub struct Stranger<const REALMS: usize = 6, const DEPENDENCIES: usize = 2, const PROVISIONS: usize = 2> {
     pub anchor: u64,
-    pub realms: [u64; 6],
-    pub dependencies: [u64; 2],
-    pub provisions: [u64; 2],
+    pub realms: [u64; REALMS],
+    pub dependencies: [u64; DEPENDENCIES],
+    pub provisions: [u64; PROVISIONS],
 }
 
 /// Its provisions' ports: the first key has a realm row, the second none.
@@ -63,13 +63,47 @@ impl Stranger {
             provisions: [base + 1, base + 2],
         }
     }
+}
 
-    pub fn lists(&self) -> Lists<'_> {
+impl<const R: usize, const D: usize, const P: usize> Stranger<R, D, P> {
+    pub const fn lists(&self) -> Lists<'_> {
         Lists {
             realms: &self.realms,
             dependencies: &self.dependencies,
             provisions: &self.provisions,
         }
+    }
+}
+
+/// 16 realm rows for every other one of the keys that follow the first.
+const fn every_other(first: u64) -> [u64; 32] {
+    let mut rows = [STRANGER_REALM; 32];
+    let mut n = 0;
+    while n < 16 {
+        rows[2 * n] = first + 2 * n as u64;
+        n += 1;
+    }
+    rows
+}
+
+/// 16 dependencies, 15 provisions and 16 realm rows, none shared with another. Every other key has a row.
+pub static SITES: [Stranger<32, 16, 15>; 32] = {
+    let mut all = [const { site(0) }; 32];
+    let mut n = 0;
+    while n < 32 {
+        all[n] = site(n as u64);
+        n += 1;
+    }
+    all
+};
+
+const fn site(n: u64) -> Stranger<32, 16, 15> {
+    let base = 1000 * (n + 1);
+    Stranger {
+        anchor: ANCHORS + n,
+        realms: every_other(base),
+        dependencies: run(base),
+        provisions: run(base + 16),
     }
 }
 
@@ -447,6 +481,22 @@ pub static HEIRS: [Stranger; 32] = {
     }
     all
 };
+
+/// Two dependencies and two provisions; 16 realm rows, of which 8 resolve inherited keys anew.
+pub static SITE_HEIRS: [Stranger<32>; 32] = {
+    let mut all = [const { site_heir(0) }; 32];
+    let mut n = 0;
+    while n < 32 {
+        all[n] = site_heir(n as u64);
+        n += 1;
+    }
+    all
+};
+
+const fn site_heir(n: u64) -> Stranger<32> {
+    let Stranger { anchor, dependencies, provisions, .. } = Stranger::numbered(n);
+    Stranger { anchor, realms: every_other(1), dependencies, provisions }
+}
 
 /// A parent with 16 dependencies.
 pub fn parent_of_16(world: &mut World) {

@@ -3,12 +3,15 @@ use Prim.Native.Nat.{ℕ, _+_}
 use mathlib.Core.Path.{_≡_, ap}
 use mathlib.Core.List.{List, [], _∷_}
 use lib.Dec.{eqb}
+use lib.ListN.{length}
 use Rattle.rules.specs.Basics.{pick}
 use Rattle.rules.specs.declared.Port.{Port}
 use Rattle.rules.specs.Outcomes.{Answer, Refused, Accepted}
 use Rattle.rules.specs.Ports.{flat}
+use Rattle.ports.specs.Halving.{byHalving, comparisons}
 use Rattle.ports.specs.declared.Resolved.{Resolved}
 use Rattle.ports.specs.declared.Resolved.the-variants as resolved
+use Rattle.ports.specs.declared.Lookup.{Lookup}
 use Rattle.ports.specs.declared.Found.{Found}
 use Rattle.ports.specs.declared.Found.the-variants.{At, None}
 
@@ -20,6 +23,10 @@ resolvedAnswer (resolved.Refused n) = Refused n []
 unfoldable pub firstFrom : ℕ → ℕ → List Port → Found
 firstFrom i k [] = None
 firstFrom i k (p ∷ ps) = pick (eqb (p .key) k) (At i) (firstFrom (i + 1) k ps)
+
+-- what a search by halving answers
+abbrev pub searched : ℕ → List Port → ℕ → Lookup
+searched other rows k = record { port = byHalving other rows k; comparisons = comparisons (length rows) }
 
 -- Any two outcomes that the promise of a resolved key allows are equal.
 pub resolved-exact : (a b : Resolved) → resolvedAnswer a ≡ resolvedAnswer b → a ≡ b

@@ -1,3 +1,5 @@
 pub mod Answers
 pub mod Places
 pub mod Found
+pub mod Halving
+pub mod Reached

@@ -6,7 +6,8 @@ ghost use Rattle.rules.specs.Holds.{port, isIn};
 ghost use Rattle.rules.specs.Outcomes.{answerOf};
 ghost use Rattle.rules.specs.Ports.{badRealms, resolveIn, resolveKey, pairs, oddLength, samePorts};
 ghost use Rattle.rules.specs.Registration.{repeats};
-ghost use Rattle.ports.specs.Answers.{resolvedAnswer, firstFrom};
+ghost use Rattle.ports.specs.Answers.{resolvedAnswer, firstFrom, searched};
+ghost use Rattle.ports.specs.Halving.{reached};
 use rules::Port;
 use rules::limits;
 use rules::refusal;
@@ -22,6 +23,12 @@ pub enum Resolved {
 pub enum Found {
     At(usize),
     None,
+}
+
+// A port that was looked up, and how many keys were compared.
+struct Lookup {
+    port: Port,
+    comparisons: usize,
 }
 
 // Row 4: a realm list of odd length, over 16 rows, or with keys that do not rise strictly.
@@ -44,18 +51,47 @@ pub fn bad_realms(realms: &[u64]) -> bool
     false
 }
 
+// The row of the fallback's key, or the fallback, by halving: of the rows from the first on that are left, the middle one says in
+// which half a key can be, until one row is left. With it, how many keys were compared.
+fn search(realms: &[u64], fallback: Port) -> Lookup
+    ensures { λ r. ⌜ r ≡ searched (fallback .realm) (pairs (now (realms .entry))) (fallback .key) ⌝ }
+{
+    let mut first: usize = 0;
+    let mut rows = realms.len() / 2;
+    let mut comparisons: usize = 0;
+    while 1 < rows {
+        let half = rows / 2;
+        if realms[(first + half) * 2] <= fallback.key {
+            first += half;
+        }
+        rows -= half;
+        comparisons += 1;
+    }
+    if rows == 0 {
+        return Lookup {
+            port: fallback,
+            comparisons,
+        };
+    }
+    comparisons += 1;
+    if realms[first * 2] != fallback.key {
+        return Lookup {
+            port: fallback,
+            comparisons,
+        };
+    }
+    Lookup {
+        port: Port::new(fallback.key, realms[first * 2 + 1]),
+        comparisons,
+    }
+}
+
 // The row of the fallback's key where the list has one, else the fallback itself.
 pub fn resolve(realms: &[u64], fallback: Port) -> Port
-    ensures { λ r. ⌜ r ≡ resolveIn (fallback .realm) (pairs (now (realms .entry))) (fallback .key) ⌝ }
+    ensures { λ r. ⌜ r ≡ resolveIn (fallback .realm) (reached (pairs (now (realms .entry)))) (fallback .key) ⌝ }
 {
-    let mut i: usize = 1;
-    while i < realms.len() {
-        if realms[i - 1] == fallback.key {
-            return Port::new(fallback.key, realms[i]);
-        }
-        i += 2;
-    }
-    fallback
+    let found = search(realms, fallback);
+    found.port
 }
 
 // A key that the list does not have gets the default realm. A lookup in a list that breaks row 4 answers 4.

@@ -7,11 +7,12 @@ use mathlib.Core.List.{List, [], _∷_, _++_}
 use lib.ListN.{length, getD, drop, length-append, drop-of-length-le}
 use Rattle.rules.specs.declared.Port.{Port}
 use Rattle.rules.specs.Holds.{port, Realms, isIn}
-use Rattle.rules.specs.Ports.{pairs, resolve, realmsWith}
+use Rattle.rules.specs.Ports.{pairs, resolve}
 use Rattle.rules.specs.Dependencies.{candidates, inherit, skipped}
 use Rattle.rules_laws.specs.Laws.Tests.{by-test}
 use Rattle.ports.specs.Places.{length-pairs, pairs-get}
 use Rattle.ports.specs.Found.{resolve-key-law}
+use Rattle.ports.specs.Halving.{reached, reachedWith}
 use Rattle.ports_resolved.specs.Keys.{candidateRealm}
 
 length-candidates : (z : Realms) (ps : List Port) → length (candidates z ps) ≡ 2 * length ps
@@ -38,10 +39,10 @@ turn-at z (p ∷ ps) (suc (suc c)) h =
 -- in the numbers of the parent's list
 module _ (other : ℕ) (rows parents : List ℕ) (c : ℕ) where
   abbrev z : Realms
-  z = realmsWith other rows
+  z = reachedWith other rows
 
   pub candidate-at : {r : ℕ} → c / 2 < length parents / 2
-      → r ≡ candidateRealm other (pairs rows) (c % 2) (getD parents (c / 2 * 2) 0) (getD parents (c / 2 * 2 + 1) 0)
+      → r ≡ candidateRealm other (reached (pairs rows)) (c % 2) (getD parents (c / 2 * 2) 0) (getD parents (c / 2 * 2 + 1) 0)
       → drop c (candidates z (pairs parents)) ≡ port (getD parents (c / 2 * 2) 0) r ∷ drop (c + 1) (candidates z (pairs parents))
   candidate-at h e =
       turn-at z (pairs parents) c (omega (arith, length-pairs parents))

@@ -3,7 +3,8 @@ ghost use mathlib.Core.Path.{_≡_};
 ghost use mathlib.Core.List.{[]};
 ghost use Prim.Native.Nat.{_+_};
 ghost use lib.ListN.{take};
-ghost use Rattle.rules.specs.Ports.{pairs, realmsWith};
+ghost use Rattle.rules.specs.Ports.{pairs};
+ghost use Rattle.ports.specs.Halving.{reachedWith};
 ghost use Rattle.rules.specs.Dependencies.{dependencyList};
 ghost use Rattle.rules.specs.Limits.{maxDependencyKeys, maxDependencies};
 ghost use Rattle.ports_resolved.specs.Filled.{filled};
@@ -30,7 +31,7 @@ pub fn dependency_list(
     provisions: &[u64],
     parents: &[u64],
 ) -> Dependencies
-    ensures { λ r. ⌜ r ≡ fitted (dependencyList (realmsWith other (now (realms .entry))) (pairs (now (provisions .entry)))
+    ensures { λ r. ⌜ r ≡ fitted (dependencyList (reachedWith other (now (realms .entry))) (pairs (now (provisions .entry)))
         (take maxDependencyKeys (now (keys .entry))) (pairs (now (parents .entry)))) ⌝ }
 {
     let mut list = [0u64; LIST_ROOM];

@@ -2,6 +2,7 @@
 // the candidates of the parent's list.
 ghost use mathlib.Core.Path.{_≡_};
 ghost use Rattle.rules.specs.Ports.{pairs};
+ghost use Rattle.ports.specs.Halving.{reached};
 ghost use Rattle.ports_resolved.specs.Keys.{keysRepeat, claimsOf, declaredOf, candidateRealm};
 ghost use Rattle.ports_resolved.specs.Stored.{Stores};
 use rules::Port;
@@ -43,7 +44,7 @@ pub fn repeated_key(keys: &[u64]) -> bool
 
 // The anchor and the ports of the first 15 provision keys.
 pub fn claims(other: u64, anchor: Port, realms: &[u64], keys: &[u64]) -> Claimed
-    ensures { λ r. ⌜ r ≡ claimsOf other (pairs (now (realms .entry))) anchor (now (keys .entry)) ⌝ }
+    ensures { λ r. ⌜ r ≡ claimsOf other (reached (pairs (now (realms .entry)))) anchor (now (keys .entry)) ⌝ }
 {
     let mut list = [0u64; CLAIM_ROOM];
     list[0] = anchor.key;
@@ -67,7 +68,7 @@ pub fn claims(other: u64, anchor: Port, realms: &[u64], keys: &[u64]) -> Claimed
 
 // The first 16 declared keys, resolved, in the front of an array that a finished list fits into; their count.
 pub fn declared(other: u64, realms: &[u64], keys: &[u64], list: &mut [u64; LIST_ROOM]) -> usize
-    ensures { λ r. ⌜ Stores (declaredOf other (pairs (now (realms .entry))) (now (keys .entry))) (now (list .entry)) r (now (list .exit)) ⌝ }
+    ensures { λ r. ⌜ Stores (declaredOf other (reached (pairs (now (realms .entry)))) (now (keys .entry))) (now (list .entry)) r (now (list .exit)) ⌝ }
 {
     let mut i: usize = 0;
     while i < keys.len() {
@@ -84,7 +85,7 @@ pub fn declared(other: u64, realms: &[u64], keys: &[u64], list: &mut [u64; LIST_
 
 // The realm of a candidate: its own, or that of its key resolved again.
 pub fn candidate(other: u64, turn: usize, key: u64, realm: u64, realms: &[u64]) -> u64
-    ensures { λ r. ⌜ r ≡ candidateRealm other (pairs (now (realms .entry))) turn key realm ⌝ }
+    ensures { λ r. ⌜ r ≡ candidateRealm other (reached (pairs (now (realms .entry)))) turn key realm ⌝ }
 {
     if turn == 0 {
         return realm;

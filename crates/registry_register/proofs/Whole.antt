@@ -10,7 +10,7 @@ use lib.Seq.{take-all}
 use borrow.Author.Tests.{ltb-false, lt-ltb, leb-true, leb-false}
 use Rattle.rules.specs.Holds.{Registry, provided, rowsOf, rowsInUse}
 use Rattle.rules.specs.declared.Port.{Port}
-use Rattle.rules.specs.Ports.{pairs, flat, badRealms, realmsWith, realmsOf}
+use Rattle.rules.specs.Ports.{pairs, flat, badRealms, realmsOf}
 use Rattle.rules.specs.Dependencies.{dependencyList}
 use Rattle.rules.specs.Outcomes.{Refused, adds, answerOf}
 use Rattle.rules.specs.Registration.{Definition, parentOf, inheritedFrom, resolved, claimed, unoffered, dependenciesOf, newPlugin, claimChecks, roomChecks, register}
@@ -27,6 +27,8 @@ use Rattle.memory.specs.declared.Parent.the-variants as parents
 use Rattle.memory.specs.declared.Place.{Place}
 use Rattle.memory.specs.declared.Place.the-variants.{At, None}
 use Rattle.memory_places.specs.Changes.{freeAt}
+use Rattle.ports.specs.Halving.{reached, reachedWith}
+use Rattle.ports.specs.Reached.{good-reached}
 use Rattle.ports.specs.Places.{length-pairs, length-flat, pairs-flat, flat-pairs-even, good-realms}
 use Rattle.ports_resolved.specs.declared.Claimed.{Claimed}
 use Rattle.ports_resolved.specs.Keys.{claimsOf}
@@ -86,7 +88,7 @@ module _ (m : List ℕ) (parent : Parent) (anchor : Port) (zs ks vs : List ℕ) 
     pub early-told : (n : ℕ) → v ≡ early.Refused n → (Refused n [] ≡ answerOf (register r d)) × (m ≡ addedTo m (register r d))
     early-told n z = refused n (early-refuses r d n (under-refused _ _ n (sym said ∙ z)))
 
-    module _ (above : Place) (passed : v ≡ early.Passed above) (c : Claimed) (made : c ≡ claimsOf 0 (pairs zs) anchor vs)
+    module _ (above : Place) (passed : v ≡ early.Passed above) (c : Claimed) (made : c ≡ claimsOf 0 (reached (pairs zs)) anchor vs)
         (cw : List ℕ) (front : cw ≡ take (c .count * 2) (c .ports)) where
       e : verdict (asks r d) ≡ done.Accepted
       e = under-passed (placeAbove m parent) (verdict (asks r d)) above (sym said ∙ passed) .0
@@ -109,7 +111,7 @@ module _ (m : List ℕ) (parent : Parent) (anchor : Port) (zs ks vs : List ℕ) 
       claim-words : cw ≡ flat (claimed d)
       claim-words =
           front
-          ∙ ap (λ (x : Claimed). take (x .count * 2) (x .ports)) made
+          ∙ ap (λ (x : Claimed). take (x .count * 2) (x .ports)) (made ∙ ap (λ (rows : List Port). claimsOf 0 rows anchor vs) (good-reached zs good))
           ∙ listed-words (claims-law 0 (pairs zs) anchor vs few-provisions)
           ∙ ap (λ ps. flat (anchor ∷ ps)) (sym (map-resolve (realmsOf zs) vs))
 
@@ -128,7 +130,7 @@ module _ (m : List ℕ) (parent : Parent) (anchor : Port) (zs ks vs : List ℕ) 
 
         module _ (free : t ≡ done.Accepted) (pw : List ℕ) (rest : pw ≡ part cw 2 (length cw))
             (iw : List ℕ) (rows : iw ≡ dependenciesAt m above)
-            (l : Dependencies) (listed : l ≡ fitted (dependencyList (realmsWith 0 zs) (pairs pw) (take maxDependencyKeys ks) (pairs iw)))
+            (l : Dependencies) (listed : l ≡ fitted (dependencyList (reachedWith 0 zs) (pairs pw) (take maxDependencyKeys ks) (pairs iw)))
             (dw : List ℕ) (first : dw ≡ take (l .count * 2) (l .ports)) where
           none-taken : verdict (claims r d) ≡ done.Accepted
           none-taken = sym taken ∙ free
@@ -141,7 +143,7 @@ module _ (m : List ℕ) (parent : Parent) (anchor : Port) (zs ks vs : List ℕ) 
           unfolding dependenciesOf
           list =
               listed
-              ∙ ap fitted ((λ i. dependencyList (realmsOf zs) (provisions i) (take maxDependencyKeys ks) ((ap pairs (rows ∙ ap (dependenciesAt m) (sym place)) ∙ inherits) i))
+              ∙ ap fitted ((λ i. dependencyList (record { rows = good-reached zs good i; other = 0 }) (provisions i) (take maxDependencyKeys ks) ((ap pairs (rows ∙ ap (dependenciesAt m) (sym place)) ∙ inherits) i))
               ∙ dependency-law (realmsOf zs) (resolved d vs) ks (inheritedFrom (parentOf r (parentId parent))) few-keys)
 
           late-is : lateVerdict m (l .count) cw ≡ verdict (room r d)

@@ -1,4 +1,4 @@
--- The checks of a lookup: row 4, then the port that `resolve` answers.
+-- The checks of a lookup: row 4, then the port that `resolve` answers; behind row 4 it reaches all rows.
 use mathlib.Core.Path.{_≡_, sym, ap, _∙_}
 use mathlib.Core.Bool.{true, false}
 use mathlib.Core.List.{[], _∷_}
@@ -7,6 +7,8 @@ use Rattle.rules.specs.declared.Port.{Port}
 use Rattle.rules.specs.Ports.{badRealms, pairs, resolve, resolveKey, flat}
 use Rattle.rules.specs.Outcomes.{checked, Accepted}
 use Rattle.ports.specs.Found.{resolve-with}
+use Rattle.ports.specs.Halving.{reached}
+use Rattle.ports.specs.Reached.{good-reached}
 use Rattle.ports.proofs.resolve_key.Statement.{statement}
 use Rattle.ports.proofs.resolve_key.Tie as tie
 
@@ -32,8 +34,8 @@ returns-2 c =
     let v = c .before .before in
     let l = v .before .before .before .args .realms .now in
     let b : badRealms l ≡ false = sym (v .before .bad-realms .ensures) ∙ v .if1 .left in
-    let e = resolve-with (pairs l) _ _ _ _ (c .resolve .ensures) (c .before .in-default-realm .ensures) in
-    sym (rw b (ap (λ (q : Port). Accepted (flat (q ∷ []))) (sym e)))
+    let e = resolve-with (reached (pairs l)) _ _ _ _ (c .resolve .ensures) (c .before .in-default-realm .ensures) in
+    sym (rw b (ap (λ (q : Port). Accepted (flat (q ∷ []))) (sym (rw (good-reached l b) at e))))
 
 pub resolve-key-spec : {M : Type 1} → statement M
 resolve-key-spec = tie.close (tie.spec bad-realms-requires returns in-default-realm-requires resolve-requires returns-2)

@@ -8,7 +8,8 @@ use lib.ListN.{length, getD, take, drop, length-append, length-map, length-take}
 use borrow.Author.Needs.{needs}
 use Rattle.rules.specs.declared.Port.{Port}
 use Rattle.rules.specs.Holds.{port, isIn}
-use Rattle.rules.specs.Ports.{pairs, resolve, resolveIn, realmsWith}
+use Rattle.rules.specs.Ports.{pairs, resolve, resolveIn}
+use Rattle.ports.specs.Halving.{reached, reachedWith}
 use Rattle.rules.specs.Dependencies.{candidates, inherit, dependencyList}
 use Rattle.rules.specs.Limits.{maxDependencyKeys, maxDependencies}
 use Rattle.ports.specs.Places.{in-hit, in-miss}
@@ -35,8 +36,8 @@ abbrev μ-loop : tie.MeasureT-loop
 abbrev Inv-next : tie.InvT-next
 Inv-next other realms keys provisions parents ports₀ n₀ c₀ ports n c =
     (n ≤ maxDependencies) × Lists listRoom n ports (soFar n ports)
-    × (dependencyList (realmsWith other realms) (pairs provisions) (take maxDependencyKeys keys) (pairs parents)
-    ≡ inherit (pairs provisions) (drop c (candidates (realmsWith other realms) (pairs parents))) (soFar n ports))
+    × (dependencyList (reachedWith other realms) (pairs provisions) (take maxDependencyKeys keys) (pairs parents)
+    ≡ inherit (pairs provisions) (drop c (candidates (reachedWith other realms) (pairs parents))) (soFar n ports))
 
 abbrev μ-next : tie.MeasureT-next
 μ-next other realms keys provisions parents ports₀ n₀ c₀ ports n c = length parents / 2 * 2 - c
@@ -58,7 +59,7 @@ abbrev provided : Tested → List Port
 provided t = pairs (entry t .args .provisions .now)
 
 abbrev rest : Tested → ℕ → List Port
-rest t c = drop c (candidates (realmsWith (entry t .args .other) (entry t .args .realms .now)) (pairs (entry t .args .parents .now)))
+rest t c = drop c (candidates (reachedWith (entry t .args .other) (entry t .args .realms .now)) (pairs (entry t .args .parents .now)))
 
 -- the candidate of turn c
 abbrev port-at : Tested → Port
@@ -76,11 +77,11 @@ next-holds : tie.Need-next-holds Inv-loop μ-loop Inv-next μ-next
 unfolding dependencyList resolve
 next-holds c =
     let a = c .before .before .before .before .before .before .args in
-    let f = resolveIn (a .other) (pairs (a .realms .now)) in
+    let f = resolveIn (a .other) (reached (pairs (a .realms .now))) in
     let keys = take maxDependencyKeys (a .keys .now) in
-    let r = declared-lists (a .other) (pairs (a .realms .now)) (a .keys .now) (c .declared .ensures .0) (c .declared .ensures .1) in
+    let r = declared-lists (a .other) (reached (pairs (a .realms .now))) (a .keys .now) (c .declared .ensures .0) (c .declared .ensures .1) in
     let h : c .declared .result ≤ maxDependencies = omega (arith, r .counted, length-map keys f, length-take maxDependencyKeys (a .keys .now)) in
-    (h, lists-own r, ap (λ (l : List Port). inherit (pairs (a .provisions .now)) (candidates (realmsWith (a .other) (a .realms .now)) (pairs (a .parents .now))) l) (sym (listed r)))
+    (h, lists-own r, ap (λ (l : List Port). inherit (pairs (a .provisions .now)) (candidates (reachedWith (a .other) (a .realms .now)) (pairs (a .parents .now))) l) (sym (listed r)))
 
 mul-at : tie.Need-mul-at Inv-loop μ-loop Inv-next μ-next
 mul-at c = search needs

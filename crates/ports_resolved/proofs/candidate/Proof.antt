@@ -5,6 +5,7 @@ use borrow.Author.Tests.{eq-eqb, ne-eqb}
 use Rattle.rules.specs.declared.Port.{Port}
 use Rattle.rules.specs.Ports.{pairs}
 use Rattle.ports.specs.Found.{resolve-with}
+use Rattle.ports.specs.Halving.{reached}
 use Rattle.ports_resolved.proofs.candidate.Statement.{statement}
 use Rattle.ports_resolved.proofs.candidate.Tie as tie
 
@@ -21,7 +22,7 @@ returns-2 : tie.Need-returns-2
 returns-2 c =
     let v = c .before .before in
     let a = v .before .before .args in
-    let e = resolve-with (pairs (a .realms .now)) _ _ _ _ (c .resolve .ensures) (c .before .new .ensures) in
+    let e = resolve-with (reached (pairs (a .realms .now))) _ _ _ _ (c .resolve .ensures) (c .before .new .ensures) in
     sym (rw (ne-eqb (a .turn) 0 (v .if1 .left)) (sym (ap (λ (q : Port). q .realm) e)))
 
 pub candidate-spec : {M : Type 1} → statement M

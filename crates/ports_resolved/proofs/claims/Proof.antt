@@ -9,6 +9,7 @@ use borrow.Author.Needs.{needs}
 use Rattle.rules.specs.Ports.{pairs, resolveIn}
 use Rattle.rules.specs.Limits.{maxProvisionKeys}
 use Rattle.ports.specs.Found.{resolve-with}
+use Rattle.ports.specs.Halving.{reached}
 use Rattle.ports_resolved.specs.Keys.{claimRoom}
 use Rattle.ports_resolved.specs.Filled.{Lists, lists-key}
 use Rattle.ports_resolved.proofs.claims.Statement.{statement}
@@ -19,7 +20,7 @@ use Rattle.ports_resolved.proofs.claims.Tie as tie
 
 abbrev Inv-loop : tie.InvT-loop
 Inv-loop other realms keys ports₀ i₀ ports i =
-    (i ≤ maxProvisionKeys) × (i ≤ length keys) × Lists claimRoom (i + 1) ports (pairs (take 2 ports₀) ++ map (resolveIn other (pairs realms)) (take i keys))
+    (i ≤ maxProvisionKeys) × (i ≤ length keys) × Lists claimRoom (i + 1) ports (pairs (take 2 ports₀) ++ map (resolveIn other (reached (pairs realms))) (take i keys))
 
 abbrev μ-loop : tie.MeasureT-loop
 μ-loop other realms keys ports₀ i₀ ports i = length keys - i
@@ -84,8 +85,8 @@ loop-again : tie.Need-loop-again Inv-loop μ-loop
 loop-again c =
     let at = c .before .before .before .before .before in
     let a = at .before .before .before .args in
-    let f = resolveIn (a .other) (pairs (a .realms .now)) in
-    let e = resolve-with (pairs (a .realms .now)) _ _ _ _ (c .resolve .ensures) (c .before .new .ensures) in
+    let f = resolveIn (a .other) (reached (pairs (a .realms .now))) in
+    let e = resolve-with (reached (pairs (a .realms .now))) _ _ _ _ (c .resolve .ensures) (c .before .new .ensures) in
     (omega arith, omega arith, lists-key f (a .anchor ∷ []) (a .keys .now) (at .loop .i) (at .loop .inv .2) (omega arith) e (omega arith) (omega arith) (omega arith))
 
 add-count : tie.Need-add-count Inv-loop μ-loop

@@ -8,6 +8,7 @@ use borrow.Author.Needs.{needs}
 use Rattle.rules.specs.Ports.{pairs, resolveIn}
 use Rattle.rules.specs.Limits.{maxDependencyKeys}
 use Rattle.ports.specs.Found.{resolve-with}
+use Rattle.ports.specs.Halving.{reached}
 use Rattle.ports_resolved.specs.Keys.{declaredOf}
 use Rattle.ports_resolved.specs.Stored.{stored}
 use Rattle.ports_resolved.proofs.Laws.{stored-next, stored-all}
@@ -17,7 +18,7 @@ use Rattle.ports_resolved.proofs.declared.Tie as tie
 abbrev Inv-loop : tie.InvT-loop
 Inv-loop other realms keys ports₀ i₀ ports i =
     (i ≤ maxDependencyKeys) × (i ≤ length keys)
-    × (stored ports₀ 0 (declaredOf other (pairs realms) keys) ≡ stored ports i (map (resolveIn other (pairs realms)) (drop i (take maxDependencyKeys keys))))
+    × (stored ports₀ 0 (declaredOf other (reached (pairs realms)) keys) ≡ stored ports i (map (resolveIn other (reached (pairs realms))) (drop i (take maxDependencyKeys keys))))
 
 abbrev μ-loop : tie.MeasureT-loop
 μ-loop other realms keys ports₀ i₀ ports i = length keys - i
@@ -29,7 +30,7 @@ returns : tie.Need-returns Inv-loop μ-loop
 returns c =
     let at = c .before .before in
     let a = at .before .before .before .args in
-    stored-all (resolveIn (a .other) (pairs (a .realms .now))) (a .keys .now) (at .loop .list) (at .loop .i) _ _ (omega (arith, length-take maxDependencyKeys (a .keys .now))) (omega (arith, length-take maxDependencyKeys (a .keys .now))) (at .loop .inv .2)
+    stored-all (resolveIn (a .other) (reached (pairs (a .realms .now)))) (a .keys .now) (at .loop .list) (at .loop .i) _ _ (omega (arith, length-take maxDependencyKeys (a .keys .now))) (omega (arith, length-take maxDependencyKeys (a .keys .now))) (at .loop .inv .2)
 
 mul-new : tie.Need-mul-new Inv-loop μ-loop
 mul-new c = search needs
@@ -74,15 +75,15 @@ loop-again : tie.Need-loop-again Inv-loop μ-loop
 loop-again c =
     let at = c .before .before .before .before .before in
     let a = at .before .before .before .args in
-    let f = resolveIn (a .other) (pairs (a .realms .now)) in
-    let e = resolve-with (pairs (a .realms .now)) _ _ _ _ (c .resolve .ensures) (c .before .new .ensures) in
+    let f = resolveIn (a .other) (reached (pairs (a .realms .now))) in
+    let e = resolve-with (reached (pairs (a .realms .now))) _ _ _ _ (c .resolve .ensures) (c .before .new .ensures) in
     (omega arith, omega arith, at .loop .inv .2 ∙ stored-next f (a .keys .now) (at .loop .list) (at .loop .i) _ (omega arith) (omega arith) e)
 
 returns-2 : tie.Need-returns-2 Inv-loop μ-loop
 returns-2 c =
     let at = c .before in
     let a = at .before .before .before .args in
-    stored-all (resolveIn (a .other) (pairs (a .realms .now))) (a .keys .now) (at .loop .list) (at .loop .i) _ _ (omega (arith, length-take maxDependencyKeys (a .keys .now))) (omega (arith, length-take maxDependencyKeys (a .keys .now))) (at .loop .inv .2)
+    stored-all (resolveIn (a .other) (reached (pairs (a .realms .now)))) (a .keys .now) (at .loop .list) (at .loop .i) _ _ (omega (arith, length-take maxDependencyKeys (a .keys .now))) (omega (arith, length-take maxDependencyKeys (a .keys .now))) (at .loop .inv .2)
 
 pub declared-spec : {M : Type 1} → statement M
 declared-spec =

@@ -1,0 +1,290 @@
+-- Where keys rise, the search by halving is the rule's lookup; on any list it is the rule's lookup in the rows that it reaches.
+use Prim.Native.Nat.{ℕ, zero, suc, _+_, _-_, _/_, _^_, _≤_, _<_}
+use native.Mathlib.Nat.{pow-suc}
+use native.Mathlib.Omega.{arith}
+use mathlib.Core.Path.{_≡_, refl, sym, ap, _∙_, subst}
+use mathlib.Core.Bool.{Bool, true, false, true≢false, _&&_}
+use mathlib.Core.List.{List, [], _∷_}
+use mathlib.Core.Logic.{inl}
+use lib.Dec.{eqb, leb, ltb}
+use lib.ListN.{length, getD, take, drop, length-take, length-drop}
+use lib.Seq.{getD-take, getD-drop}
+use borrow.Author.Tests.{ltb-true, ltb-false, lt-ltb, le-ltb, leb-true, leb-false, eqb-true, eqb-false, ne-eqb, eq-eqb}
+use Rattle.rules.specs.Basics.{pick}
+use Rattle.rules.specs.declared.Port.{Port}
+use Rattle.rules.specs.Holds.{port, samePort, isIn}
+use Rattle.rules.specs.Ports.{pairs, rising, badRealms, resolveIn}
+use Rattle.rules.specs.Limits.{maxRealmRows}
+use Rattle.rules_laws.specs.Laws.Tests.{by-test, both}
+use Rattle.rules_laws.specs.Laws.Members.{In, same-port, is-in}
+use Rattle.ports.specs.Places.{good-realms, length-pairs}
+use Rattle.ports.specs.Halving.{nearer, halvedIn, halved, byHalving, comparisonsIn, comparisons, passing, reached}
+
+-- a comparison leaves all rows but a half of them
+pub nearer-length : (k : ℕ) (rows : List Port) → length (nearer k rows) ≡ length rows - length rows / 2
+nearer-length k rows =
+    let half = length rows / 2 in
+    by-test (leb (getD rows half (port 0 0) .key) k)
+    (λ t. rw t (length-drop half rows))
+    (λ f. rw f (simp length-take (omega arith)))
+
+-- more turns than rows change nothing
+enough : (n m k : ℕ) (rows : List Port) → length rows ≤ n → length rows ≤ m → halvedIn n k rows ≡ halvedIn m k rows
+unfolding halvedIn
+enough zero zero k rows h j = refl
+enough zero (suc m) k rows h j = sym (rw (le-ltb 1 (length rows) (omega arith)))
+enough (suc n) zero k rows h j = rw (le-ltb 1 (length rows) (omega arith))
+enough (suc n) (suc m) k rows h j =
+    let less = nearer-length k rows in
+    by-test (ltb 1 (length rows))
+    (λ t. let l = ltb-true 1 (length rows) t in rw t (enough n m k (nearer k rows) (omega arith) (omega arith)))
+    (λ f. rw f)
+
+next-in : (n k : ℕ) (rows : List Port) → length rows ≤ n → 1 < length rows → halvedIn n k rows ≡ halvedIn (length (nearer k rows)) k (nearer k rows)
+unfolding halvedIn
+next-in zero k rows h l = absurd (omega arith)
+next-in (suc n) k rows h l =
+    let less = nearer-length k rows in
+    rw (lt-ltb 1 (length rows) l) (enough n (length (nearer k rows)) k (nearer k rows) (omega arith) (omega arith))
+
+end-in : (n k : ℕ) (rows : List Port) → length rows ≤ 1 → halvedIn n k rows ≡ rows
+unfolding halvedIn
+end-in zero k rows h = refl
+end-in (suc n) k rows h = rw (le-ltb 1 (length rows) h)
+
+module _ (k : ℕ) (rows : List Port) where
+  pub halved-next : 1 < length rows → halved k rows ≡ halved k (nearer k rows)
+  unfolding halved
+  halved-next l = next-in (length rows) k rows (omega arith) l
+
+  pub halved-end : length rows ≤ 1 → halved k rows ≡ rows
+  unfolding halved
+  halved-end h = end-in (length rows) k rows h
+
+-- the same of the comparisons
+enough-count : (n m rows : ℕ) → rows ≤ n → rows ≤ m → comparisonsIn n rows ≡ comparisonsIn m rows
+unfolding comparisonsIn
+enough-count zero zero rows h j = refl
+enough-count zero (suc m) rows h j = sym (rw (le-ltb 1 rows (omega arith)))
+enough-count (suc n) zero rows h j = rw (le-ltb 1 rows (omega arith))
+enough-count (suc n) (suc m) rows h j = by-test (ltb 1 rows)
+    (λ t. let l = ltb-true 1 rows t in rw t (ap (λ x. 1 + x) (enough-count n m (rows - rows / 2) (omega arith) (omega arith))))
+    (λ f. rw f)
+
+next-count : (n rows : ℕ) → rows ≤ n → 1 < rows → comparisonsIn n rows ≡ 1 + comparisonsIn (rows - rows / 2) (rows - rows / 2)
+unfolding comparisonsIn
+next-count zero rows h l = absurd (omega arith)
+next-count (suc n) rows h l = rw (lt-ltb 1 rows l) (ap (λ x. 1 + x) (enough-count n (rows - rows / 2) (rows - rows / 2) (omega arith) (omega arith)))
+
+end-count : (n rows : ℕ) → rows ≤ 1 → comparisonsIn n rows ≡ rows
+unfolding comparisonsIn
+end-count zero rows h = refl
+end-count (suc n) rows h = rw (le-ltb 1 rows h)
+
+pub comparisons-next : (rows : ℕ) → 1 < rows → comparisons rows ≡ 1 + comparisons (rows - rows / 2)
+unfolding comparisons
+comparisons-next rows l = next-count rows rows (omega arith) l
+
+pub comparisons-end : (rows : ℕ) → rows ≤ 1 → comparisons rows ≡ rows
+unfolding comparisons
+comparisons-end rows h = end-count rows rows h
+
+few-in : (n rows : ℕ) → comparisonsIn n rows ≤ rows
+unfolding comparisonsIn
+few-in zero rows = omega arith
+few-in (suc n) rows =
+    let r = few-in n (rows - rows / 2) in
+    by-test (ltb 1 rows)
+    (λ t. let l = ltb-true 1 rows t in rw t (omega arith))
+    (λ f. rw f (omega arith))
+
+pub comparisons-few : (rows : ℕ) → comparisons rows ≤ rows
+unfolding comparisons
+comparisons-few rows = few-in rows rows
+
+-- Twice the rows are one comparison more: at most n + 1 for 2^n rows.
+pub comparisons-most : (n rows : ℕ) → rows ≤ 2 ^ n → comparisons rows ≤ n + 1
+comparisons-most zero rows h = omega (arith, comparisons-end rows (omega arith))
+comparisons-most (suc n) rows h = by-test (ltb 1 rows)
+    (λ t. let l = ltb-true 1 rows t in
+    omega (arith, comparisons-next rows l, comparisons-most n (rows - rows / 2) (omega (arith, pow-suc 2 n))))
+    (λ f. let l = ltb-false 1 rows f in omega (arith, comparisons-end rows l))
+
+-- In a list that passes row 4, at most 5.
+pub five-comparisons : (l : List ℕ) → badRealms l ≡ false → comparisons (length (pairs l)) ≤ 5
+five-comparisons l good = comparisons-most 4 (length (pairs l)) (omega (arith, good-realms l good .1, length-pairs l))
+
+-- what is left is one row of the list, or none
+halved-short : (n k : ℕ) (rows : List Port) → length rows ≤ n → length (halvedIn n k rows) ≤ 1
+unfolding halvedIn
+halved-short zero k rows h = omega arith
+halved-short (suc n) k rows h =
+    let less = nearer-length k rows in
+    by-test (ltb 1 (length rows))
+    (λ t. let l = ltb-true 1 (length rows) t in rw t (halved-short n k (nearer k rows) (omega arith)))
+    (λ f. rw f (ltb-false 1 (length rows) f))
+
+in-at : (l : List Port) (i : ℕ) → i < length l → isIn (getD l i (port 0 0)) l ≡ true
+in-at [] i h = absurd (omega arith)
+in-at (p ∷ l) zero h = rw (eq-eqb (p .key) (p .key) refl, eq-eqb (p .realm) (p .realm) refl)
+in-at (p ∷ l) (suc i) h =
+    let r = in-at l i (omega arith) in
+    by-test (samePort (getD l i (port 0 0)) p) (λ t. rw t) (λ f. rw f r)
+
+in-drop : (q : Port) (n : ℕ) (l : List Port) → isIn q (drop n l) ≡ true → isIn q l ≡ true
+in-drop q zero l e = e
+in-drop q (suc n) [] e = e
+in-drop q (suc n) (p ∷ l) e = let r = in-drop q n l e in by-test (samePort q p) (λ t. rw t) (λ f. rw f r)
+
+in-take : (q : Port) (n : ℕ) (l : List Port) → isIn q (take n l) ≡ true → isIn q l ≡ true
+in-take q zero l e = absurd (true≢false (sym e))
+in-take q (suc n) [] e = e
+in-take q (suc n) (p ∷ l) e = by-test (samePort q p) (λ t. rw t) (λ f. rw f (in-take q n l (rw f at e)))
+
+halved-within : (n k : ℕ) (q : Port) (rows : List Port) → isIn q (halvedIn n k rows) ≡ true → isIn q rows ≡ true
+unfolding halvedIn
+halved-within zero k q rows e = e
+halved-within (suc n) k q rows e =
+    let half = length rows / 2 in
+    by-test (ltb 1 (length rows))
+    (λ t. let i = halved-within n k q (nearer k rows) (rw t at e) in
+    by-test (leb (getD rows half (port 0 0) .key) k)
+    (λ u. in-drop q half rows (rw u at i))
+    (λ g. in-take q (length rows - half) rows (rw g at i)))
+    (λ f. rw f at e)
+
+-- a lookup among the rows that pass a test: none with the key does, or one alone
+module _ (f : Port → Bool) (other k : ℕ) where
+  none-passes : (rows : List Port) → ((row : Port) → row .key ≡ k → f row ≡ false) → resolveIn other (passing f rows) k ≡ port k other
+  none-passes [] h = refl
+  none-passes (p ∷ ps) h =
+      let r = none-passes ps h in
+      by-test (f p)
+      (λ t. rw (t, ne-eqb (p .key) k (λ e. true≢false (sym t ∙ h p e))) r)
+      (λ n. rw n r)
+
+  one-passes : (q : Port) (rows : List Port) → q .key ≡ k → f q ≡ true → ((row : Port) → row .key ≡ k → f row ≡ true → row ≡ q)
+      → isIn q rows ≡ true → resolveIn other (passing f rows) k ≡ q
+  one-passes q [] e y only i = absurd (true≢false (sym i))
+  one-passes q (p ∷ ps) e y only i = by-test (f p)
+      (λ t. by-test (eqb (p .key) k)
+      (λ u. rw (t, u) (only p (eqb-true (p .key) k u) t))
+      (λ n. rw (t, n) (one-passes q ps e y only (rw (ne-eqb (q .key) (p .key) (λ j. eqb-false (p .key) k n (sym j ∙ e))) at i))))
+      (λ n. rw n (one-passes q ps e y only (behind n)))
+    where
+      behind : f p ≡ false → isIn q ps ≡ true
+      behind n = by-test (samePort q p)
+          (λ t. absurd (true≢false (sym y ∙ ap f (sym (same-port q p t)) ∙ n)))
+          (λ g. rw g at i)
+
+-- The search by halving is the rule's lookup in the rows that it reaches.
+pub reached-search : (other k : ℕ) (rows : List Port) → byHalving other rows k ≡ resolveIn other (reached rows) k
+unfolding halved reached
+reached-search other k rows = of (halved k rows) refl (halved-short (length rows) k rows (omega arith))
+  where
+    finds : Port → Bool
+    finds row = isIn row (halved (row .key) rows)
+
+    found : (row : Port) (l : List Port) → halved k rows ≡ l → row .key ≡ k → finds row ≡ isIn row l
+    found row l e i = ap (λ x. isIn row (halved x rows)) i ∙ ap (isIn row) e
+
+    only : (q : Port) → halved k rows ≡ q ∷ [] → (row : Port) → row .key ≡ k → finds row ≡ true → row ≡ q
+    only q e row i y = alone (is-in row (q ∷ []) (sym (found row (q ∷ []) e i) ∙ y))
+      where
+        alone : In row (q ∷ []) → row ≡ q
+        alone (inl j) = sym j
+
+    of : (l : List Port) → halved k rows ≡ l → length l ≤ 1 → resolveIn other l k ≡ resolveIn other (passing finds rows) k
+    of [] e h = sym (none-passes finds other k rows (λ row i. found row [] e i))
+    of (q ∷ []) e h = by-test (eqb (q .key) k)
+        (λ t. let j = eqb-true (q .key) k t in
+        let there = ap (isIn q) e ∙ in-at (q ∷ []) 0 (omega arith) in
+        rw t (sym (one-passes finds other k q rows j (found q (q ∷ []) e j ∙ in-at (q ∷ []) 0 (omega arith)) (only q e) (halved-within (length rows) k q rows there))))
+        (λ n. rw n (sym (none-passes finds other k rows (λ row i. found row (q ∷ []) e i ∙ rw (ne-eqb (row .key) (q .key) (λ j. eqb-false (q .key) k n (sym j ∙ i)))))))
+    of (q ∷ p ∷ l) e h = absurd (omega arith)
+
+-- rising keys, by their places
+rising-at : (l : List Port) (i j : ℕ) → rising l ≡ true → i < j → j < length l → getD l i (port 0 0) .key < getD l j (port 0 0) .key
+rising-at [] i j e h b = absurd (omega arith)
+rising-at (p ∷ l) i zero e h b = absurd (omega arith)
+rising-at (p ∷ []) i (suc j) e h b = absurd (omega arith)
+rising-at (p ∷ q ∷ l) zero (suc zero) e h b = ltb-true (p .key) (q .key) (both (ltb (p .key) (q .key)) (rising (q ∷ l)) e .0)
+rising-at (p ∷ q ∷ l) zero (suc (suc j)) e h b =
+    let c = both (ltb (p .key) (q .key)) (rising (q ∷ l)) e in
+    let first = ltb-true (p .key) (q .key) (c .0) in
+    let rest = rising-at (q ∷ l) zero (suc j) (c .1) (omega arith) (omega arith) in
+    omega arith
+rising-at (p ∷ q ∷ l) (suc i) (suc j) e h b = rising-at (q ∷ l) i j (both (ltb (p .key) (q .key)) (rising (q ∷ l)) e .1) (omega arith) (omega arith)
+
+rising-drop : (n : ℕ) (l : List Port) → rising l ≡ true → rising (drop n l) ≡ true
+rising-drop zero l e = e
+rising-drop (suc n) [] e = e
+rising-drop (suc n) (p ∷ []) e = rising-drop n [] refl
+rising-drop (suc n) (p ∷ q ∷ l) e = rising-drop n (q ∷ l) (both (ltb (p .key) (q .key)) (rising (q ∷ l)) e .1)
+
+rising-take : (n : ℕ) (l : List Port) → rising l ≡ true → rising (take n l) ≡ true
+rising-take zero l e = refl
+rising-take (suc n) [] e = refl
+rising-take (suc zero) (p ∷ l) e = refl
+rising-take (suc (suc n)) (p ∷ []) e = refl
+rising-take (suc (suc n)) (p ∷ q ∷ l) e =
+    let c = both (ltb (p .key) (q .key)) (rising (q ∷ l)) e in
+    rw (c .0) (rising-take (suc n) (q ∷ l) (c .1))
+
+there : (half i : ℕ) → half ≤ i → half + (i - half) ≡ i
+there half i h = omega arith
+
+-- on which side of the middle row a key's row stands
+module _ (l : List Port) (i half k : ℕ) (e : rising l ≡ true) where
+  not-below : half < length l → getD l i (port 0 0) .key ≡ k → getD l half (port 0 0) .key ≤ k → half ≤ i
+  not-below h s m = by-test (ltb i half)
+      (λ y. absurd (omega (arith, rising-at l i half e (ltb-true i half y) h)))
+      (λ n. ltb-false i half n)
+
+  not-above : i < length l → getD l i (port 0 0) .key ≡ k → k < getD l half (port 0 0) .key → i < half
+  not-above h s m = by-test (ltb i half)
+      (λ y. ltb-true i half y)
+      (λ n. by-test (eqb i half)
+      (λ t. absurd (omega (arith, ap (λ x. getD l x (port 0 0) .key) (eqb-true i half t))))
+      (λ f. absurd (below-half (ltb-false i half n) (eqb-false i half f))))
+    where
+      below-half : half ≤ i → (i ≡ half → ⊥) → ⊥
+      below-half a b = let less : half < i = omega arith in omega (arith, rising-at l half i e less h)
+
+-- where keys rise, each row stays among what is left for its key
+stays : (n k i : ℕ) (l : List Port) → rising l ≡ true → i < length l → getD l i (port 0 0) .key ≡ k → isIn (getD l i (port 0 0)) (halvedIn n k l) ≡ true
+unfolding halvedIn
+stays zero k i l e h s = in-at l i h
+stays (suc n) k i l e h s =
+    let half = length l / 2 in
+    by-test (ltb 1 (length l))
+    (λ t. let more = ltb-true 1 (length l) t in
+    by-test (leb (getD l half (port 0 0) .key) k)
+    (λ u. let above = not-below l i half k e (omega arith) s (leb-true _ _ u) in
+    let at = getD-drop half l (i - half) (port 0 0) ∙ ap (λ x. getD l x (port 0 0)) (there half i above) in
+    rw (t, u)
+    (subst (λ q. isIn q (halvedIn n k (drop half l)) ≡ true) at
+    (stays n k (i - half) (drop half l) (rising-drop half l e) (simp length-drop (omega arith)) (ap (λ (q : Port). q .key) at ∙ s))))
+    (λ g. let below = not-above l i half k e h s (leb-false _ _ g) in
+    let at = getD-take (length l - half) l i (port 0 0) (omega arith) in
+    rw (t, g)
+    (subst (λ q. isIn q (halvedIn n k (take (length l - half) l)) ≡ true) at
+    (stays n k i (take (length l - half) l) (rising-take (length l - half) l e) (simp length-take (omega arith)) (ap (λ (q : Port). q .key) at ∙ s)))))
+    (λ f. rw f (in-at l i h))
+
+all-pass : (f : Port → Bool) (rows : List Port) → ((i : ℕ) → i < length rows → f (getD rows i (port 0 0)) ≡ true) → passing f rows ≡ rows
+all-pass f [] h = refl
+all-pass f (p ∷ ps) h = rw (h 0 (omega arith), all-pass f ps (λ i l. h (suc i) (omega arith)))
+
+-- Where keys rise it reaches all rows.
+pub reached-all : (rows : List Port) → rising rows ≡ true → reached rows ≡ rows
+unfolding reached halved
+reached-all rows e = all-pass (λ (row : Port). isIn row (halved (row .key) rows)) rows (λ i h. stays (length rows) (getD rows i (port 0 0) .key) i rows e h refl)
+
+-- So there it is the rule's lookup.
+pub halving-finds : (other k : ℕ) (rows : List Port) → rising rows ≡ true → byHalving other rows k ≡ resolveIn other rows k
+halving-finds other k rows e = reached-search other k rows ∙ ap (λ l. resolveIn other l k) (reached-all rows e)
+
+-- A list that passes row 4 is such a list.
+pub good-reached : (l : List ℕ) → badRealms l ≡ false → reached (pairs l) ≡ pairs l
+good-reached l good = reached-all (pairs l) (good-realms l good .2)
