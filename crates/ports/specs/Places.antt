@@ -7,7 +7,7 @@ use mathlib.Core.Bool.{true, false, not, _&&_, _||_}
 use mathlib.Core.List.{List, [], _∷_, _++_}
 use lib.Dec.{eqb, ltb}
 use lib.ListN.{length, getD, take, drop, length-drop}
-use lib.Seq.{drop-cons, take-all, getD-take}
+use lib.Seq.{drop-cons, drop-nil, take-all, getD-take}
 use borrow.Author.Tests.{eq-eqb, ne-eqb, eqb-false, lt-ltb, le-ltb, ltb-false, not-false}
 use Rattle.rules.specs.declared.Port.{Port}
 use Rattle.rules.specs.Holds.{port, samePort, isIn}
@@ -96,6 +96,12 @@ pairs-take zero l = refl
 pairs-take (suc n) [] = rw (two-more n)
 pairs-take (suc n) (k ∷ []) = rw (two-more n)
 pairs-take (suc n) (k ∷ r ∷ l) = rw (two-more n, pairs-take n l)
+
+pub pairs-drop : (n : ℕ) (l : List ℕ) → drop n (pairs l) ≡ pairs (drop (n * 2) l)
+pairs-drop zero l = refl
+pairs-drop (suc n) [] = rw (two-more n)
+pairs-drop (suc n) (k ∷ []) = rw (two-more n, drop-nil (suc (n * 2)))
+pairs-drop (suc n) (k ∷ r ∷ l) = rw (two-more n) (pairs-drop n l)
 
 -- twice as many numbers as there are ports, or more
 pub pairs-whole : (n : ℕ) (l : List ℕ) → length l / 2 ≤ n → pairs (take (n * 2) l) ≡ pairs l

@@ -51,21 +51,22 @@ pub fn bad_realms(realms: &[u64]) -> bool
     false
 }
 
-// The row of the fallback's key, or the fallback, by halving: of the rows from the first on that are left, the middle one says in
-// which half a key can be, until one row is left. With it, how many keys were compared.
+// The row of the fallback's key, or the fallback, by halving: the middle one of the rows that are left says which of them stay,
+// until one is left. With it, how many keys were compared.
 fn search(realms: &[u64], fallback: Port) -> Lookup
     ensures { λ r. ⌜ r ≡ searched (fallback .realm) (pairs (now (realms .entry))) (fallback .key) ⌝ }
 {
-    let mut first: usize = 0;
+    let mut at: usize = 0;
     let mut rows = realms.len() / 2;
+    let mut half = rows / 2;
     let mut comparisons: usize = 0;
-    while 1 < rows {
-        let half = rows / 2;
-        if realms[(first + half) * 2] <= fallback.key {
-            first += half;
+    while 0 < half {
+        if realms[at + half * 2] <= fallback.key {
+            at += half * 2;
         }
-        rows -= half;
         comparisons += 1;
+        rows -= half;
+        half = rows / 2;
     }
     if rows == 0 {
         return Lookup {
@@ -74,14 +75,14 @@ fn search(realms: &[u64], fallback: Port) -> Lookup
         };
     }
     comparisons += 1;
-    if realms[first * 2] != fallback.key {
+    if realms[at] != fallback.key {
         return Lookup {
             port: fallback,
             comparisons,
         };
     }
     Lookup {
-        port: Port::new(fallback.key, realms[first * 2 + 1]),
+        port: Port::new(fallback.key, realms[at + 1]),
         comparisons,
     }
 }
