@@ -13,7 +13,7 @@ use memory::WORDS;
 pub extern "C" fn vaskelbi_resolve(realms: &[u64], key: u64, out: &mut [u64; ANSWER]) -> u64
     ensures { λ r. ⌜ Tells (answerOf (resolveKey (now (realms .entry)) key)) (now (out .entry)) r (now (out .exit)) ⌝ }
 {
-    host_answers::resolved(ports::resolve_key(realms, key), out)
+    host_answers::resolved(ports_realms::resolve_key(realms, key), out)
 }
 
 // The first dependency with the key, or no number.

@@ -4,7 +4,7 @@ ghost use mathlib.Core.List.{[], _∷_};
 ghost use Rattle.rules.specs.Queries.{rootNumbers};
 ghost use Rattle.rules.specs.Answers.{doneAnswer, whetherAnswer, numberAnswer, optionAnswer};
 ghost use Rattle.registry_queries.specs.Answers.{perhapsAnswer, portAnswer, rootAnswer};
-ghost use Rattle.ports.specs.Answers.{resolvedAnswer};
+ghost use Rattle.ports_realms.specs.Answers.{resolvedAnswer};
 ghost use Rattle.registry_steps.specs.Answers.{begunAnswer};
 ghost use Rattle.registry_replace.specs.Answers.{replacedAnswer};
 ghost use Rattle.registry_admit.specs.Answers.{admittedAnswer, admitsAnswer, calledAnswer};
@@ -144,12 +144,12 @@ pub fn root(a: registry_queries::RootAnswer, out: &mut [u64; ANSWER]) -> u64
     }
 }
 
-pub fn resolved(a: ports::Resolved, out: &mut [u64; ANSWER]) -> u64
+pub fn resolved(a: ports_realms::Resolved, out: &mut [u64; ANSWER]) -> u64
     ensures { λ r. ⌜ Tells (resolvedAnswer a) (now (out .entry)) r (now (out .exit)) ⌝ }
 {
     match a {
-        ports::Resolved::To(q) => two(q.key, q.realm, out),
-        ports::Resolved::Refused(why) => why,
+        ports_realms::Resolved::To(q) => two(q.key, q.realm, out),
+        ports_realms::Resolved::Refused(why) => why,
     }
 }
 

@@ -1,11 +1,12 @@
 -- Each promise of these crates allows one outcome: the forms that the rules and the code share, and lists of keys and ports.
-use Rattle.ports.specs.Answers.{resolved-exact}
+use Rattle.ports_realms.specs.Answers.{resolved-exact}
 use Rattle.slot_child.specs.Exact.{decided-exact, slot-exact}
 use Rattle.rules.proofs as rules
 use Rattle.rules.specs.Answers.{number-exact}
 use Rattle.slot_child.proofs as slot_child
 use Rattle.ports_listed.proofs as ports_listed
 use Rattle.ports.proofs as ports
+use Rattle.ports_realms.proofs as ports_realms
 use Rattle.ports_resolved.proofs as ports_resolved
 use Rattle.ports_inherited.proofs as ports_inherited
 use Rattle.outcome.specs.One.{One}
@@ -44,14 +45,14 @@ slot-child-Slot-cancel κs a r s ms ns p q = one-outcome decided-exact p q
 pub ports-listed-list-ports : One ports_listed.«list_ports».ended ports_listed.«list_ports».Reads.Learnt
 ports-listed-list-ports κs a r s ms ns p q = one-with-memory number-exact p q
 
-pub ports-bad-realms : One ports.«bad_realms».ended ports.«bad_realms».Reads.Learnt
-ports-bad-realms κs a r s ms ns p q = by-equation p q
+pub ports-realms-bad-realms : One ports_realms.«bad_realms».ended ports_realms.«bad_realms».Reads.Learnt
+ports-realms-bad-realms κs a r s ms ns p q = by-equation p q
 
-pub ports-resolve : One ports.resolve.ended ports.resolve.Reads.Learnt
-ports-resolve κs a r s ms ns p q = by-equation p q
+pub ports-realms-resolve : One ports_realms.resolve.ended ports_realms.resolve.Reads.Learnt
+ports-realms-resolve κs a r s ms ns p q = by-equation p q
 
-pub ports-resolve-key : One ports.«resolve_key».ended ports.«resolve_key».Reads.Learnt
-ports-resolve-key κs a r s ms ns p q = one-outcome resolved-exact p q
+pub ports-realms-resolve-key : One ports_realms.«resolve_key».ended ports_realms.«resolve_key».Reads.Learnt
+ports-realms-resolve-key κs a r s ms ns p q = one-outcome resolved-exact p q
 
 pub ports-has-port : One ports.«has_port».ended ports.«has_port».Reads.Learnt
 ports-has-port κs a r s ms ns p q = by-equation p q

@@ -1,30 +1,19 @@
 -- What callers read off a lookup's answer.
 use Prim.Native.Nat.{ℕ, suc, _+_, _-_, _≤_, _<_}
 use native.Mathlib.Omega.{arith}
-use mathlib.Core.Path.{_≡_, refl, ap, _∙_}
+use mathlib.Core.Path.{_≡_, refl, _∙_}
 use mathlib.Core.List.{List, [], _∷_}
 use lib.Dec.{eqb}
 use lib.ListN.{length, getD}
 use borrow.Author.Tests.{eqb-true}
 use Rattle.rules.specs.declared.Port.{Port}
 use Rattle.rules.specs.Holds.{port}
-use Rattle.rules.specs.Ports.{flat, resolveIn}
+use Rattle.rules.specs.Ports.{flat}
 use Rattle.rules.specs.Dependencies.{firstPort}
 use Rattle.rules_laws.specs.Laws.Tests.{by-test}
 use Rattle.ports.specs.declared.Found.{Found}
 use Rattle.ports.specs.declared.Found.the-variants.{At, None}
 use Rattle.ports.specs.Answers.{firstFrom}
-
--- resolved with a fallback that is this port
-pub resolve-with : (rows : List Port) (q p : Port) (k other : ℕ) → q ≡ resolveIn (p .realm) rows (p .key) → p ≡ port k other → q ≡ resolveIn other rows k
-resolve-with rows q p k other e f = e ∙ ap (λ (x : Port). resolveIn (x .realm) rows (x .key)) f
-
--- a resolved port keeps the key
-pub resolve-key-law : (other : ℕ) (rows : List Port) (k : ℕ) → resolveIn other rows k .key ≡ k
-resolve-key-law other [] k = refl
-resolve-key-law other (p ∷ ps) k = by-test (eqb (p .key) k)
-    (λ t. rw t (eqb-true (p .key) k t))
-    (λ f. rw f (resolve-key-law other ps k))
 
 -- row i is the first port with the key, and what is answered
 pub record First (k i : ℕ) (ps : List Port) : Type 0 where

@@ -3,19 +3,18 @@ use Prim.Native.Nat.{ℕ, zero, suc, _+_, _-_, _*_, _/_, _%_, _≤_, _<_}
 use native.Mathlib.Numerals.{add-one, add-two}
 use native.Mathlib.Omega.{arith}
 use mathlib.Core.Path.{_≡_, refl, sym, ap, _∙_}
-use mathlib.Core.Bool.{true, false, not, _&&_, _||_}
+use mathlib.Core.Bool.{true, false}
 use mathlib.Core.List.{List, [], _∷_, _++_}
-use lib.Dec.{eqb, ltb}
+use lib.Dec.{eqb}
 use lib.ListN.{length, getD, take, drop, length-drop}
 use lib.Seq.{drop-cons, drop-nil, take-all, getD-take}
-use borrow.Author.Tests.{eq-eqb, ne-eqb, eqb-false, lt-ltb, le-ltb, ltb-false, not-false}
+use borrow.Author.Tests.{eq-eqb, ne-eqb, eqb-false}
 use Rattle.rules.specs.declared.Port.{Port}
 use Rattle.rules.specs.Holds.{port, samePort, isIn}
-use Rattle.rules.specs.Ports.{pairs, oddLength, flat, resolveIn, rising, samePorts, badRealms}
+use Rattle.rules.specs.Ports.{pairs, oddLength, flat, samePorts}
 use Rattle.rules.specs.Registration.{repeats}
-use Rattle.rules_laws.specs.Laws.Tests.{by-test, both, neither}
+use Rattle.rules_laws.specs.Laws.Tests.{by-test, both}
 use Rattle.rules_laws.specs.Laws.Members.{same-port}
-use Rattle.rules.specs.Limits.{maxRealmRows}
 use Rattle.ports.specs.declared.Found.the-variants.{At}
 use Rattle.ports.specs.Answers.{firstFrom}
 
@@ -137,12 +136,6 @@ not-same p q n = by-test (samePort p q)
 
 -- a lookup, at a list that starts with p: a hit ends it, a miss goes on with the rest
 module _ {l ps : List Port} {p : Port} (s : l ≡ p ∷ ps) where
-  pub resolve-hit : (other k : ℕ) → p .key ≡ k → resolveIn other l k ≡ p
-  resolve-hit other k e = rw (s, eq-eqb (p .key) k e)
-
-  pub resolve-miss : (other k : ℕ) → (p .key ≡ k → ⊥) → resolveIn other l k ≡ resolveIn other ps k
-  resolve-miss other k n = rw (s, ne-eqb (p .key) k n)
-
   pub in-hit : (q : Port) → p .key ≡ q .key → p .realm ≡ q .realm → isIn q l ≡ true
   in-hit q e f = rw (s, eq-eqb (q .key) (p .key) (sym e), eq-eqb (q .realm) (p .realm) (sym f))
 
@@ -162,41 +155,6 @@ module _ {l ps : List Port} {p : Port} (s : l ≡ p ∷ ps) where
 
   pub repeats-miss : isIn p ps ≡ false → repeats l ≡ repeats ps
   repeats-miss e = rw (s, e)
-
--- the keys of two rows, by the place of the second
-pub rising-behind : (l : List ℕ) (i : ℕ) → 2 ≤ i → i + 1 < length l
-    → rising (pairs (drop (i - 2) l)) ≡ (ltb (getD l (i - 2) 0) (getD l i 0) && rising (pairs (drop (i + 2 - 2) l)))
-rising-behind l i p h =
-    let e : i - 2 + 2 ≡ i = omega arith in
-    let f : i + 2 - 2 ≡ i = omega arith in
-    rw (f, rw e at (pairs-at l (i - 2) (omega arith)), pairs-at l i h)
-
-pub rising-end : (ps : List Port) → length ps ≤ 1 → rising ps ≡ true
-rising-end [] h = refl
-rising-end (p ∷ []) h = refl
-rising-end (p ∷ q ∷ ps) h = absurd (omega arith)
-
--- row 4 by the length, then by the keys
-module _ (l : List ℕ) where
-  pub bad-odd : (length l % 2 ≡ 0 → ⊥) → badRealms l ≡ true
-  unfolding badRealms
-  bad-odd h = rw (length-odd l h)
-
-  pub bad-long : length l % 2 ≡ 0 → maxRealmRows * 2 < length l → badRealms l ≡ true
-  unfolding badRealms
-  bad-long e h = rw (length-even l e, lt-ltb maxRealmRows (length (pairs l)) (omega (arith, length-pairs l)))
-
-  pub bad-rising : length l % 2 ≡ 0 → length l ≤ maxRealmRows * 2 → badRealms l ≡ not (rising (pairs l))
-  unfolding badRealms
-  bad-rising e h = rw (length-even l e, le-ltb maxRealmRows (length (pairs l)) (omega (arith, length-pairs l)))
-
-  pub good-realms : badRealms l ≡ false → (length l % 2 ≡ 0) × (length l ≤ maxRealmRows * 2) × (rising (pairs l) ≡ true)
-  unfolding badRealms
-  good-realms h =
-      let a = neither (oddLength l || ltb maxRealmRows (length (pairs l))) (not (rising (pairs l))) h in
-      let b = neither (oddLength l) (ltb maxRealmRows (length (pairs l))) (a .0) in
-      let e = even-length l (b .0) in
-      (e, omega (arith, ltb-false maxRealmRows (length (pairs l)) (b .1), length-pairs l), not-false (rising (pairs l)) (a .1))
 
 -- the same ports are the same list
 pub same-refl : (ps : List Port) → samePorts ps ps ≡ true

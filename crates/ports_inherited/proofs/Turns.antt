@@ -11,8 +11,8 @@ use Rattle.rules.specs.Ports.{pairs, resolve}
 use Rattle.rules.specs.Dependencies.{candidates, inherit, skipped}
 use Rattle.rules_laws.specs.Laws.Tests.{by-test}
 use Rattle.ports.specs.Places.{length-pairs, pairs-get}
-use Rattle.ports.specs.Found.{resolve-key-law}
-use Rattle.ports.specs.Halving.{reached, reachedWith}
+use Rattle.rules_laws.specs.Laws.Realms.{resolve-key-law}
+use Rattle.ports_realms.specs.Halving.{reached, reachedWith}
 use Rattle.ports_resolved.specs.Keys.{candidateRealm}
 
 length-candidates : (z : Realms) (ps : List Port) → length (candidates z ps) ≡ 2 * length ps

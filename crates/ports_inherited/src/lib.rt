@@ -4,7 +4,7 @@ ghost use mathlib.Core.List.{[]};
 ghost use Prim.Native.Nat.{_+_};
 ghost use lib.ListN.{take};
 ghost use Rattle.rules.specs.Ports.{pairs};
-ghost use Rattle.ports.specs.Halving.{reachedWith};
+ghost use Rattle.ports_realms.specs.Halving.{reachedWith};
 ghost use Rattle.rules.specs.Dependencies.{dependencyList};
 ghost use Rattle.rules.specs.Limits.{maxDependencyKeys, maxDependencies};
 ghost use Rattle.ports_resolved.specs.Filled.{filled};

@@ -13,7 +13,7 @@ use Rattle.rules.specs.Ports.{resolveIn, resolve}
 use Rattle.rules.specs.Registration.{repeats}
 use Rattle.rules_laws.specs.Laws.Tests.{by-test}
 use Rattle.rules.specs.Limits.{maxProvisionKeys}
-use Rattle.ports.specs.Found.{resolve-key-law}
+use Rattle.rules_laws.specs.Laws.Realms.{resolve-key-law}
 use Rattle.ports_resolved.specs.declared.Claimed.{Claimed}
 use Rattle.ports_resolved.specs.Keys.{keysRepeat, claimsOf, claimRoom}
 use Rattle.ports_resolved.specs.Filled.{Lists}

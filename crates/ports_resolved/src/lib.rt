@@ -2,7 +2,7 @@
 // the candidates of the parent's list.
 ghost use mathlib.Core.Path.{_≡_};
 ghost use Rattle.rules.specs.Ports.{pairs};
-ghost use Rattle.ports.specs.Halving.{reached};
+ghost use Rattle.ports_realms.specs.Halving.{reached};
 ghost use Rattle.ports_resolved.specs.Keys.{keysRepeat, claimsOf, declaredOf, candidateRealm};
 ghost use Rattle.ports_resolved.specs.Stored.{Stores};
 use rules::Port;
@@ -57,7 +57,7 @@ pub fn claims(other: u64, anchor: Port, realms: &[u64], keys: &[u64]) -> Claimed
                 ports: list,
             };
         }
-        let q = ports::resolve(realms, Port::new(keys[i], other));
+        let q = ports_realms::resolve(realms, Port::new(keys[i], other));
         list[i * 2 + 2] = q.key;
         list[i * 2 + 3] = q.realm;
         i += 1;
@@ -75,7 +75,7 @@ pub fn declared(other: u64, realms: &[u64], keys: &[u64], list: &mut [u64; LIST_
         if i == limits::DEPENDENCY_KEYS {
             return limits::DEPENDENCY_KEYS;
         }
-        let q = ports::resolve(realms, Port::new(keys[i], other));
+        let q = ports_realms::resolve(realms, Port::new(keys[i], other));
         list[i * 2] = q.key;
         list[i * 2 + 1] = q.realm;
         i += 1;
@@ -90,6 +90,6 @@ pub fn candidate(other: u64, turn: usize, key: u64, realm: u64, realms: &[u64]) 
     if turn == 0 {
         return realm;
     }
-    let q = ports::resolve(realms, Port::new(key, other));
+    let q = ports_realms::resolve(realms, Port::new(key, other));
     q.realm
 }

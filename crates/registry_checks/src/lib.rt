@@ -54,7 +54,7 @@ pub fn early_verdict(
     ensures { λ r. ⌜ r ≡ under (placeAbove (now (m .entry)) parent) (verdict (askedChecks (view (now (m .entry)))
         (asked parent (now (realms .entry)) (now (dependencies .entry)) (now (provisions .entry))))) ⌝ }
 {
-    if ports::bad_realms(realms) {
+    if ports_realms::bad_realms(realms) {
         return Early::Refused(refusal::BAD_REALMS);
     }
     if limits::DEPENDENCY_KEYS < dependencies.len() {

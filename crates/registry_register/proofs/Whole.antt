@@ -27,9 +27,10 @@ use Rattle.memory.specs.declared.Parent.the-variants as parents
 use Rattle.memory.specs.declared.Place.{Place}
 use Rattle.memory.specs.declared.Place.the-variants.{At, None}
 use Rattle.memory_places.specs.Changes.{freeAt}
-use Rattle.ports.specs.Halving.{reached, reachedWith}
-use Rattle.ports.specs.Reached.{good-reached}
-use Rattle.ports.specs.Places.{length-pairs, length-flat, pairs-flat, flat-pairs-even, good-realms}
+use Rattle.ports_realms.specs.Halving.{reached, reachedWith}
+use Rattle.ports_realms.specs.Reached.{good-reached}
+use Rattle.ports.specs.Places.{length-pairs, length-flat, pairs-flat, flat-pairs-even}
+use Rattle.ports_realms.specs.Rows.{good-realms}
 use Rattle.ports_resolved.specs.declared.Claimed.{Claimed}
 use Rattle.ports_resolved.specs.Keys.{claimsOf}
 use Rattle.ports_resolved.specs.Filled.{listed-words}

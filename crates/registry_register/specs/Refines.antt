@@ -25,7 +25,8 @@ use Rattle.memory.specs.declared.Place.the-variants.{At, None}
 use Rattle.memory_places.specs.Changes.{freeAt}
 use Rattle.memory_places.specs.Free.{count-full}
 use Rattle.memory_places.specs.Placed.{taken-in}
-use Rattle.ports.specs.Places.{length-pairs, length-flat, pairs-flat, good-realms}
+use Rattle.ports.specs.Places.{length-pairs, length-flat, pairs-flat}
+use Rattle.ports_realms.specs.Rows.{good-realms}
 use Rattle.memory_entry.specs.Entries.{filledPlace}
 use Rattle.memory_rows.specs.Dense.{used, Dense, used-is, Refines}
 use Rattle.memory_entry.specs.Addition.{Newcomer, newPluginOf, Sized}

@@ -13,10 +13,7 @@ use Rattle.rules.specs.Holds.{Realms, port}
 use Rattle.rules.specs.Ports.{rising, resolveIn, resolve}
 use Rattle.rules_laws.specs.Laws.Tests.{both, neither}
 use Rattle.rules_laws.specs.Laws.Members.{In}
-
-rising-behind : (x : Port) (l : List Port) → rising (x ∷ l) ≡ true → rising l ≡ true
-rising-behind x [] e = refl
-rising-behind x (y ∷ l) e = both (ltb (x .key) (y .key)) (rising (y ∷ l)) e .1
+use Rattle.rules_laws.specs.Laws.Realms.{rising-drop}
 
 rising-above : (x : Port) (l : List Port) (row : Port) → rising (x ∷ l) ≡ true → In row l → x .key < row .key
 rising-above x (y ∷ l) row e (inl i) =
@@ -32,7 +29,7 @@ found-in : (other : ℕ) (l : List Port) (row : Port) → rising l ≡ true → 
 found-in other (x ∷ l) row e (inl i) = subst (λ (z : Port). resolveIn other (x ∷ l) (z .key) ≡ z) i (rw (eq-eqb (x .key) (x .key) refl))
 found-in other (x ∷ l) row e (inr m) =
     let a = rising-above x l row e m in
-    rw (ne-eqb (x .key) (row .key) (λ i. omega arith)) (found-in other l row (rising-behind x l e) m)
+    rw (ne-eqb (x .key) (row .key) (λ i. omega arith)) (found-in other l row (rising-drop 1 (x ∷ l) e) m)
 
 other-in : (other : ℕ) (l : List Port) (k : ℕ) → any (λ (x : Port). eqb (x .key) k) l ≡ false → resolveIn other l k ≡ port k other
 other-in other [] k e = refl

@@ -1,7 +1,7 @@
 -- `resolved` meets its contract: the port's numbers are told by `two`, and a refusal leaves the words as they are.
 use mathlib.Core.Path.{refl, ap}
 use Rattle.host_answers.specs.Told.{statusOf, wordsOf, told}
-use Rattle.ports.specs.Answers.{resolvedAnswer}
+use Rattle.ports_realms.specs.Answers.{resolvedAnswer}
 use borrow.Author.Needs.{needs}
 use Rattle.host_answers.proofs.resolved.Statement.{statement}
 use Rattle.host_answers.proofs.resolved.Tie as tie

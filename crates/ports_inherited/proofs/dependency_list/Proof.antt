@@ -9,7 +9,7 @@ use borrow.Author.Needs.{needs}
 use Rattle.rules.specs.declared.Port.{Port}
 use Rattle.rules.specs.Holds.{port, isIn}
 use Rattle.rules.specs.Ports.{pairs, resolve, resolveIn}
-use Rattle.ports.specs.Halving.{reached, reachedWith}
+use Rattle.ports_realms.specs.Halving.{reached, reachedWith}
 use Rattle.rules.specs.Dependencies.{candidates, inherit, dependencyList}
 use Rattle.rules.specs.Limits.{maxDependencyKeys, maxDependencies}
 use Rattle.ports.specs.Places.{in-hit, in-miss}

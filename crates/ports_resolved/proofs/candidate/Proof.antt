@@ -4,8 +4,8 @@ use borrow.Author.Needs.{needs}
 use borrow.Author.Tests.{eq-eqb, ne-eqb}
 use Rattle.rules.specs.declared.Port.{Port}
 use Rattle.rules.specs.Ports.{pairs}
-use Rattle.ports.specs.Found.{resolve-with}
-use Rattle.ports.specs.Halving.{reached}
+use Rattle.ports_realms.specs.Rows.{resolve-with}
+use Rattle.ports_realms.specs.Halving.{reached}
 use Rattle.ports_resolved.proofs.candidate.Statement.{statement}
 use Rattle.ports_resolved.proofs.candidate.Tie as tie
 

@@ -8,8 +8,8 @@ use lib.Seq.{take-all}
 use borrow.Author.Needs.{needs}
 use Rattle.rules.specs.Ports.{pairs, resolveIn}
 use Rattle.rules.specs.Limits.{maxProvisionKeys}
-use Rattle.ports.specs.Found.{resolve-with}
-use Rattle.ports.specs.Halving.{reached}
+use Rattle.ports_realms.specs.Rows.{resolve-with}
+use Rattle.ports_realms.specs.Halving.{reached}
 use Rattle.ports_resolved.specs.Keys.{claimRoom}
 use Rattle.ports_resolved.specs.Filled.{Lists, lists-key}
 use Rattle.ports_resolved.proofs.claims.Statement.{statement}

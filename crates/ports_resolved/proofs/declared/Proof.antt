@@ -7,8 +7,8 @@ use lib.ListN.{length, take, drop, length-take}
 use borrow.Author.Needs.{needs}
 use Rattle.rules.specs.Ports.{pairs, resolveIn}
 use Rattle.rules.specs.Limits.{maxDependencyKeys}
-use Rattle.ports.specs.Found.{resolve-with}
-use Rattle.ports.specs.Halving.{reached}
+use Rattle.ports_realms.specs.Rows.{resolve-with}
+use Rattle.ports_realms.specs.Halving.{reached}
 use Rattle.ports_resolved.specs.Keys.{declaredOf}
 use Rattle.ports_resolved.specs.Stored.{stored}
 use Rattle.ports_resolved.proofs.Laws.{stored-next, stored-all}

@@ -3,34 +3,29 @@ use Prim.Native.Nat.{ℕ}
 use native.Mathlib.Omega.{arith}
 use mathlib.Core.Path.{_≡_, refl, sym, ap, _∙_, subst}
 use mathlib.Core.Bool.{true, false, not, _&&_, _||_}
-use mathlib.Core.List.{List, [], _∷_, map, map-map, map-id}
+use mathlib.Core.List.{List, _∷_, map, map-map, map-id}
 use mathlib.Core.Option.{Option, none, some}
 use mathlib.Core.Logic.{inl, inr}
-use lib.Dec.{eqb, ltb}
+use lib.Dec.{ltb}
 use lib.ListN.{length, length-map}
-use borrow.Author.Tests.{eqb-true, eqb-false, ltb-false, leb-false, not-false}
+use borrow.Author.Tests.{eqb-false, ltb-false, leb-false, not-false}
 use Rattle.rules.specs.Basics.{isSome, isNone, last}
 use Rattle.rules.specs.declared.Port.{Port}
 use Rattle.rules.specs.Holds.{Realms, Provision, Plugin, Registry, lookup, provider, provided, samePort, isIn}
-use Rattle.rules.specs.Ports.{pairs, oddLength, rising, badRealms, realmsOf, resolveIn, resolve}
+use Rattle.rules.specs.Ports.{pairs, oddLength, rising, badRealms, realmsOf, resolve}
 use Rattle.rules.specs.Registration.{Definition, parentOf, resolved, claimed, unoffered, repeats, dependenciesOf, newPlugin, registrationChecks}
 use Rattle.rules_laws.specs.Laws.Tests.{by-test, neither, Passed}
 use Rattle.rules_laws.specs.Laws.Members.{In, any-false, same-port, is-in}
+use Rattle.rules_laws.specs.Laws.Realms.{resolve-key-law}
 use Rattle.rules_laws.specs.Built.{Shaped, Lively}
 use Rattle.rules_laws.specs.Kept.Plugins.{unvalued}
 use Rattle.rules_laws.specs.Kept.Moves.{Join}
 use Rattle.rules.specs.Limits.{maxRows, maxDependencyKeys, maxProvisionKeys, maxDependencies, maxRealmRows}
 
--- a key's port has that key, so what a key resolved to resolves to itself
-key-in : (other k : ℕ) (rows : List Port) → resolveIn other rows k .key ≡ k
-key-in other k [] = refl
-key-in other k (row ∷ rows) = by-test (eqb (row .key) k)
-    (λ y. rw y (eqb-true (row .key) k y))
-    (λ n. rw n (key-in other k rows))
-
+-- what a key resolved to resolves to itself
 resolved-in : (z : Realms) (keys : List ℕ) (q : Port) → In q (map (resolve z) keys) → resolve z (q .key) ≡ q
 unfolding resolve
-resolved-in z (k ∷ keys) q (inl i) = subst (λ q. resolve z (q .key) ≡ q) i (ap (resolve z) (key-in (z .other) k (z .rows)))
+resolved-in z (k ∷ keys) q (inl i) = subst (λ q. resolve z (q .key) ≡ q) i (ap (resolve z) (resolve-key-law (z .other) (z .rows) k))
 resolved-in z (k ∷ keys) q (inr m) = resolved-in z keys q m
 
 claims-in : (k a : Port) (l : List Port) → (isIn k l || samePort k a) ≡ true → In k (a ∷ l)

@@ -5,10 +5,10 @@ use mathlib.Core.Path.{_≡_, refl, sym, ap, _∙_}
 use mathlib.Core.Logic.{inl, inr, ⊎-elim}
 use borrow.Author.Needs.{needs}
 use Rattle.rules.specs.declared.Port.{Port}
-use Rattle.ports.specs.Reached.{comparisons-next}
-use Rattle.ports.proofs.Interval.{Searching, starts, goes-on, few, ends-empty, ends-other, ends-found}
-use Rattle.ports.proofs.search.Statement.{statement}
-use Rattle.ports.proofs.search.Tie as tie
+use Rattle.ports_realms.specs.Reached.{comparisons-next}
+use Rattle.ports_realms.proofs.Interval.{Searching, starts, goes-on, few, ends-empty, ends-other, ends-found}
+use Rattle.ports_realms.proofs.search.Statement.{statement}
+use Rattle.ports_realms.proofs.search.Tie as tie
 
 abbrev Inv-loop : tie.InvT-loop
 Inv-loop realms fallback at₀ rows₀ half₀ comparisons₀ at rows half comparisons = Searching realms (fallback .key) at rows comparisons × (half ≡ rows / 2)

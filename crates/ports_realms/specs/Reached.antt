@@ -3,22 +3,22 @@ use Prim.Native.Nat.{ℕ, zero, suc, _+_, _-_, _/_, _^_, _≤_, _<_}
 use native.Mathlib.Nat.{pow-suc}
 use native.Mathlib.Omega.{arith}
 use mathlib.Core.Path.{_≡_, refl, sym, ap, _∙_, subst}
-use mathlib.Core.Bool.{Bool, true, false, true≢false, _&&_}
+use mathlib.Core.Bool.{Bool, true, false, true≢false}
 use mathlib.Core.List.{List, [], _∷_}
 use mathlib.Core.Logic.{inl}
 use lib.Dec.{eqb, leb, ltb}
 use lib.ListN.{length, getD, take, drop, length-take, length-drop}
 use lib.Seq.{getD-take, getD-drop}
 use borrow.Author.Tests.{ltb-true, ltb-false, lt-ltb, le-ltb, leb-true, leb-false, eqb-true, eqb-false, ne-eqb, eq-eqb}
-use Rattle.rules.specs.Basics.{pick}
 use Rattle.rules.specs.declared.Port.{Port}
 use Rattle.rules.specs.Holds.{port, samePort, isIn}
 use Rattle.rules.specs.Ports.{pairs, rising, badRealms, resolveIn}
-use Rattle.rules.specs.Limits.{maxRealmRows}
-use Rattle.rules_laws.specs.Laws.Tests.{by-test, both}
+use Rattle.rules_laws.specs.Laws.Tests.{by-test}
 use Rattle.rules_laws.specs.Laws.Members.{In, same-port, is-in}
-use Rattle.ports.specs.Places.{good-realms, length-pairs}
-use Rattle.ports.specs.Halving.{nearer, halvedIn, halved, byHalving, comparisonsIn, comparisons, passing, reached}
+use Rattle.rules_laws.specs.Laws.Realms.{rising-at, rising-drop, rising-take}
+use Rattle.ports.specs.Places.{length-pairs}
+use Rattle.ports_realms.specs.Rows.{good-realms}
+use Rattle.ports_realms.specs.Halving.{nearer, halvedIn, halved, byHalving, comparisonsIn, comparisons, passing, reached}
 
 -- a comparison leaves all rows but a half of them
 pub nearer-length : (k : ℕ) (rows : List Port) → length (nearer k rows) ≡ length rows - length rows / 2
@@ -202,34 +202,6 @@ reached-search other k rows = of (halved k rows) refl (halved-short (length rows
         rw t (sym (one-passes finds other k q rows j (found q (q ∷ []) e j ∙ in-at (q ∷ []) 0 (omega arith)) (only q e) (halved-within (length rows) k q rows there))))
         (λ n. rw n (sym (none-passes finds other k rows (λ row i. found row (q ∷ []) e i ∙ rw (ne-eqb (row .key) (q .key) (λ j. eqb-false (q .key) k n (sym j ∙ i)))))))
     of (q ∷ p ∷ l) e h = absurd (omega arith)
-
--- rising keys, by their places
-rising-at : (l : List Port) (i j : ℕ) → rising l ≡ true → i < j → j < length l → getD l i (port 0 0) .key < getD l j (port 0 0) .key
-rising-at [] i j e h b = absurd (omega arith)
-rising-at (p ∷ l) i zero e h b = absurd (omega arith)
-rising-at (p ∷ []) i (suc j) e h b = absurd (omega arith)
-rising-at (p ∷ q ∷ l) zero (suc zero) e h b = ltb-true (p .key) (q .key) (both (ltb (p .key) (q .key)) (rising (q ∷ l)) e .0)
-rising-at (p ∷ q ∷ l) zero (suc (suc j)) e h b =
-    let c = both (ltb (p .key) (q .key)) (rising (q ∷ l)) e in
-    let first = ltb-true (p .key) (q .key) (c .0) in
-    let rest = rising-at (q ∷ l) zero (suc j) (c .1) (omega arith) (omega arith) in
-    omega arith
-rising-at (p ∷ q ∷ l) (suc i) (suc j) e h b = rising-at (q ∷ l) i j (both (ltb (p .key) (q .key)) (rising (q ∷ l)) e .1) (omega arith) (omega arith)
-
-rising-drop : (n : ℕ) (l : List Port) → rising l ≡ true → rising (drop n l) ≡ true
-rising-drop zero l e = e
-rising-drop (suc n) [] e = e
-rising-drop (suc n) (p ∷ []) e = rising-drop n [] refl
-rising-drop (suc n) (p ∷ q ∷ l) e = rising-drop n (q ∷ l) (both (ltb (p .key) (q .key)) (rising (q ∷ l)) e .1)
-
-rising-take : (n : ℕ) (l : List Port) → rising l ≡ true → rising (take n l) ≡ true
-rising-take zero l e = refl
-rising-take (suc n) [] e = refl
-rising-take (suc zero) (p ∷ l) e = refl
-rising-take (suc (suc n)) (p ∷ []) e = refl
-rising-take (suc (suc n)) (p ∷ q ∷ l) e =
-    let c = both (ltb (p .key) (q .key)) (rising (q ∷ l)) e in
-    rw (c .0) (rising-take (suc n) (q ∷ l) (c .1))
 
 there : (half i : ℕ) → half ≤ i → half + (i - half) ≡ i
 there half i h = omega arith

@@ -2,10 +2,10 @@
 use mathlib.Core.Path.{ap, _∙_}
 use borrow.Author.Needs.{needs}
 use Rattle.rules.specs.Ports.{pairs}
-use Rattle.ports.specs.declared.Lookup.{Lookup}
-use Rattle.ports.specs.Reached.{reached-search}
-use Rattle.ports.proofs.resolve.Statement.{statement}
-use Rattle.ports.proofs.resolve.Tie as tie
+use Rattle.ports_realms.specs.declared.Lookup.{Lookup}
+use Rattle.ports_realms.specs.Reached.{reached-search}
+use Rattle.ports_realms.proofs.resolve.Statement.{statement}
+use Rattle.ports_realms.proofs.resolve.Tie as tie
 
 search-requires : tie.Need-search-requires
 search-requires c κs = search needs

@@ -6,11 +6,11 @@ use borrow.Author.Needs.{needs}
 use Rattle.rules.specs.declared.Port.{Port}
 use Rattle.rules.specs.Ports.{badRealms, pairs, resolve, resolveKey, flat}
 use Rattle.rules.specs.Outcomes.{checked, Accepted}
-use Rattle.ports.specs.Found.{resolve-with}
-use Rattle.ports.specs.Halving.{reached}
-use Rattle.ports.specs.Reached.{good-reached}
-use Rattle.ports.proofs.resolve_key.Statement.{statement}
-use Rattle.ports.proofs.resolve_key.Tie as tie
+use Rattle.ports_realms.specs.Rows.{resolve-with}
+use Rattle.ports_realms.specs.Halving.{reached}
+use Rattle.ports_realms.specs.Reached.{good-reached}
+use Rattle.ports_realms.proofs.resolve_key.Statement.{statement}
+use Rattle.ports_realms.proofs.resolve_key.Tie as tie
 
 bad-realms-requires : tie.Need-bad-realms-requires
 bad-realms-requires c κs = search needs

@@ -7,9 +7,10 @@ use lib.ListN.{length, getD, drop, length-drop}
 use borrow.Author.Tests.{lt-ltb, le-ltb}
 use borrow.Author.Needs.{needs}
 use Rattle.rules.specs.Ports.{pairs, rising}
-use Rattle.ports.specs.Places.{rising-behind, rising-end, length-pairs, bad-odd, bad-long, bad-rising}
-use Rattle.ports.proofs.bad_realms.Statement.{statement}
-use Rattle.ports.proofs.bad_realms.Tie as tie
+use Rattle.ports.specs.Places.{length-pairs}
+use Rattle.ports_realms.specs.Rows.{rising-behind, rising-end, bad-odd, bad-long, bad-rising}
+use Rattle.ports_realms.proofs.bad_realms.Statement.{statement}
+use Rattle.ports_realms.proofs.bad_realms.Tie as tie
 
 abbrev Inv-loop : tie.InvT-loop
 Inv-loop realms i₀ i = (2 ≤ i) × (i % 2 ≡ 0) × (rising (pairs realms) ≡ rising (pairs (drop (i - 2) realms)))

@@ -1,0 +1,4 @@
+pub mod Rows
+pub mod Halving
+pub mod Answers
+pub mod Reached
