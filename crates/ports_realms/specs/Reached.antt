@@ -25,8 +25,8 @@ pub nearer-length : (k : ℕ) (rows : List Port) → length (nearer k rows) ≡ 
 nearer-length k rows =
     let half = length rows / 2 in
     by-test (leb (getD rows half (port 0 0) .key) k)
-    (λ t. rw t (length-drop half rows))
-    (λ f. rw f (simp length-take (omega arith)))
+    (λ t. rw t (simp (length-take, length-drop) (omega arith)))
+    (λ f. rw f (simp (length-take, length-drop) (omega arith)))
 
 -- more turns than rows change nothing
 enough : (n m k : ℕ) (rows : List Port) → length rows ≤ n → length rows ≤ m → halvedIn n k rows ≡ halvedIn m k rows
