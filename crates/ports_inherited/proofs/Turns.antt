@@ -2,18 +2,22 @@
 use Prim.Native.Nat.{ℕ, zero, suc, _+_, _*_, _/_, _%_, _≤_, _<_}
 use native.Mathlib.Omega.{arith}
 use mathlib.Core.Path.{_≡_, refl, sym, ap, _∙_}
-use mathlib.Core.Bool.{true, false}
+use mathlib.Core.Bool.{Bool, true, false, _&&_}
 use mathlib.Core.List.{List, [], _∷_, _++_}
+use lib.Dec.{eqb}
 use lib.ListN.{length, getD, drop, length-append, drop-of-length-le}
+use borrow.Author.Tests.{eqb-true, eq-eqb, ne-eqb}
+use Rattle.rules.specs.Basics.{pick}
 use Rattle.rules.specs.declared.Port.{Port}
-use Rattle.rules.specs.Holds.{port, Realms, isIn}
-use Rattle.rules.specs.Ports.{pairs, resolve}
+use Rattle.rules.specs.Holds.{port, Realms, samePort, isIn}
+use Rattle.rules.specs.Ports.{pairs, resolveIn, resolve}
 use Rattle.rules.specs.Dependencies.{candidates, inherit, skipped}
-use Rattle.rules_laws.specs.Laws.Tests.{by-test}
+use Rattle.rules_laws.specs.Laws.Tests.{by-test, both}
 use Rattle.ports.specs.Places.{length-pairs, pairs-get}
 use Rattle.rules_laws.specs.Laws.Realms.{resolve-key-law}
 use Rattle.ports_realms.specs.Halving.{reached, reachedWith}
-use Rattle.ports_resolved.specs.Keys.{candidateRealm}
+use Rattle.ports_resolved.specs.Keys.{candidateOf}
+use Rattle.ports_resolved.specs.declared.Turn.{Turn}
 
 length-candidates : (z : Realms) (ps : List Port) → length (candidates z ps) ≡ 2 * length ps
 length-candidates z [] = refl
@@ -21,7 +25,7 @@ length-candidates z (p ∷ ps) = omega (arith, length-candidates z ps)
 
 -- the port of turn c
 abbrev turn : Realms → Port → ℕ → Port
-turn z p c = port (p .key) (candidateRealm (z .other) (z .rows) (c % 2) (p .key) (p .realm))
+turn z p c = port (p .key) (candidateOf (z .other) (z .rows) (c % 2) (p .key) (p .realm) .realm)
 
 turn-at : (z : Realms) (ps : List Port) (c : ℕ) → c / 2 < length ps
     → drop c (candidates z ps) ≡ turn z (getD ps (c / 2) (port 0 0)) c ∷ drop (c + 1) (candidates z ps)
@@ -41,13 +45,50 @@ module _ (other : ℕ) (rows parents : List ℕ) (c : ℕ) where
   abbrev z : Realms
   z = reachedWith other rows
 
-  pub candidate-at : {r : ℕ} → c / 2 < length parents / 2
-      → r ≡ candidateRealm other (reached (pairs rows)) (c % 2) (getD parents (c / 2 * 2) 0) (getD parents (c / 2 * 2 + 1) 0)
-      → drop c (candidates z (pairs parents)) ≡ port (getD parents (c / 2 * 2) 0) r ∷ drop (c + 1) (candidates z (pairs parents))
-  candidate-at h e =
-      turn-at z (pairs parents) c (omega (arith, length-pairs parents))
-      ∙ ap (λ (p : Port). turn z p c ∷ drop (c + 1) (candidates z (pairs parents))) (pairs-get parents (c / 2) h)
-      ∙ ap (λ (n : ℕ). port (getD parents (c / 2 * 2) 0) n ∷ drop (c + 1) (candidates z (pairs parents))) (sym e)
+  -- the numbers of the port whose turn it is
+  abbrev own : Port
+  own = port (getD parents (c / 2 * 2) 0) (getD parents (c / 2 * 2 + 1) 0)
+
+  turn-in : (n : ℕ) → n / 2 ≡ c / 2 → c / 2 < length parents / 2 → drop n (candidates z (pairs parents)) ≡ turn z own n ∷ drop (n + 1) (candidates z (pairs parents))
+  turn-in n e h =
+      turn-at z (pairs parents) n (omega (arith, length-pairs parents))
+      ∙ ap (λ (p : Port). turn z p n ∷ drop (n + 1) (candidates z (pairs parents))) (ap (λ i. getD (pairs parents) i (port 0 0)) e ∙ pairs-get parents (c / 2) h)
+
+  module _ {t : Turn} (h : c / 2 < length parents / 2) (e : t ≡ candidateOf other (reached (pairs rows)) (c % 2) (own .key) (own .realm)) where
+    pub candidate-at : drop c (candidates z (pairs parents)) ≡ port (own .key) (t .realm) ∷ drop (c + 1) (candidates z (pairs parents))
+    candidate-at =
+        turn-in c refl h ∙ ap (λ (u : Turn). port (own .key) (u .realm) ∷ drop (c + 1) (candidates z (pairs parents))) (sym e)
+
+    pub some-turns : (1 ≤ t .turns) × (t .turns ≤ 2)
+    some-turns = rw e (of (eqb (c % 2) 0 && eqb (resolveIn other (reached (pairs rows)) (own .key) .realm) (own .realm)))
+      where
+        of : (b : Bool) → (1 ≤ pick b 2 1) × (pick b 2 1 ≤ 2)
+        of true = (omega arith, omega arith)
+        of false = (omega arith, omega arith)
+
+    -- where both turns are taken at once, the second is skipped: after the first the port is among the provisions or in the list
+    pub turns-taken : (provisions l : List Port) → skipped provisions l (port (own .key) (t .realm)) ≡ true
+        → inherit provisions (drop (c + 1) (candidates z (pairs parents))) l ≡ inherit provisions (drop (c + t .turns) (candidates z (pairs parents))) l
+    turns-taken provisions l k =
+        let cs = candidates z (pairs parents) in
+        let again = resolveIn other (reached (pairs rows)) (own .key) .realm in
+        by-test (eqb (c % 2) 0 && eqb again (own .realm))
+        (λ b. let s = both (eqb (c % 2) 0) (eqb again (own .realm)) b in
+        let even = eqb-true (c % 2) 0 (s .0) in
+        let realm : t .realm ≡ own .realm = ap (λ (u : Turn). u .realm) e ∙ rw (s .0) in
+        let turns : t .turns ≡ 2 = ap (λ (u : Turn). u .turns) e ∙ rw b in
+        let odd : eqb ((c + 1) % 2) 0 ≡ false = ne-eqb ((c + 1) % 2) 0 (λ i. omega arith) in
+        let same : turn z own (c + 1) ≡ port (own .key) (t .realm) = rw odd (ap (λ n. port (own .key) n) (eqb-true again (own .realm) (s .1) ∙ sym realm)) in
+        let all : c + 1 + 1 ≡ c + t .turns = omega arith in
+        ap (λ (x : List Port). inherit provisions x l) (turn-in (c + 1) (omega arith) h ∙ ap (λ (q : Port). q ∷ drop (c + 1 + 1) cs) same)
+        ∙ skip (port (own .key) (t .realm)) (drop (c + 1 + 1) cs) k
+        ∙ ap (λ n. inherit provisions (drop n cs) l) all)
+        (λ f. let turns : t .turns ≡ 1 = ap (λ (u : Turn). u .turns) e ∙ rw f in
+        let all : c + 1 ≡ c + t .turns = omega arith in
+        ap (λ n. inherit provisions (drop n cs) l) all)
+      where
+        skip : (q : Port) (qs : List Port) → skipped provisions l q ≡ true → inherit provisions (q ∷ qs) l ≡ inherit provisions qs l
+        skip q qs i = rw i
 
   pub candidates-end : length parents / 2 ≤ c / 2 → drop c (candidates z (pairs parents)) ≡ []
   candidates-end h =
@@ -63,6 +104,11 @@ module _ {cs qs : List Port} {q : Port} (s : cs ≡ q ∷ qs) (provisions l : Li
 
   pub append-new : isIn q provisions ≡ false → isIn q l ≡ false → inherit provisions cs l ≡ inherit provisions qs (l ++ q ∷ [])
   append-new p i = rw (s, p, i)
+
+-- what is appended is in the list
+pub in-last : (q : Port) (l : List Port) → isIn q (l ++ q ∷ []) ≡ true
+in-last q [] = rw (eq-eqb (q .key) (q .key) refl, eq-eqb (q .realm) (q .realm) refl)
+in-last q (p ∷ l) = let r = in-last q l in by-test (samePort q p) (λ t. rw t) (λ f. rw f r)
 
 -- the list never gets shorter
 pub grows : (provisions cs l : List Port) → length l ≤ length (inherit provisions cs l)

@@ -40,8 +40,9 @@ pub fn dependency_list(
     'next: while c / 2 < parents.len() / 2 {
         let at = c / 2 * 2;
         let key = parents[at];
-        let realm = ports_resolved::candidate(other, c % 2, key, parents[at + 1], realms);
-        c += 1;
+        let turn = ports_resolved::candidate(other, c % 2, key, parents[at + 1], realms);
+        let realm = turn.realm;
+        c += turn.turns;
         if ports::has_port(provisions, key, realm) {
             continue;
         }

@@ -1,4 +1,4 @@
--- The ports of the first keys, stored one by one.
+-- The ports of the first keys, stored one by one; and a candidate by its turn.
 use Prim.Native.Nat.{ℕ, _+_, _*_, _<_, _≤_}
 use native.Mathlib.Omega.{arith}
 use native.Mathlib.Numerals.{add-one}
@@ -6,8 +6,11 @@ use mathlib.Core.Path.{_≡_, sym, ap, _∙_}
 use mathlib.Core.List.{List, map}
 use lib.ListN.{length, getD, set, take, drop, length-map, length-take, drop-of-length-le}
 use lib.Seq.{getD-take, drop-cons}
+use borrow.Author.Tests.{eq-eqb, ne-eqb}
 use Rattle.rules.specs.declared.Port.{Port}
+use Rattle.rules.specs.Ports.{resolveIn}
 use Rattle.rules.specs.Limits.{maxDependencyKeys}
+use Rattle.ports_resolved.specs.Keys.{candidateOf}
 use Rattle.ports_resolved.specs.Stored.{stored, Stores}
 
 module _ (f : ℕ → Port) (keys array : List ℕ) (i : ℕ) where
@@ -27,3 +30,14 @@ module _ (f : ℕ → Port) (keys array : List ℕ) (i : ℕ) where
   pub stored-all : (start : List ℕ) (n : ℕ) → n ≡ length (take maxDependencyKeys keys) → length (take maxDependencyKeys keys) ≤ i
       → stored start 0 (map f (take maxDependencyKeys keys)) ≡ stored array i (map f (drop i (take maxDependencyKeys keys))) → Stores (map f (take maxDependencyKeys keys)) start n array
   stored-all start n e h d = (omega (arith, length-map (take maxDependencyKeys keys) f), sym (d ∙ stored-end h))
+
+-- A candidate by its turn, with the realm that its key resolves to.
+module _ (other : ℕ) (rows : List Port) (key turn realm : ℕ) {again : ℕ} (e : again ≡ resolveIn other rows key .realm) where
+  pub second-turn : (turn ≡ 0 → ⊥) → record { realm = again; turns = 1 } ≡ candidateOf other rows turn key realm
+  second-turn n = rw (ne-eqb turn 0 n, e)
+
+  pub both-turns : turn ≡ 0 → again ≡ realm → record { realm = realm; turns = 2 } ≡ candidateOf other rows turn key realm
+  both-turns z s = rw (eq-eqb turn 0 z, eq-eqb (resolveIn other rows key .realm) realm (sym e ∙ s))
+
+  pub first-turn : turn ≡ 0 → (again ≡ realm → ⊥) → record { realm = realm; turns = 1 } ≡ candidateOf other rows turn key realm
+  first-turn z n = rw (eq-eqb turn 0 z, ne-eqb (resolveIn other rows key .realm) realm (λ s. n (e ∙ s)))

@@ -1,6 +1,6 @@
 -- What keys resolve to: repeated keys, the ports claimed, the declared ports, and a candidate of the parent's list.
 use Prim.Native.Nat.{ℕ, _+_, _*_}
-use mathlib.Core.Bool.{Bool, false, _||_}
+use mathlib.Core.Bool.{Bool, false, _&&_, _||_}
 use mathlib.Core.List.{List, [], _∷_, map}
 use lib.Dec.{eqb}
 use lib.ListN.{length, take}
@@ -9,6 +9,7 @@ use Rattle.rules.specs.Limits.{maxDependencyKeys, maxProvisionKeys, maxDependen
 use Rattle.rules.specs.declared.Port.{Port}
 use Rattle.rules.specs.Ports.{resolveIn, flat}
 use Rattle.ports_resolved.specs.declared.Claimed.{Claimed}
+use Rattle.ports_resolved.specs.declared.Turn.{Turn}
 use Rattle.ports_resolved.specs.Filled.{filled}
 
 -- two keys are the same
@@ -33,6 +34,8 @@ claimsOf other rows anchor keys =
 abbrev pub declaredOf : ℕ → List Port → List ℕ → List Port
 declaredOf other rows keys = map (resolveIn other rows) (take maxDependencyKeys keys)
 
--- the realm of a candidate: its own at turn 0, else that of its key resolved again
-abbrev pub candidateRealm : ℕ → List Port → ℕ → ℕ → ℕ → ℕ
-candidateRealm other rows turn key realm = pick (eqb turn 0) realm (resolveIn other rows key .realm)
+-- a candidate at a turn: the port itself at turn 0, else its key resolved again; both turns at once where the two are one port
+abbrev pub candidateOf : ℕ → List Port → ℕ → ℕ → ℕ → Turn
+candidateOf other rows turn key realm =
+    let again = resolveIn other rows key .realm in
+    record { realm = pick (eqb turn 0) realm again; turns = pick (eqb turn 0 && eqb again realm) 2 1 }

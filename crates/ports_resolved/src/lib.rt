@@ -3,7 +3,7 @@
 ghost use mathlib.Core.Path.{_≡_};
 ghost use Rattle.rules.specs.Ports.{pairs};
 ghost use Rattle.ports_realms.specs.Halving.{reached};
-ghost use Rattle.ports_resolved.specs.Keys.{keysRepeat, claimsOf, declaredOf, candidateRealm};
+ghost use Rattle.ports_resolved.specs.Keys.{keysRepeat, claimsOf, declaredOf, candidateOf};
 ghost use Rattle.ports_resolved.specs.Stored.{Stores};
 use rules::Port;
 use rules::limits;
@@ -83,13 +83,25 @@ pub fn declared(other: u64, realms: &[u64], keys: &[u64], list: &mut [u64; LIST_
     i
 }
 
-// The realm of a candidate: its own, or that of its key resolved again.
-pub fn candidate(other: u64, turn: usize, key: u64, realm: u64, realms: &[u64]) -> u64
-    ensures { λ r. ⌜ r ≡ candidateRealm other (reached (pairs (now (realms .entry)))) turn key realm ⌝ }
+// A candidate's realm, and how many turns it takes: where a port resolves to itself, its second turn is known from the first.
+pub struct Turn {
+    pub realm: u64,
+    pub turns: usize,
+}
+
+// The candidate of a port of the parent's list: at turn 0 the port itself, else its key resolved again.
+pub fn candidate(other: u64, turn: usize, key: u64, realm: u64, realms: &[u64]) -> Turn
+    ensures { λ r. ⌜ r ≡ candidateOf other (reached (pairs (now (realms .entry)))) turn key realm ⌝ }
 {
-    if turn == 0 {
-        return realm;
-    }
     let q = ports_realms::resolve(realms, Port::new(key, other));
-    q.realm
+    if turn != 0 {
+        return Turn {
+            realm: q.realm,
+            turns: 1,
+        };
+    }
+    if q.realm == realm {
+        return Turn { realm, turns: 2 };
+    }
+    Turn { realm, turns: 1 }
 }

@@ -3,6 +3,7 @@ use Prim.Native.Nat.{ℕ, _+_, _-_, _*_, _/_, _≤_, _<_}
 use native.Mathlib.Omega.{arith}
 use mathlib.Core.Logic.{⊎-elim}
 use mathlib.Core.Path.{_≡_, refl, sym, ap, _∙_}
+use mathlib.Core.Bool.{true, false}
 use mathlib.Core.List.{List, [], _∷_, _++_}
 use lib.ListN.{length, getD, take, drop, length-append, length-map, length-take}
 use borrow.Author.Needs.{needs}
@@ -10,15 +11,16 @@ use Rattle.rules.specs.declared.Port.{Port}
 use Rattle.rules.specs.Holds.{port, isIn}
 use Rattle.rules.specs.Ports.{pairs, resolve, resolveIn}
 use Rattle.ports_realms.specs.Halving.{reached, reachedWith}
-use Rattle.rules.specs.Dependencies.{candidates, inherit, dependencyList}
+use Rattle.rules.specs.Dependencies.{candidates, skipped, inherit, dependencyList}
 use Rattle.rules.specs.Limits.{maxDependencyKeys, maxDependencies}
 use Rattle.ports.specs.Places.{in-hit, in-miss}
 use Rattle.ports_inherited.specs.Blocks.{fitted}
 use Rattle.ports_resolved.specs.Filled.{Lists, listed, lists-own, lists-at, lists-end, lists-more}
 use Rattle.ports_resolved.specs.Stored.{declared-lists}
 use Rattle.ports_resolved.specs.Keys.{listRoom}
+use Rattle.ports_resolved.specs.declared.Turn.{Turn}
 use Rattle.ports_inherited.specs.Answers.{fitted-lists, fitted-longer}
-use Rattle.ports_inherited.proofs.Turns.{candidate-at, candidates-end, skip-provision, skip-listed, append-new, grows}
+use Rattle.ports_inherited.proofs.Turns.{candidate-at, candidates-end, some-turns, turns-taken, skip-provision, skip-listed, append-new, in-last, grows}
 use Rattle.ports_inherited.proofs.dependency_list.Statement.{statement}
 use Rattle.ports_inherited.proofs.dependency_list.Tie as tie
 
@@ -42,33 +44,63 @@ Inv-next other realms keys provisions parents ports₀ n₀ c₀ ports n c =
 abbrev μ-next : tie.MeasureT-next
 μ-next other realms keys provisions parents ports₀ n₀ c₀ ports n c = length parents / 2 * 2 - c
 
--- the test of the provisions: the loop's head before it, and the function's entry
-abbrev Tested : Type 0
-Tested = tie.After-has-port Inv-loop μ-loop Inv-next μ-next
+-- the candidate of a turn: the loop's head before it, and the function's entry
+abbrev Turned : Type 0
+Turned = tie.After-candidate Inv-loop μ-loop Inv-next μ-next
 
-abbrev head : Tested → tie.At-next Inv-loop μ-loop Inv-next μ-next
-head t = t .before .before .before .before .before
+abbrev head : Turned → tie.At-next Inv-loop μ-loop Inv-next μ-next
+head t = t .before .before .before .before
 
-abbrev entry : Tested → tie.Start Inv-loop μ-loop Inv-next μ-next
+abbrev entry : Turned → tie.Start Inv-loop μ-loop Inv-next μ-next
 entry t = head t .before .before .before .before .before .before .before
 
-abbrev list : Tested → List Port
+abbrev list : Turned → List Port
 list t = soFar (head t .next .n) (head t .next .list)
 
-abbrev provided : Tested → List Port
+abbrev provided : Turned → List Port
 provided t = pairs (entry t .args .provisions .now)
 
-abbrev rest : Tested → ℕ → List Port
+abbrev rest : Turned → ℕ → List Port
 rest t c = drop c (candidates (reachedWith (entry t .args .other) (entry t .args .realms .now)) (pairs (entry t .args .parents .now)))
 
--- the candidate of turn c
-abbrev port-at : Tested → Port
-port-at t = port (getD (entry t .args .parents .now) (head t .next .c / 2 * 2) 0) (t .before .candidate .result)
+abbrev port-at : Turned → Port
+port-at t = port (getD (entry t .args .parents .now) (head t .next .c / 2 * 2) 0) (t .candidate .result .realm)
 
-split : (t : Tested) → rest t (head t .next .c) ≡ port-at t ∷ rest t (head t .next .c + 1)
+abbrev turns : Turned → ℕ
+turns t = t .candidate .result .turns
+
+inside : (t : Turned) → head t .next .c / 2 < length (entry t .args .parents .now) / 2
+inside t = t .before .before .before .next-test .taken
+
+split : (t : Turned) → rest t (head t .next .c) ≡ port-at t ∷ rest t (head t .next .c + 1)
 split t =
     let a = entry t .args in
-    candidate-at (a .other) (a .realms .now) (a .parents .now) (head t .next .c) (t .before .before .before .before .next-test .taken) (t .before .candidate .ensures)
+    candidate-at (a .other) (a .realms .now) (a .parents .now) (head t .next .c) (inside t) (t .candidate .ensures)
+
+few-turns : (t : Turned) → (1 ≤ turns t) × (turns t ≤ 2)
+few-turns t =
+    let a = entry t .args in
+    some-turns (a .other) (a .realms .now) (a .parents .now) (head t .next .c) (inside t) (t .candidate .ensures)
+
+less : (t : Turned) → length (entry t .args .parents .now) / 2 * 2 - (head t .next .c + turns t) < length (entry t .args .parents .now) / 2 * 2 - head t .next .c
+less t = omega (arith, inside t, few-turns t .0)
+
+-- a candidate that is skipped from here on is dealt with, in both its turns where they are taken at once
+dealt : (t : Turned) (l : List Port) → skipped (provided t) l (port-at t) ≡ true
+    → inherit (provided t) (rest t (head t .next .c + 1)) l ≡ inherit (provided t) (rest t (head t .next .c + turns t)) l
+dealt t l k =
+    let a = entry t .args in
+    turns-taken (a .other) (a .realms .now) (a .parents .now) (head t .next .c) (inside t) (t .candidate .ensures) (provided t) l k
+
+-- it is no provision
+abbrev Free : Type 0
+Free = tie.Else1 Inv-loop μ-loop Inv-next μ-next
+
+abbrev turned : Free → Turned
+turned f = f .before .before .before
+
+free : (f : Free) → isIn (port-at (turned f)) (provided (turned f)) ≡ false
+free f = sym (f .before .has-port .ensures) ∙ f .if1 .left
 
 declared-requires : tie.Need-declared-requires Inv-loop μ-loop Inv-next μ-next
 declared-requires c κs = search needs
@@ -105,19 +137,20 @@ candidate-requires : tie.Need-candidate-requires Inv-loop μ-loop Inv-next μ-ne
 candidate-requires c κs = search needs
 
 add-c : tie.Need-add-c Inv-loop μ-loop Inv-next μ-next
-add-c c = search needs
+add-c c = omega (arith, inside (c .before), few-turns (c .before) .1)
 
 has-port-requires : tie.Need-has-port-requires Inv-loop μ-loop Inv-next μ-next
 has-port-requires c κs = search needs
 
 next-less : tie.Need-next-less Inv-loop μ-loop Inv-next μ-next
-next-less c = search needs
+next-less c = less (c .before .before .before)
 
 next-again : tie.Need-next-again Inv-loop μ-loop Inv-next μ-next
 next-again c =
-    let t = c .before in
+    let t = c .before .before .before in
     let v = head t .next .inv in
-    (v .0, v .1, v .2 ∙ skip-provision (split t) (provided t) (list t) (sym (t .has-port .ensures) ∙ c .if1 .taken))
+    let provision = sym (c .before .has-port .ensures) ∙ c .if1 .taken in
+    (v .0, v .1, v .2 ∙ skip-provision (split t) (provided t) (list t) provision ∙ dealt t (list t) (rw provision))
 
 loop-holds : tie.Need-loop-holds Inv-loop μ-loop Inv-next μ-next
 loop-holds c = search needs
@@ -144,16 +177,17 @@ array-read-if3 : tie.Need-array-read-if3 Inv-loop μ-loop Inv-next μ-next
 array-read-if3 c = search needs
 
 next-less-2 : tie.Need-next-less-2 Inv-loop μ-loop Inv-next μ-next
-next-less-2 c = search needs
+next-less-2 c = less (turned (c .before .before .before .before))
 
 next-again-2 : tie.Need-next-again-2 Inv-loop μ-loop Inv-next μ-next
 next-again-2 c =
     let in-loop = c .before .before in
     let at = in-loop .before in
-    let t = at .before .before in
+    let t = turned (at .before) in
     let v = head t .next .inv in
     let there = at .loop .inv .1 ∙ in-hit (lists-at (v .1) (at .loop .k) (in-loop .loop-test .taken)) (port-at t) (c .before .if2 .taken) (c .if3 .taken) in
-    (v .0, v .1, v .2 ∙ skip-listed (split t) (provided t) (list t) (sym (t .has-port .ensures) ∙ at .before .if1 .left) there)
+    let no-provision = free (at .before) in
+    (v .0, v .1, v .2 ∙ skip-listed (split t) (provided t) (list t) no-provision there ∙ dealt t (list t) (rw (no-provision, there)))
 
 add-k : tie.Need-add-k Inv-loop μ-loop Inv-next μ-next
 add-k c = search needs
@@ -164,19 +198,19 @@ loop-less c = search needs
 loop-again : tie.Need-loop-again Inv-loop μ-loop Inv-next μ-next
 loop-again c =
     let at = c .before .before in
-    let t = at .before .before in
+    let t = turned (at .before) in
     let s = lists-at (head t .next .inv .1) (at .loop .k) (c .before .loop-test .taken) in
     (omega arith, at .loop .inv .1 ∙ in-miss s (port-at t) (⊎-elim (λ w e f. w .1 .left f) (λ w e f. w .left e) (c .if2 .came)))
 
 -- the candidate is appended
 appended : (c : tie.After-loop Inv-loop μ-loop Inv-next μ-next)
-    → let t = c .before .before .before in
+    → let t = turned (c .before .before) in
     inherit (provided t) (rest t (head t .next .c)) (list t) ≡ inherit (provided t) (rest t (head t .next .c + 1)) (list t ++ port-at t ∷ [])
 appended c =
     let at = c .before in
-    let t = at .before .before in
+    let t = turned (at .before) in
     let absent = at .loop .inv .1 ∙ ap (λ (l : List Port). isIn (port-at t) l) (lists-end (head t .next .inv .1) (at .loop .k) (c .loop-test .left)) in
-    append-new (split t) (provided t) (list t) (sym (t .has-port .ensures) ∙ at .before .if1 .left) absent
+    append-new (split t) (provided t) (list t) (free (at .before)) absent
 
 longer-requires : tie.Need-longer-requires Inv-loop μ-loop Inv-next μ-next
 longer-requires c κs = search needs
@@ -184,7 +218,7 @@ longer-requires c κs = search needs
 returns : tie.Need-returns Inv-loop μ-loop Inv-next μ-next
 returns c =
     let al = c .before .before in
-    let t = al .before .before .before in
+    let t = turned (al .before .before) in
     let v = head t .next .inv in
     let l = list t ++ port-at t ∷ [] in
     let e = v .2 ∙ appended al in
@@ -217,15 +251,17 @@ add-n : tie.Need-add-n Inv-loop μ-loop Inv-next μ-next
 add-n c = search needs
 
 next-less-3 : tie.Need-next-less-3 Inv-loop μ-loop Inv-next μ-next
-next-less-3 c = search needs
+next-less-3 c = less (turned (c .before .before .before))
 
 next-again-3 : tie.Need-next-again-3 Inv-loop μ-loop Inv-next μ-next
 next-again-3 c =
-    let t = c .before .before .before .before in
+    let f = c .before .before .before in
+    let t = turned f in
     let v = head t .next .inv in
     let n = head t .next .n in
     let r = lists-more (v .1) (port-at t) {a = n * 2} {b = n * 2 + 1} refl refl (omega (arith, c .if4 .left)) in
-    (omega (arith, c .if4 .left), lists-own r, v .2 ∙ appended (c .before) ∙ ap (λ (l : List Port). inherit (provided t) (rest t (head t .next .c + 1)) l) (sym (listed r)))
+    let there = dealt t (list t ++ port-at t ∷ []) (rw (free f, in-last (port-at t) (list t))) in
+    (omega (arith, c .if4 .left), lists-own r, v .2 ∙ appended (c .before) ∙ there ∙ ap (λ (l : List Port). inherit (provided t) (rest t (head t .next .c + turns t)) l) (sym (listed r)))
 
 returns-2 : tie.Need-returns-2 Inv-loop μ-loop Inv-next μ-next
 returns-2 c =
