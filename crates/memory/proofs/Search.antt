@@ -1,7 +1,7 @@
 -- The search for a place, one place on.
 use Prim.Native.Nat.{ℕ, suc, _+_, _-_, _<_, _≤_}
 use mathlib.Core.Path.{_≡_, refl, sym, _∙_}
-use mathlib.Core.Bool.{Bool, true, false, _&&_}
+use mathlib.Core.Bool.{Bool, true, false, _&&_, and-false}
 use mathlib.Core.List.{List}
 use native.Mathlib.Omega.{arith}
 use borrow.Author.Tests.{eq-eqb, ne-eqb}
@@ -13,10 +13,6 @@ use Rattle.memory.specs.declared.Place.the-variants.{At, None}
 and-true : (b : Bool) → (b && true) ≡ b
 and-true true = refl
 and-true false = refl
-
-and-false : (b : Bool) → (b && false) ≡ false
-and-false true = refl
-and-false false = refl
 
 pub names-taken : (m : List ℕ) (id i : ℕ) (b : Bool) → idAt m i ≡ id → b ≡ taken m i → b ≡ namesAt m id i
 unfolding namesAt

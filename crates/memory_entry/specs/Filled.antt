@@ -6,17 +6,17 @@ use mathlib.Core.Bool.{true, false}
 use mathlib.Core.Logic.{_≢_}
 use mathlib.Core.List.{List, _∷_}
 use mathlib.Core.Option.{some}
-use lib.Dec.{ltb, leb, lit<}
+use lib.Dec.{leb, lit<}
 use lib.ListN.{length, getD, set, length-set}
 use lib.Seq.{getD-set-same, getD-set-other}
-use borrow.Author.Tests.{ltb-true, ltb-false, le-leb}
+use borrow.Author.Tests.{le-leb}
 use Rattle.rules.specs.Outcomes.{adds, after}
 use Rattle.rules_laws.specs.Laws.Tests.{by-test}
 use Rattle.rules.specs.Limits.{maxRows, maxDependencies}
 use Rattle.memory.specs.Layout.{word, taken, idAt, rowWord, memoryWords, placeWords, places, nextWord, rowsStart, idWord, realmRowsWord, placeEnd, rowWords, domainWord, firstWord, occupancyWord}
 use Rattle.memory.specs.View.{placeAt, view}
 use Rattle.memory.specs.Writes.{puts}
-use Rattle.memory.specs.Frames.{puts-length, puts-before, puts-after, puts-same}
+use Rattle.memory.specs.Frames.{puts-length, puts-before, puts-after, puts-same, puts-apart}
 use Rattle.memory.specs.declared.Place.the-variants.{At}
 use Rattle.memory_places.specs.Changes.{freeAt, occupiedAt}
 use Rattle.memory_places.specs.Taken.{occupied-length, occupied-word, occupied-here, occupied-others}
@@ -26,14 +26,6 @@ use Rattle.memory_entry.specs.Entries.{entryWords, filledPlace}
 use Rattle.memory_rows.specs.Dense.{used, Dense}
 use Rattle.memory_entry.specs.Addition.{Newcomer, newPluginOf, Sized, Adds, added-dense, added-other, added-plugin}
 use Rattle.memory_entry.specs.declared.Entry.{Entry}
-
--- a word outside a run of stores
-pub puts-apart : (vs m : List ℕ) (b k j : ℕ) → (b + k ≤ j → j < b + k + length vs → ⊥) → word (puts m b k vs) j ≡ word m j
-puts-apart vs m b k j n = by-test (ltb j (b + k))
-    (λ y. puts-before vs m b k j (ltb-true _ _ y))
-    (λ f. by-test (ltb j (b + k + length vs))
-    (λ y. absurd (n (ltb-false _ _ f) (ltb-true _ _ y)))
-    (λ g. puts-after vs m b k j (ltb-false _ _ g)))
 
 -- on any words, there are as many afterwards
 pub filled-size : (m : List ℕ) (p : ℕ) (e : Entry) (ds cs zs : List ℕ) → length (filledPlace m p e ds cs zs) ≡ length m

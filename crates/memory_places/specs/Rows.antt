@@ -1,17 +1,18 @@
 -- The rows in use, place by place.
-use Prim.Native.Nat.{ℕ, zero, suc, _+_, _*_, _%_}
+use Prim.Native.Nat.{ℕ, zero, suc, _+_, _%_}
 use native.Mathlib.Omega.{arith}
-use mathlib.Core.Path.{_≡_, refl, ap}
-use mathlib.Core.List.{List, [], _∷_}
+use mathlib.Core.Path.{_≡_, refl, _∙_}
+use mathlib.Core.List.{List}
 use lib.Dec.{eqb}
 use lib.ListN.{length, length-take, length-drop}
 use Rattle.rules.specs.Basics.{pick}
 use Rattle.rules.specs.Holds.{held, rowsOf, sumRows, rowsInUse}
 use Rattle.rules.specs.Ports.{pairs}
-use Rattle.rules.specs.declared.Port.{Port}
 use Rattle.rules_laws.specs.Laws.Tests.{by-test}
+use Rattle.rules_laws.specs.Laws.Pairs.{length-pairs}
+use Rattle.memory_lists.specs.Listed.{valued-length}
 use Rattle.memory.specs.Layout.{taken, depsAt, provsAt, depPart, provPart, memoryWords, places}
-use Rattle.memory.specs.View.{valued, pluginAt, placeAt, placesFrom, view}
+use Rattle.memory.specs.View.{pluginAt, placeAt, placesFrom, view}
 
 -- dependencies, provisions and the anchor
 abbrev pub rowsAt : List ℕ → ℕ → ℕ
@@ -26,24 +27,13 @@ unfoldable pub rowsFrom : ℕ → List ℕ → ℕ → ℕ
 rowsFrom zero m i = 0
 rowsFrom (suc n) m i = pick (taken m i) (rowsAt m i) 0 + rowsFrom n m (i + 1)
 
-pairs-length : (n : ℕ) (l : List ℕ) → length l ≡ n * 2 → length (pairs l) ≡ n
-pairs-length zero [] e = refl
-pairs-length zero (a ∷ l) e = absurd (omega arith)
-pairs-length (suc n) [] e = absurd (omega arith)
-pairs-length (suc n) (a ∷ []) e = absurd (omega arith)
-pairs-length (suc n) (a ∷ b ∷ l) e = ap suc (pairs-length n l (omega arith))
-
-valued-length : (m : List ℕ) (i j : ℕ) (qs : List Port) → length (valued m i j qs) ≡ length qs
-valued-length m i j [] = refl
-valued-length m i j (q ∷ qs) = ap suc (valued-length m i (j + 1) qs)
-
 module _ (m : List ℕ) (size : length m ≡ memoryWords) where
   pub rows-of : (i : ℕ) → rowsOf (pluginAt m i) ≡ rowsAt m i
   unfolding pluginAt
   rows-of i =
-      let d : length (depPart m i) ≡ depsAt m i * 2 = simp (length-take, length-drop) (omega arith) in
-      let v : length (provPart m i) ≡ provsAt m i * 2 = simp (length-take, length-drop) (omega arith) in
-      rw (valued-length m i 0 (pairs (provPart m i)), pairs-length (depsAt m i) (depPart m i) d, pairs-length (provsAt m i) (provPart m i) v)
+      let d : length (pairs (depPart m i)) ≡ depsAt m i = length-pairs (depPart m i) ∙ simp (length-take, length-drop) (omega arith) in
+      let v : length (pairs (provPart m i)) ≡ provsAt m i = length-pairs (provPart m i) ∙ simp (length-take, length-drop) (omega arith) in
+      rw (valued-length m i 0 (pairs (provPart m i)), d, v)
 
   sum-from : (n i : ℕ) → sumRows (held (placesFrom n m i)) ≡ rowsFrom n m i
   unfolding rowsFrom placesFrom placeAt

@@ -4,7 +4,7 @@ use native.Mathlib.Omega.{arith}
 use native.Mathlib.Nat.{mod-eq-of-lt}
 use mathlib.Core.Path.{_≡_, refl, ap, _∙_}
 use mathlib.Core.Logic.{_≢_}
-use mathlib.Core.Bool.{Bool, true, false, _&&_, _||_}
+use mathlib.Core.Bool.{Bool, true, false, _&&_, _||_, and-false}
 use mathlib.Core.List.{List}
 use lib.Dec.{eqb, ltb, leb}
 use lib.ListN.{length, length-set}
@@ -36,11 +36,7 @@ module _ (m : List ℕ) (i : ℕ) where
 
   zero-free : bit (occupancy m) i ≡ 0 → taken m i ≡ false
   unfolding taken
-  zero-free e = rw e (never (ltb i places))
-    where
-      never : (b : Bool) → (b && false) ≡ false
-      never true = refl
-      never false = refl
+  zero-free e = rw e (and-false (ltb i places))
 
   same-bit : (m′ : List ℕ) → bit (occupancy m′) i ≡ bit (occupancy m) i → taken m′ i ≡ taken m i
   unfolding taken

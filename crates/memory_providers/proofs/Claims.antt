@@ -8,13 +8,11 @@ use mathlib.Core.Bool.{Bool, true, false, _&&_, _||_}
 use mathlib.Core.List.{List, _∷_}
 use lib.ListN.{length}
 use lib.Seq.{drop-cons}
-use lib.Dec.{eqb}
-use borrow.Author.Tests.{eq-eqb, ne-eqb, eqb-true, eqb-false}
 use Rattle.rules.specs.Basics.{any, isSome}
 use Rattle.rules.specs.Holds.{port, Plugin, held, isIn, provides, provider, samePort}
 use Rattle.rules.specs.declared.Port.{Port}
 use Rattle.rules.specs.Ports.{pairs}
-use Rattle.rules_laws.specs.Laws.Tests.{by-test}
+use Rattle.rules_laws.specs.Laws.Members.{same-swap}
 use Rattle.memory.specs.Layout.{word, taken, part, startAt, depsAt, provsAt, anchorWord, provPart, memoryWords, places, rowsStart, rowWords}
 use Rattle.memory.specs.View.{anchorAt, pluginAt, placesFrom, view}
 use Rattle.memory.specs.Lookups.{placed, searchFrom, search-first}
@@ -43,14 +41,6 @@ or-swap true false = refl
 or-swap false true = refl
 or-swap false false = refl
 
-eqb-turned : (a b : ℕ) → eqb a b ≡ eqb b a
-eqb-turned a b = by-test (eqb b a)
-    (λ t. rw t (eq-eqb a b (sym (eqb-true b a t))))
-    (λ n. rw n (ne-eqb a b (λ e. eqb-false b a n (sym e))))
-
-same-turned : (p q : Port) → samePort p q ≡ samePort q p
-same-turned p q = rw (eqb-turned (p .key) (q .key), eqb-turned (p .realm) (q .realm))
-
 module _ (m : List ℕ) (i : ℕ) (size : length m ≡ memoryWords) where
   rows-are : pairs (offeredPart m i) ≡ anchorAt m i ∷ pairs (provPart m i)
   rows-are = first-row m (anchorWord m i) (provsAt m i) (omega arith)
@@ -67,7 +57,7 @@ module _ (m : List ℕ) (i : ℕ) (size : length m ≡ memoryWords) where
   met qs =
       any-same _ _ (wanted-is qs) (pairs (offeredPart m i))
       ∙ exchange (λ (p q : Port). samePort q p) qs (pairs (offeredPart m i))
-      ∙ any-same _ _ (λ q. any-same _ _ (λ p. same-turned p q) (pairs (offeredPart m i)) ∙ offered-is q) qs
+      ∙ any-same _ _ (λ q. any-same _ _ (λ p. same-swap p q) (pairs (offeredPart m i)) ∙ offered-is q) qs
 
   pub offers-claimed : (qs : List Port) (w : ℕ) (b : Bool) → w ≡ keyBits 0 qs → b ≡ (taken m i && any (λ q. wanted w qs q) (pairs (offeredPart m i)))
       → b ≡ (taken m i && any (λ q. provides (pluginAt m i) q) qs)

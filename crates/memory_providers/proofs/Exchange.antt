@@ -5,14 +5,6 @@ use mathlib.Core.List.{List, [], _∷_}
 use Rattle.rules.specs.Basics.{any, first, isSome}
 use Rattle.rules_laws.specs.Laws.Tests.{by-test}
 
--- a list that starts with q
-module _ {A : Type 0} (f : A → Bool) {l qs : List A} {q : A} (s : l ≡ q ∷ qs) where
-  pub any-hit : f q ≡ true → any f l ≡ true
-  any-hit t = rw (s, t)
-
-  pub any-miss : f q ≡ false → any f l ≡ any f qs
-  any-miss t = rw (s, t)
-
 pub is-first : {A : Type 0} (f : A → Bool) (ps : List A) → isSome (first f ps) ≡ any f ps
 is-first f [] = refl
 is-first f (p ∷ ps) = let r = is-first f ps in by-test (f p) (λ t. rw t) (λ n. rw n r)

@@ -2,8 +2,8 @@
 use Prim.Native.Nat.{ℕ, _*_, _/_, _%_, _^_, _<_, max}
 use native.Mathlib.Omega.{arith}
 use native.Mathlib.Nat.{one-mul, mod-eq-of-lt, div-self}
-use mathlib.Core.Path.{_≡_, refl, ap, _∙_}
-use mathlib.Core.Bool.{Bool, true, false, _&&_}
+use mathlib.Core.Path.{_≡_, ap, _∙_}
+use mathlib.Core.Bool.{Bool, true, false, and-false}
 use mathlib.Core.List.{List, [], _∷_}
 use lib.Bits.{bitOr, or-step, or-shr}
 use lib.Dec.{eqb}
@@ -67,10 +67,6 @@ covers w (p ∷ qs) q e =
     (λ t. let k : q .key ≡ p .key = eqb-true _ _ (both _ _ t .0) in
     stays (bitOr w x) qs (q .key % 64) (bit-or w x (q .key % 64) ∙ let o = ap (λ n. bit x (n % 64)) k ∙ own-bit (p .key) in omega arith))
     (λ f. ih (rw f at e))
-
-and-false : (b : Bool) → (b && false) ≡ false
-and-false true = refl
-and-false false = refl
 
 pub wanted-is : (qs : List Port) (q : Port) → wanted (keyBits 0 qs) qs q ≡ isIn q qs
 wanted-is qs q = by-test (isIn q qs)

@@ -105,7 +105,6 @@ abbrev pub portOf : Provision → Port
 portOf v = v .port
 
 record Lack (j : ℕ) (vs : List Provision) : Type 0 where
-  within : j < length vs
   test : any lacks vs ≡ true
   answer : firstMissing vs ≡ flat (getD (map portOf vs) j (port 0 0) ∷ [])
 
@@ -117,7 +116,7 @@ lack-further : (f : Found) (k : ℕ) (v : Provision) (vs : List Provision) → l
 unfolding LackOf
 lack-further (At j) k v vs e (h, r) =
     let s : j - k ≡ suc (j - (k + 1)) = omega arith in
-    (omega arith, rw s (record { within = omega (arith, r .within); test = rw (e, r .test); answer = rw e (r .answer) }))
+    (omega arith, rw s (record { test = rw (e, r .test); answer = rw e (r .answer) }))
 lack-further None k v vs e (t, a) = (rw (e, t), rw (e, a))
 
 lack-of : (k : ℕ) (vs : List Provision) → LackOf k (lackFrom k vs) vs
@@ -127,25 +126,18 @@ lack-of k (v ∷ vs) =
     let r = lack-of (k + 1) vs in
     by-test (lacks v)
     (λ t. let z : k - k ≡ 0 = omega arith in
-    rw t (omega arith, rw z (record { within = omega arith; test = rw t; answer = rw t })))
+    rw t (omega arith, rw z (record { test = rw t; answer = rw t })))
     (λ f. rw f (lack-further (lackFrom (k + 1) vs) k v vs f r))
 
 pub lack-nothing : (vs : List Provision) → lackFrom 0 vs ≡ None → (any lacks vs ≡ false) × (firstMissing vs ≡ [])
 unfolding LackOf
 lack-nothing vs e = rw e at (lack-of 0 vs)
 
-valued-length : (m : List ℕ) (i k : ℕ) (ps : List Port) → length (valued m i k ps) ≡ length ps
-valued-length m i k [] = refl
-valued-length m i k (p ∷ ps) = ap suc (valued-length m i (k + 1) ps)
-
 -- of provisions as the words have them
 module _ (m : List ℕ) (i : ℕ) (ps : List Port) (j : ℕ) (e : lackFrom 0 (valued m i 0 ps) ≡ At j) where
   the-lack : Lack j (valued m i 0 ps)
   unfolding LackOf
   the-lack = let z : j - 0 ≡ j = omega arith in rw z at ((rw e at (lack-of 0 (valued m i 0 ps))) .1)
-
-  pub lack-within : j < length ps
-  lack-within = omega (arith, the-lack .within, valued-length m i 0 ps)
 
   pub lack-test : any lacks (valued m i 0 ps) ≡ true
   lack-test = the-lack .test

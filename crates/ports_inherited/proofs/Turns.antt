@@ -6,13 +6,14 @@ use mathlib.Core.Bool.{Bool, true, false, _&&_}
 use mathlib.Core.List.{List, [], _∷_, _++_}
 use lib.Dec.{eqb}
 use lib.ListN.{length, getD, drop, length-append, drop-of-length-le}
-use borrow.Author.Tests.{eqb-true, eq-eqb, ne-eqb}
+use borrow.Author.Tests.{eqb-true, ne-eqb}
 use Rattle.rules.specs.Basics.{pick}
 use Rattle.rules.specs.declared.Port.{Port}
 use Rattle.rules.specs.Holds.{port, Realms, samePort, isIn}
 use Rattle.rules.specs.Ports.{pairs, resolveIn, resolve}
 use Rattle.rules.specs.Dependencies.{candidates, inherit, skipped}
 use Rattle.rules_laws.specs.Laws.Tests.{by-test, both}
+use Rattle.rules_laws.specs.Laws.Members.{same-self}
 use Rattle.ports.specs.Places.{length-pairs, pairs-get}
 use Rattle.rules_laws.specs.Laws.Realms.{resolve-key-law}
 use Rattle.ports_realms.specs.Halving.{reached, reachedWith}
@@ -107,7 +108,7 @@ module _ {cs qs : List Port} {q : Port} (s : cs ≡ q ∷ qs) (provisions l : Li
 
 -- what is appended is in the list
 pub in-last : (q : Port) (l : List Port) → isIn q (l ++ q ∷ []) ≡ true
-in-last q [] = rw (eq-eqb (q .key) (q .key) refl, eq-eqb (q .realm) (q .realm) refl)
+in-last q [] = rw (same-self q)
 in-last q (p ∷ l) = let r = in-last q l in by-test (samePort q p) (λ t. rw t) (λ f. rw f r)
 
 -- the list never gets shorter

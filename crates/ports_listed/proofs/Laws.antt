@@ -1,8 +1,8 @@
 -- Pairs in a list of numbers, the answers of a listing, and a tail written in its place. Assumes nothing.
-use mathlib.Core.Path.{_≡_, refl, ap, _∙_}
+use mathlib.Core.Path.{_≡_, ap, _∙_}
 use mathlib.Core.Bool.{or-true}
 use mathlib.Core.List.{List, [], _∷_, _++_, append-nil, append-assoc}
-use Prim.Native.Nat.{ℕ, suc, _+_, _-_, _*_, _/_, _≤_, _<_}
+use Prim.Native.Nat.{ℕ, _+_, _-_, _*_, _/_, _≤_, _<_}
 use native.Mathlib.Nat.{zero-add}
 use native.Mathlib.Numerals.{add-one}
 use native.Mathlib.Omega.{arith}
@@ -15,25 +15,10 @@ use Rattle.rules.specs.Refusals.{ShortBuffer}
 use Rattle.rules.specs.Outcomes.{refuses, writes, checked, written}
 use Rattle.rules.specs.Ports.{pairs, flat}
 use Rattle.rules.specs.Lists.{listing}
-
-flat-length : (ps : List Port) → length (flat ps) ≡ 2 * length ps
-flat-length [] = refl
-flat-length (p ∷ ps) = omega (arith, flat-length ps)
-
-pub pairs-length : (l : List ℕ) → length (pairs l) ≡ length l / 2
-pairs-length [] = refl
-pairs-length (k ∷ []) = refl
-pairs-length (k ∷ r ∷ l) = omega (arith, pairs-length l)
+use Rattle.rules_laws.specs.Laws.Pairs.{length-pairs, length-flat, flat-pairs}
 
 pub numbers : (l : List ℕ) → length (flat (pairs l)) ≡ length l / 2 * 2
-numbers l = omega (arith, flat-length (pairs l), pairs-length l)
-
-flat-pairs : (l : List ℕ) → flat (pairs l) ≡ take (length l / 2 * 2) l
-flat-pairs [] = refl
-flat-pairs (k ∷ []) = refl
-flat-pairs (k ∷ r ∷ l) =
-    let e : suc (suc (length l)) / 2 * 2 ≡ suc (suc (length l / 2 * 2)) = omega arith in
-    rw (e, flat-pairs l)
+numbers l = omega (arith, length-flat (pairs l), length-pairs l)
 
 -- A turn of the pair writer's loop, and its end.
 pub turn : (l d : List ℕ) (i : ℕ) → i < length d → i < length l → set (take i l ++ drop i d) i (getD l i 0) ≡ take (i + 1) l ++ drop (i + 1) d

@@ -9,12 +9,12 @@ use mathlib.Core.Logic.{inl}
 use lib.Dec.{eqb, leb, ltb}
 use lib.ListN.{length, getD, take, drop, length-take, length-drop}
 use lib.Seq.{getD-take, getD-drop}
-use borrow.Author.Tests.{ltb-true, ltb-false, lt-ltb, le-ltb, leb-true, leb-false, eqb-true, eqb-false, ne-eqb, eq-eqb}
+use borrow.Author.Tests.{ltb-true, ltb-false, lt-ltb, le-ltb, leb-true, leb-false, eqb-true, eqb-false, ne-eqb}
 use Rattle.rules.specs.declared.Port.{Port}
 use Rattle.rules.specs.Holds.{port, samePort, isIn}
 use Rattle.rules.specs.Ports.{pairs, rising, badRealms, resolveIn}
 use Rattle.rules_laws.specs.Laws.Tests.{by-test}
-use Rattle.rules_laws.specs.Laws.Members.{In, same-port, is-in}
+use Rattle.rules_laws.specs.Laws.Members.{In, same-port, same-self, is-in}
 use Rattle.rules_laws.specs.Laws.Realms.{rising-at, rising-drop, rising-take}
 use Rattle.ports.specs.Places.{length-pairs}
 use Rattle.ports_realms.specs.Rows.{good-realms}
@@ -126,7 +126,7 @@ halved-short (suc n) k rows h =
 
 in-at : (l : List Port) (i : ℕ) → i < length l → isIn (getD l i (port 0 0)) l ≡ true
 in-at [] i h = absurd (omega arith)
-in-at (p ∷ l) zero h = rw (eq-eqb (p .key) (p .key) refl, eq-eqb (p .realm) (p .realm) refl)
+in-at (p ∷ l) zero h = rw (same-self p)
 in-at (p ∷ l) (suc i) h =
     let r = in-at l i (omega arith) in
     by-test (samePort (getD l i (port 0 0)) p) (λ t. rw t) (λ f. rw f r)

@@ -4,7 +4,7 @@ use native.Mathlib.Nat.{mod-eq-of-lt}
 use mathlib.Core.Path.{_≡_, sym, ap, _∙_}
 use mathlib.Core.Bool.{Bool, true, false, _||_}
 use mathlib.Core.List.{List, _∷_}
-use Rattle.rules.specs.Basics.{any, all}
+use Rattle.rules.specs.Basics.{all}
 use Rattle.rules.specs.Holds.{isActive, isLoading}
 use Rattle.rules.specs.declared.Port.{Port}
 use Rattle.rules.specs.Phases.{available}
@@ -17,13 +17,8 @@ use Rattle.memory.specs.declared.Place.the-variants.{At, None}
 use Rattle.memory_providers.specs.Providers.{providerAt, provider-view, provider-below}
 use Rattle.registry_needs.specs.Users.{depends, userAt}
 
+-- a test of a list that starts with q
 module _ (f : Port → Bool) {l ps : List Port} {q : Port} (s : l ≡ q ∷ ps) where
-  pub any-hit : f q ≡ true → any f l ≡ true
-  any-hit t = rw (s, t)
-
-  pub any-miss : f q ≡ false → any f l ≡ any f ps
-  any-miss t = rw (s, t)
-
   pub all-hit : f q ≡ true → all f l ≡ all f ps
   all-hit t = rw (s, t)
 

@@ -3,7 +3,7 @@ use Prim.Native.Nat.{ℕ, zero, suc, _+_, _^_}
 use native.Mathlib.Omega.{arith}
 use native.Mathlib.Nat.{zero-div}
 use mathlib.Core.Path.{_≡_, refl, ap, _∙_}
-use mathlib.Core.Bool.{Bool, true, false, not, _&&_}
+use mathlib.Core.Bool.{true, false, not, _&&_, and-false}
 use mathlib.Core.List.{List, [], _∷_}
 use lib.Dec.{ltb}
 use lib.ListN.{length}
@@ -62,11 +62,7 @@ module _ (m : List ℕ) (domain first : ℕ) (size : length m ≡ memoryWords) w
   unfolding taken
   none-taken i =
       let s : occupancy blank ≡ 0 = rw (puts-same (domain ∷ first ∷ first ∷ 0 ∷ []) m 0 0 3 (omega arith) (omega arith)) in
-      rw (s, zero-div (2 ^ i)) (never (ltb i places))
-    where
-      never : (b : Bool) → (b && false) ≡ false
-      never true = refl
-      never false = refl
+      rw (s, zero-div (2 ^ i)) (and-false (ltb i places))
 
   free : (i : ℕ) → taken blank i ≡ true → ⊥
   free i t =

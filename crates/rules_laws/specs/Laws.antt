@@ -3,6 +3,7 @@ pub mod Quiet
 pub mod Lookups
 pub mod Lowest
 pub mod Members
+pub mod Pairs
 pub mod Realms
 pub mod Once
 pub mod Table

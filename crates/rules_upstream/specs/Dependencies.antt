@@ -5,7 +5,6 @@ use mathlib.Core.Bool.{Bool, true, false, not, _&&_, _||_, true≢false, and-fal
 use mathlib.Core.List.{List, [], _∷_, _++_, map, append-nil, append-assoc}
 use mathlib.Core.Logic.{inl, inr, _↔_}
 use lib.Dec.{eqb}
-use borrow.Author.Tests.{eqb-true, eqb-false, eq-eqb, ne-eqb}
 use Rattle.rules.specs.Basics.{pick, any}
 use Rattle.rules.specs.declared.Port.{Port}
 use Rattle.rules.specs.Holds.{Realms, samePort, isIn}
@@ -14,22 +13,11 @@ use Rattle.rules.specs.Dependencies.{candidates, skipped, inherit, dependencyLi
 use Rattle.rules.specs.Registration.{repeats}
 use Rattle.rules.specs.Values.{isEmpty}
 use Rattle.rules_laws.specs.Laws.Tests.{by-test, neither}
-use Rattle.rules_laws.specs.Laws.Members.{In, same-port, is-in}
+use Rattle.rules_laws.specs.Laws.Members.{In, same-port, is-in, same-swap, same-self}
 
 pub any-append : {A : Type 0} (f : A → Bool) (l m : List A) → any f (l ++ m) ≡ (any f l || any f m)
 any-append f [] m = refl
 any-append f (x ∷ l) m = rw (any-append f l m, or-assoc)
-
-eqb-swap : (a b : ℕ) → eqb a b ≡ eqb b a
-eqb-swap a b = by-test (eqb a b)
-    (λ y. y ∙ sym (eq-eqb b a (sym (eqb-true a b y))))
-    (λ n. n ∙ sym (ne-eqb b a (λ i. eqb-false a b n (sym i))))
-
-pub same-swap : (p q : Port) → samePort p q ≡ samePort q p
-same-swap p q = rw (eqb-swap (p .key) (q .key), eqb-swap (p .realm) (q .realm))
-
-pub same-self : (p : Port) → samePort p p ≡ true
-same-self p = rw (eq-eqb (p .key) (p .key) refl, eq-eqb (p .realm) (p .realm) refl)
 
 -- R has_port, S declares: the test is membership.
 pub is-in-exactly : (k : Port) (l : List Port) → isIn k l ≡ true ↔ In k l

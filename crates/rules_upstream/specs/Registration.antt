@@ -16,14 +16,14 @@ use Rattle.rules.specs.Outcomes.{Accepted, Outcome, answerOf, after}
 use Rattle.rules.specs.Ports.{badRealms, pairs}
 use Rattle.rules.specs.Registration.{Definition, parentOf, resolved, claimed, repeats, unoffered, dependenciesOf, newPlugin, registrationChecks, register}
 use Rattle.rules_laws.specs.Laws.Tests.{by-test}
-use Rattle.rules_laws.specs.Laws.Members.{In, same-port, is-in}
+use Rattle.rules_laws.specs.Laws.Members.{In, same-port, same-self, is-in}
 use Rattle.rules_laws.specs.Built.{Built}
 use Rattle.rules_laws.specs.Kept.Places.{Only, only-added}
 use Rattle.rules_laws.specs.Kept.Moves.{fresh}
 use Rattle.rules_laws.specs.Kept.New.{new-joins}
 use Rattle.rules.specs.Limits.{maxPlugins, maxRows, maxDependencyKeys, maxProvisionKeys, maxDependencies}
 use Rattle.rules_upstream.specs.Accepted.{accepted, checked-accepted, below, When, when-passed}
-use Rattle.rules_upstream.specs.Dependencies.{same-self, is-in-exactly}
+use Rattle.rules_upstream.specs.Dependencies.{is-in-exactly}
 
 -- What R promises of a new plugin.
 pub record Registered (r : Registry) (d : Definition) (u : Outcome) : Type 0 where

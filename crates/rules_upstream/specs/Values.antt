@@ -18,14 +18,14 @@ use Rattle.rules.specs.Ports.{pairs, oddLength, flat, samePorts}
 use Rattle.rules.specs.Registration.{repeats}
 use Rattle.rules.specs.Values.{valueIn, offered, offer, own, isEmpty, firstMissing, matching, declares, given, served, read, seen, visible}
 use Rattle.rules_laws.specs.Laws.Tests.{by-test, both, neither, found-elim}
-use Rattle.rules_laws.specs.Laws.Members.{In, same-port, is-in, any-false, first-in, first-none, lookup-in}
+use Rattle.rules_laws.specs.Laws.Members.{In, same-port, is-in, any-false, first-in, first-none, lookup-in, same-swap, same-self}
 use Rattle.rules_laws.specs.Laws.Table.{is-active}
 use Rattle.rules_laws.specs.Demand3.Lives.{same-true, same-of}
 use Rattle.rules_laws.specs.Built.{Built}
 use Rattle.rules_laws.specs.Kept.Places.{distinct}
 use Rattle.rules_laws.specs.Kept.Plugins.{alike}
 use Rattle.rules_upstream.specs.Accepted.{accepted, exact, refused-among, held-by, Effect, has-effect, When, when-passed, when-known}
-use Rattle.rules_upstream.specs.Dependencies.{same-swap, same-self, is-in-exactly, First, firstOf, firstOf-none, firstOf-some}
+use Rattle.rules_upstream.specs.Dependencies.{is-in-exactly, First, firstOf, firstOf-none, firstOf-some}
 
 -- The ports of provisions.
 abbrev pub ports : List Provision → List Port

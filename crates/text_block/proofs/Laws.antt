@@ -18,7 +18,8 @@ use Rattle.memory.specs.declared.Life.{Life}
 use Rattle.memory_values.specs.Firsts.{few-words}
 use Rattle.ports.specs.Places.{pairs-at, pairs-end, length-pairs}
 use Rattle.text_lines.specs.Lines.{ended, orNone, pair, portLines}
-use Rattle.text_block.specs.Parts.{nameLines, lifeLines, portsLines, listLines, provisionLine, provisionLines, provisionsLines, valued-length, or-none, block-by-parts}
+use Rattle.memory_lists.specs.Listed.{valued-length}
+use Rattle.text_block.specs.Parts.{nameLines, lifeLines, portsLines, listLines, provisionLine, provisionLines, provisionsLines, or-none, block-by-parts}
 
 pub ports-bytes : (plural name ports : List ℕ) → (plural ++ ended (length ports / 2) 10) ++ portLines name (pairs ports) ≡ portsLines plural name (pairs ports)
 ports-bytes plural name ports = rw (length-pairs ports)

@@ -1,6 +1,6 @@
 -- A plugin's block in the parts that are written one behind the other.
-use Prim.Native.Nat.{ℕ, suc, _+_}
-use mathlib.Core.Path.{_≡_, refl, ap, _∙_, subst}
+use Prim.Native.Nat.{ℕ, _+_}
+use mathlib.Core.Path.{_≡_, refl, _∙_, subst}
 use mathlib.Core.Bool.{Bool}
 use mathlib.Core.List.{List, [], _∷_, _++_, append-assoc}
 use mathlib.Core.Option.{Option, none, some}
@@ -16,7 +16,6 @@ use Rattle.text_form.specs.Forms.{writeAll}
 use Rattle.text_form.specs.Lines.{line, number, numberOrNone}
 use Rattle.text_laws.specs.Parts.{blockOf, block-parts}
 use Rattle.memory.specs.declared.Life.{Life}
-use Rattle.memory.specs.View.{valued}
 use Rattle.memory.specs.Known.{lifeOf}
 use Rattle.text_lines.specs.Laid.{Laid}
 use Rattle.text_lines.specs.Lines.{ended, orNone, triple, rootLines, portLines}
@@ -62,11 +61,6 @@ provisionLines (v ∷ vs) = provisionLine (v .port .key) (v .port .realm) (v .va
 
 abbrev pub provisionsLines : List Provision → List ℕ
 provisionsLines vs = line "provs" number .write (length vs) ++ provisionLines vs
-
--- as many provisions as ports
-pub valued-length : (m : List ℕ) (i j : ℕ) (qs : List Port) → length (valued m i j qs) ≡ length qs
-valued-length m i j [] = refl
-valued-length m i j (q ∷ qs) = ap suc (valued-length m i (j + 1) qs)
 
 -- The lines by their bytes are the lines of the text's form.
 pub or-none : (o : Option ℕ) → numberOrNone .write o ≡ orNone o

@@ -22,7 +22,7 @@ use Rattle.text_laws.specs.Sizes.{Lists, any-text, text-most, rows-most, held-m
 use Rattle.memory.specs.Layout.{word, taken, startAt, depsAt, provsAt, realmsAt, rowWord, anchorWord, part, provPart, realmPart, depPart, placeWords, maskWord, valuesWord, idWord, tagWord, parentWord, generationWord, revisionWord, payloadWord, rootWord, rootRevisionWord, rootArgumentWord, realmRowsWord}
 use Rattle.memory.specs.View.{parentOf, rootOf, lifeAt, decoded, valueAt, valued, pluginAt, placeAt, placesFrom, view}
 use Rattle.ports.specs.Places.{length-pairs}
-use Rattle.text_block.specs.Parts.{valued-length}
+use Rattle.memory_lists.specs.Listed.{valued-length}
 
 -- Every word is a number of at most 2^64 − 1.
 abbrev pub Small : List ℕ → Type 0

@@ -10,7 +10,7 @@ use Rattle.rules.specs.declared.Port.{Port}
 use Rattle.rules.specs.Ports.{pairs}
 use Rattle.ports.specs.Places.{pairs-behind, pairs-end}
 use Rattle.memory_providers.specs.Providers.{wanted}
-use Rattle.memory_providers.proofs.Exchange.{any-hit, any-miss}
+use Rattle.rules_laws.specs.Laws.Members.{any-hit, any-miss}
 use Rattle.memory_providers.proofs.meets.Statement.{statement}
 use Rattle.memory_providers.proofs.meets.Tie as tie
 

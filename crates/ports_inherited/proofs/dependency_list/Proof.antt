@@ -18,7 +18,6 @@ use Rattle.ports_inherited.specs.Blocks.{fitted}
 use Rattle.ports_resolved.specs.Filled.{Lists, listed, lists-own, lists-at, lists-end, lists-more}
 use Rattle.ports_resolved.specs.Stored.{declared-lists}
 use Rattle.ports_resolved.specs.Keys.{listRoom}
-use Rattle.ports_resolved.specs.declared.Turn.{Turn}
 use Rattle.ports_inherited.specs.Answers.{fitted-lists, fitted-longer}
 use Rattle.ports_inherited.proofs.Turns.{candidate-at, candidates-end, some-turns, turns-taken, skip-provision, skip-listed, append-new, in-last, grows}
 use Rattle.ports_inherited.proofs.dependency_list.Statement.{statement}

@@ -6,7 +6,8 @@ use lib.ListN.{length}
 use borrow.Author.Needs.{needs}
 use Rattle.rules.specs.Outcomes.{lentAfter}
 use Rattle.rules.specs.Ports.{pairs, flat}
-use Rattle.ports_listed.proofs.Laws.{pairs-length, numbers, whole, past, short, fits}
+use Rattle.rules_laws.specs.Laws.Pairs.{length-pairs}
+use Rattle.ports_listed.proofs.Laws.{numbers, whole, past, short, fits}
 use Rattle.ports_listed.proofs.list_ports.Statement.{statement}
 use Rattle.ports_listed.proofs.list_ports.Tie as tie
 
@@ -27,7 +28,7 @@ unfolding lentAfter
 returns-2 c =
     let st = c .before .before .before .before in
     let ps = pairs (st .args .ports .now) in
-    let n = pairs-length (st .args .ports .now) in
+    let n = length-pairs (st .args .ports .now) in
     rw (short ps (st .args .place) (st .args .buffer .now) (omega arith)) (refl, refl)
 
 mul-put-pairs : tie.Need-mul-put-pairs
@@ -55,7 +56,7 @@ returns-3 c =
     let l = st .args .ports .now in
     let p = st .args .place in
     let b = st .args .buffer .now in
-    let n = pairs-length l in
+    let n = length-pairs l in
     let w = c .before .before .put-pairs in
     let h : p ≤ length b = omega arith in
     rw (fits (pairs l) p b h (omega arith), n) (refl, whole b (flat (pairs l)) (w .last .1 .0) p h (w .ensures))

@@ -12,7 +12,7 @@ use Rattle.memory.specs.View.{pluginAt}
 use Rattle.memory.specs.Layout.{places}
 use Rattle.ports.specs.Places.{pairs-behind, pairs-end}
 use Rattle.registry_needs.specs.Users.{depends}
-use Rattle.registry_needs.proofs.Laws.{any-hit, any-miss}
+use Rattle.rules_laws.specs.Laws.Members.{any-hit, any-miss}
 use borrow.Author.Needs.{needs}
 use Rattle.registry_needs.proofs.provides_one.Statement.{statement}
 use Rattle.registry_needs.proofs.provides_one.Tie as tie

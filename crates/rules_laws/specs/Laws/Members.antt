@@ -1,13 +1,13 @@
 -- Which plugins stand in the places, and what a test over a list says of its members.
 use Prim.Native.Nat.{ℕ}
 use native.Mathlib.Omega.{arith}
-use mathlib.Core.Path.{_≡_, sym, ap, _∙_, subst}
+use mathlib.Core.Path.{_≡_, refl, sym, ap, _∙_, subst}
 use mathlib.Core.Bool.{Bool, true, false, true≢false}
 use mathlib.Core.List.{List, [], _∷_, map}
 use mathlib.Core.Option.{none, some}
 use mathlib.Core.Logic.{_⊎_, inl, inr, ⊎-elim}
 use lib.Dec.{eqb}
-use borrow.Author.Tests.{eqb-true, eqb-false, ne-eqb}
+use borrow.Author.Tests.{eqb-true, eqb-false, eq-eqb, ne-eqb}
 use Rattle.rules.specs.Basics.{any, all, first}
 use Rattle.rules.specs.declared.Port.{Port}
 use Rattle.rules.specs.Holds.{Plugin, Places, Registry, held, plugins, lookup, samePort, isIn}
@@ -33,6 +33,14 @@ first-none f (x ∷ l) a e (inr m) = by-test (f x)
     (λ y. let j : some x ≡ none = rw y at e in cc)
     (λ n. first-none f l a (rw n at e) m)
 
+-- a test of a list that starts with a
+module _ {A : Type 0} (f : A → Bool) {l rest : List A} {a : A} (s : l ≡ a ∷ rest) where
+  pub any-hit : f a ≡ true → any f l ≡ true
+  any-hit t = rw (s, t)
+
+  pub any-miss : f a ≡ false → any f l ≡ any f rest
+  any-miss t = rw (s, t)
+
 pub any-false : {A : Type 0} (f : A → Bool) (l : List A) (a : A) → any f l ≡ false → In a l → f a ≡ false
 any-false f (x ∷ l) a e (inl i) = by-test (f x)
     (λ y. let j : true ≡ false = rw y at e in cc)
@@ -51,6 +59,17 @@ same-port p q e =
     let i = eqb-true (p .key) (q .key) (b .0) in
     let j = eqb-true (p .realm) (q .realm) (b .1) in
     λ k. record { key = sym i k; realm = sym j k }
+
+eqb-swap : (a b : ℕ) → eqb a b ≡ eqb b a
+eqb-swap a b = by-test (eqb a b)
+    (λ y. y ∙ sym (eq-eqb b a (sym (eqb-true a b y))))
+    (λ n. n ∙ sym (ne-eqb b a (λ i. eqb-false a b n (sym i))))
+
+pub same-swap : (p q : Port) → samePort p q ≡ samePort q p
+same-swap p q = rw (eqb-swap (p .key) (q .key), eqb-swap (p .realm) (q .realm))
+
+pub same-self : (p : Port) → samePort p p ≡ true
+same-self p = rw (eq-eqb (p .key) (p .key) refl, eq-eqb (p .realm) (p .realm) refl)
 
 pub is-in : (k : Port) (l : List Port) → isIn k l ≡ true → In k l
 is-in k [] e = absurd (true≢false (sym e))

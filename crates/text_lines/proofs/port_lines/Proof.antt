@@ -8,7 +8,7 @@ use Rattle.rules.specs.Basics.{last}
 use Rattle.rules.specs.Ports.{pairs}
 use Rattle.text_lines.specs.Laid.{Laid, laid-none, laid-then, laid-same}
 use Rattle.text_lines.specs.Lines.{portLines}
-use Rattle.text_lines.proofs.Laws.{no-port, one-port}
+use Rattle.rules_laws.specs.Laws.Pairs.{pairs-behind, pairs-end}
 use borrow.Author.Needs.{needs}
 use Rattle.text_lines.proofs.port_lines.Statement.{statement}
 use Rattle.text_lines.proofs.port_lines.Tie as tie
@@ -55,7 +55,7 @@ loop-again c =
     let l = c .before .before .before .before .before .before .before .loop in
     let st = c .before .before .before .before .before .before .before .before .before .before .before in
     let line = c .before .before .pair-line .ensures in
-    let next = one-port (st .args .ports .now) (l .i) (omega arith) (omega arith) in
+    let next = pairs-behind (st .args .ports .now) (l .i) (omega arith) (omega arith) in
     (omega arith, omega (arith, line .place), laid-same line ∙ l .inv .2, λ v r x. l .inv .3 v r (rw next (laid-then line x)))
 
 same-length : tie.Need-same-length Inv-loop μ-loop
@@ -65,7 +65,7 @@ returns : tie.Need-returns Inv-loop μ-loop
 returns c =
     let l = c .before .loop in
     let st = c .before .before .before .before .before in
-    let end = no-port (st .args .ports .now) (l .i) (omega arith) in
+    let end = pairs-end (st .args .ports .now) (l .i - 1) (omega arith) in
     l .inv .3 _ _ (rw end (laid-none (l .place) (l .text) (l .inv .1) (omega arith)))
 
 pub port-lines-spec : {M : Type 1} → statement M
