@@ -50,10 +50,12 @@ module _ (other : ℕ) (rows parents : List ℕ) (c : ℕ) where
   abbrev own : Port
   own = port (getD parents (c / 2 * 2) 0) (getD parents (c / 2 * 2 + 1) 0)
 
-  turn-in : (n : ℕ) → n / 2 ≡ c / 2 → c / 2 < length parents / 2 → drop n (candidates z (pairs parents)) ≡ turn z own n ∷ drop (n + 1) (candidates z (pairs parents))
+  turn-in : (n : ℕ) → n / 2 ≡ c / 2 → c / 2 < length parents / 2
+      → drop n (candidates z (pairs parents)) ≡ turn z own n ∷ drop (n + 1) (candidates z (pairs parents))
   turn-in n e h =
+      let port-is = ap (λ i. getD (pairs parents) i (port 0 0)) e ∙ pairs-get parents (c / 2) h in
       turn-at z (pairs parents) n (omega (arith, length-pairs parents))
-      ∙ ap (λ (p : Port). turn z p n ∷ drop (n + 1) (candidates z (pairs parents))) (ap (λ i. getD (pairs parents) i (port 0 0)) e ∙ pairs-get parents (c / 2) h)
+      ∙ ap (λ (p : Port). turn z p n ∷ drop (n + 1) (candidates z (pairs parents))) port-is
 
   module _ {t : Turn} (h : c / 2 < length parents / 2) (e : t ≡ candidateOf other (reached (pairs rows)) (c % 2) (own .key) (own .realm)) where
     pub candidate-at : drop c (candidates z (pairs parents)) ≡ port (own .key) (t .realm) ∷ drop (c + 1) (candidates z (pairs parents))

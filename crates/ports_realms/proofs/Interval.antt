@@ -13,7 +13,7 @@ use Rattle.rules.specs.Ports.{pairs, resolveIn}
 use Rattle.ports.specs.Places.{length-pairs, pairs-get, pairs-drop, pairs-at}
 use Rattle.ports_realms.specs.Halving.{nearer, halved, comparisons}
 use Rattle.ports_realms.specs.Answers.{searched}
-use Rattle.ports_realms.specs.Reached.{halved-next, halved-end, comparisons-next, comparisons-end, comparisons-few}
+use Rattle.ports_realms.specs.Turns.{halved-next, halved-end, comparisons-next, comparisons-end, comparisons-few}
 
 drop-take : (n m : ℕ) (ps : List Port) → n ≤ m → drop n (take m ps) ≡ take (m - n) (drop n ps)
 drop-take zero m ps h = let e : m - 0 ≡ m = omega arith in rw e

@@ -1,4 +1,5 @@
 pub mod Rows
 pub mod Halving
 pub mod Answers
+pub mod Turns
 pub mod Reached

@@ -1,6 +1,5 @@
 -- Where keys rise, the search by halving is the rule's lookup; on any list it is the rule's lookup in the rows that it reaches.
-use Prim.Native.Nat.{ℕ, zero, suc, _+_, _-_, _/_, _^_, _≤_, _<_}
-use native.Mathlib.Nat.{pow-suc}
+use Prim.Native.Nat.{ℕ, zero, suc, _+_, _-_, _/_, _≤_, _<_}
 use native.Mathlib.Omega.{arith}
 use mathlib.Core.Path.{_≡_, refl, sym, ap, _∙_, subst}
 use mathlib.Core.Bool.{Bool, true, false, true≢false}
@@ -9,110 +8,16 @@ use mathlib.Core.Logic.{inl}
 use lib.Dec.{eqb, leb, ltb}
 use lib.ListN.{length, getD, take, drop, length-take, length-drop}
 use lib.Seq.{getD-take, getD-drop}
-use borrow.Author.Tests.{ltb-true, ltb-false, lt-ltb, le-ltb, leb-true, leb-false, eqb-true, eqb-false, ne-eqb}
+use borrow.Author.Tests.{ltb-true, ltb-false, leb-true, leb-false, eqb-true, eqb-false, ne-eqb}
 use Rattle.rules.specs.declared.Port.{Port}
 use Rattle.rules.specs.Holds.{port, samePort, isIn}
 use Rattle.rules.specs.Ports.{pairs, rising, badRealms, resolveIn}
 use Rattle.rules_laws.specs.Laws.Tests.{by-test}
 use Rattle.rules_laws.specs.Laws.Members.{In, same-port, same-self, is-in}
 use Rattle.rules_laws.specs.Laws.Realms.{rising-at, rising-drop, rising-take}
-use Rattle.ports.specs.Places.{length-pairs}
 use Rattle.ports_realms.specs.Rows.{good-realms}
-use Rattle.ports_realms.specs.Halving.{nearer, halvedIn, halved, byHalving, comparisonsIn, comparisons, passing, reached}
-
--- a comparison leaves all rows but a half of them
-pub nearer-length : (k : ℕ) (rows : List Port) → length (nearer k rows) ≡ length rows - length rows / 2
-nearer-length k rows =
-    let half = length rows / 2 in
-    by-test (leb (getD rows half (port 0 0) .key) k)
-    (λ t. rw t (simp (length-take, length-drop) (omega arith)))
-    (λ f. rw f (simp (length-take, length-drop) (omega arith)))
-
--- more turns than rows change nothing
-enough : (n m k : ℕ) (rows : List Port) → length rows ≤ n → length rows ≤ m → halvedIn n k rows ≡ halvedIn m k rows
-unfolding halvedIn
-enough zero zero k rows h j = refl
-enough zero (suc m) k rows h j = sym (rw (le-ltb 1 (length rows) (omega arith)))
-enough (suc n) zero k rows h j = rw (le-ltb 1 (length rows) (omega arith))
-enough (suc n) (suc m) k rows h j =
-    let less = nearer-length k rows in
-    by-test (ltb 1 (length rows))
-    (λ t. let l = ltb-true 1 (length rows) t in rw t (enough n m k (nearer k rows) (omega arith) (omega arith)))
-    (λ f. rw f)
-
-next-in : (n k : ℕ) (rows : List Port) → length rows ≤ n → 1 < length rows → halvedIn n k rows ≡ halvedIn (length (nearer k rows)) k (nearer k rows)
-unfolding halvedIn
-next-in zero k rows h l = absurd (omega arith)
-next-in (suc n) k rows h l =
-    let less = nearer-length k rows in
-    rw (lt-ltb 1 (length rows) l) (enough n (length (nearer k rows)) k (nearer k rows) (omega arith) (omega arith))
-
-end-in : (n k : ℕ) (rows : List Port) → length rows ≤ 1 → halvedIn n k rows ≡ rows
-unfolding halvedIn
-end-in zero k rows h = refl
-end-in (suc n) k rows h = rw (le-ltb 1 (length rows) h)
-
-module _ (k : ℕ) (rows : List Port) where
-  pub halved-next : 1 < length rows → halved k rows ≡ halved k (nearer k rows)
-  unfolding halved
-  halved-next l = next-in (length rows) k rows (omega arith) l
-
-  pub halved-end : length rows ≤ 1 → halved k rows ≡ rows
-  unfolding halved
-  halved-end h = end-in (length rows) k rows h
-
--- the same of the comparisons
-enough-count : (n m rows : ℕ) → rows ≤ n → rows ≤ m → comparisonsIn n rows ≡ comparisonsIn m rows
-unfolding comparisonsIn
-enough-count zero zero rows h j = refl
-enough-count zero (suc m) rows h j = sym (rw (le-ltb 1 rows (omega arith)))
-enough-count (suc n) zero rows h j = rw (le-ltb 1 rows (omega arith))
-enough-count (suc n) (suc m) rows h j = by-test (ltb 1 rows)
-    (λ t. let l = ltb-true 1 rows t in rw t (ap (λ x. 1 + x) (enough-count n m (rows - rows / 2) (omega arith) (omega arith))))
-    (λ f. rw f)
-
-next-count : (n rows : ℕ) → rows ≤ n → 1 < rows → comparisonsIn n rows ≡ 1 + comparisonsIn (rows - rows / 2) (rows - rows / 2)
-unfolding comparisonsIn
-next-count zero rows h l = absurd (omega arith)
-next-count (suc n) rows h l = rw (lt-ltb 1 rows l) (ap (λ x. 1 + x) (enough-count n (rows - rows / 2) (rows - rows / 2) (omega arith) (omega arith)))
-
-end-count : (n rows : ℕ) → rows ≤ 1 → comparisonsIn n rows ≡ rows
-unfolding comparisonsIn
-end-count zero rows h = refl
-end-count (suc n) rows h = rw (le-ltb 1 rows h)
-
-pub comparisons-next : (rows : ℕ) → 1 < rows → comparisons rows ≡ 1 + comparisons (rows - rows / 2)
-unfolding comparisons
-comparisons-next rows l = next-count rows rows (omega arith) l
-
-pub comparisons-end : (rows : ℕ) → rows ≤ 1 → comparisons rows ≡ rows
-unfolding comparisons
-comparisons-end rows h = end-count rows rows h
-
-few-in : (n rows : ℕ) → comparisonsIn n rows ≤ rows
-unfolding comparisonsIn
-few-in zero rows = omega arith
-few-in (suc n) rows =
-    let r = few-in n (rows - rows / 2) in
-    by-test (ltb 1 rows)
-    (λ t. let l = ltb-true 1 rows t in rw t (omega arith))
-    (λ f. rw f (omega arith))
-
-pub comparisons-few : (rows : ℕ) → comparisons rows ≤ rows
-unfolding comparisons
-comparisons-few rows = few-in rows rows
-
--- Twice the rows are one comparison more: at most n + 1 for 2^n rows.
-pub comparisons-most : (n rows : ℕ) → rows ≤ 2 ^ n → comparisons rows ≤ n + 1
-comparisons-most zero rows h = omega (arith, comparisons-end rows (omega arith))
-comparisons-most (suc n) rows h = by-test (ltb 1 rows)
-    (λ t. let l = ltb-true 1 rows t in
-    omega (arith, comparisons-next rows l, comparisons-most n (rows - rows / 2) (omega (arith, pow-suc 2 n))))
-    (λ f. let l = ltb-false 1 rows f in omega (arith, comparisons-end rows l))
-
--- In a list that passes row 4, at most 5.
-pub five-comparisons : (l : List ℕ) → badRealms l ≡ false → comparisons (length (pairs l)) ≤ 5
-five-comparisons l good = comparisons-most 4 (length (pairs l)) (omega (arith, good-realms l good .1, length-pairs l))
+use Rattle.ports_realms.specs.Halving.{nearer, halvedIn, halved, byHalving, passing, reached}
+use Rattle.ports_realms.specs.Turns.{nearer-length}
 
 -- what is left is one row of the list, or none
 halved-short : (n k : ℕ) (rows : List Port) → length rows ≤ n → length (halvedIn n k rows) ≤ 1
@@ -194,13 +99,17 @@ reached-search other k rows = of (halved k rows) refl (halved-short (length rows
         alone : In row (q ∷ []) → row ≡ q
         alone (inl j) = sym j
 
+    apart : (q : Port) → eqb (q .key) k ≡ false → (row : Port) → row .key ≡ k → eqb (row .key) (q .key) ≡ false
+    apart q n row i = ne-eqb (row .key) (q .key) (λ j. eqb-false (q .key) k n (sym j ∙ i))
+
     of : (l : List Port) → halved k rows ≡ l → length l ≤ 1 → resolveIn other l k ≡ resolveIn other (passing finds rows) k
     of [] e h = sym (none-passes finds other k rows (λ row i. found row [] e i))
     of (q ∷ []) e h = by-test (eqb (q .key) k)
         (λ t. let j = eqb-true (q .key) k t in
-        let there = ap (isIn q) e ∙ in-at (q ∷ []) 0 (omega arith) in
-        rw t (sym (one-passes finds other k q rows j (found q (q ∷ []) e j ∙ in-at (q ∷ []) 0 (omega arith)) (only q e) (halved-within (length rows) k q rows there))))
-        (λ n. rw n (sym (none-passes finds other k rows (λ row i. found row (q ∷ []) e i ∙ rw (ne-eqb (row .key) (q .key) (λ j. eqb-false (q .key) k n (sym j ∙ i)))))))
+        let itself = in-at (q ∷ []) 0 (omega arith) in
+        let within = halved-within (length rows) k q rows (ap (isIn q) e ∙ itself) in
+        rw t (sym (one-passes finds other k q rows j (found q (q ∷ []) e j ∙ itself) (only q e) within)))
+        (λ n. rw n (sym (none-passes finds other k rows (λ row i. found row (q ∷ []) e i ∙ rw (apart q n row i)))))
     of (q ∷ p ∷ l) e h = absurd (omega arith)
 
 there : (half i : ℕ) → half ≤ i → half + (i - half) ≡ i
@@ -251,7 +160,8 @@ all-pass f (p ∷ ps) h = rw (h 0 (omega arith), all-pass f ps (λ i l. h (suc i
 -- Where keys rise it reaches all rows.
 pub reached-all : (rows : List Port) → rising rows ≡ true → reached rows ≡ rows
 unfolding reached halved
-reached-all rows e = all-pass (λ (row : Port). isIn row (halved (row .key) rows)) rows (λ i h. stays (length rows) (getD rows i (port 0 0) .key) i rows e h refl)
+reached-all rows e =
+    all-pass (λ (row : Port). isIn row (halved (row .key) rows)) rows λ i h. stays (length rows) (getD rows i (port 0 0) .key) i rows e h refl
 
 -- So there it is the rule's lookup.
 pub halving-finds : (other k : ℕ) (rows : List Port) → rising rows ≡ true → byHalving other rows k ≡ resolveIn other rows k

@@ -81,7 +81,9 @@ few-turns t =
     let a = entry t .args in
     some-turns (a .other) (a .realms .now) (a .parents .now) (head t .next .c) (inside t) (t .candidate .ensures)
 
-less : (t : Turned) → length (entry t .args .parents .now) / 2 * 2 - (head t .next .c + turns t) < length (entry t .args .parents .now) / 2 * 2 - head t .next .c
+less : (t : Turned)
+    → let end = length (entry t .args .parents .now) / 2 * 2 in
+    end - (head t .next .c + turns t) < end - head t .next .c
 less t = omega (arith, inside t, few-turns t .0)
 
 -- a candidate that is skipped from here on is dealt with, in both its turns where they are taken at once
@@ -260,7 +262,8 @@ next-again-3 c =
     let n = head t .next .n in
     let r = lists-more (v .1) (port-at t) {a = n * 2} {b = n * 2 + 1} refl refl (omega (arith, c .if4 .left)) in
     let there = dealt t (list t ++ port-at t ∷ []) (rw (free f, in-last (port-at t) (list t))) in
-    (omega (arith, c .if4 .left), lists-own r, v .2 ∙ appended (c .before) ∙ there ∙ ap (λ (l : List Port). inherit (provided t) (rest t (head t .next .c + turns t)) l) (sym (listed r)))
+    let more = ap (λ (l : List Port). inherit (provided t) (rest t (head t .next .c + turns t)) l) (sym (listed r)) in
+    (omega (arith, c .if4 .left), lists-own r, v .2 ∙ appended (c .before) ∙ there ∙ more)
 
 returns-2 : tie.Need-returns-2 Inv-loop μ-loop Inv-next μ-next
 returns-2 c =

@@ -5,7 +5,7 @@ use mathlib.Core.Path.{_≡_, refl, sym, ap, _∙_}
 use mathlib.Core.Logic.{inl, inr, ⊎-elim}
 use borrow.Author.Needs.{needs}
 use Rattle.rules.specs.declared.Port.{Port}
-use Rattle.ports_realms.specs.Reached.{comparisons-next}
+use Rattle.ports_realms.specs.Turns.{comparisons-next}
 use Rattle.ports_realms.proofs.Interval.{Searching, starts, goes-on, few, ends-empty, ends-other, ends-found}
 use Rattle.ports_realms.proofs.search.Statement.{statement}
 use Rattle.ports_realms.proofs.search.Tie as tie
@@ -51,7 +51,8 @@ loop-less c = search needs
 loop-again : tie.Need-loop-again Inv-loop μ-loop
 loop-again c =
     let at = c .before .before .before .before in
-    (goes-on (at .loop .inv .0) (at .loop .half) (at .loop .inv .1) (omega arith) (⊎-elim (λ w. inl (w .0 .taken, w .1)) (λ w. inr (w .0 .left, w .1)) (c .if1 .came)), refl)
+    let next = goes-on (at .loop .inv .0) (at .loop .half) (at .loop .inv .1) (omega arith) in
+    (next (⊎-elim (λ w. inl (w .0 .taken, w .1)) (λ w. inr (w .0 .left, w .1)) (c .if1 .came)), refl)
 
 returns : tie.Need-returns Inv-loop μ-loop
 returns c = let at = c .before .before in sym (ends-empty (at .loop .inv .0) _ (c .if2 .taken))
