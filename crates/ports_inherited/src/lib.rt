@@ -23,7 +23,8 @@ pub struct Dependencies {
 }
 
 // The list of a new plugin: the first 16 declared keys resolved, then for each port of the parent's list itself and its
-// key resolved again, each appended if it is neither among the provisions nor in the list so far.
+// key resolved again, each appended if it is neither among the provisions nor in the list so far. A port that resolves to itself
+// takes both turns at once.
 pub fn dependency_list(
     other: u64,
     realms: &[u64],
