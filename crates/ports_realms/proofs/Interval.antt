@@ -1,7 +1,7 @@
 -- A search by halving, on its way: the rows that are left stand next to each other in the lent list.
 use Prim.Native.Nat.{ℕ, zero, suc, _+_, _-_, _*_, _/_, _≤_, _<_}
 use native.Mathlib.Omega.{arith}
-use mathlib.Core.Path.{_≡_, sym, ap, _∙_}
+use mathlib.Core.Path.{_≡_, refl, sym, ap, _∙_}
 use mathlib.Core.List.{List, [], _∷_}
 use mathlib.Core.Logic.{_⊎_, inl, inr}
 use lib.ListN.{length, getD, take, drop, length-take, length-drop}
@@ -11,9 +11,9 @@ use Rattle.rules.specs.declared.Port.{Port}
 use Rattle.rules.specs.Holds.{port}
 use Rattle.rules.specs.Ports.{pairs, resolveIn}
 use Rattle.ports.specs.Places.{length-pairs, pairs-get, pairs-drop, pairs-at}
-use Rattle.ports_realms.specs.Halving.{nearer, halved, comparisons}
+use Rattle.ports_realms.specs.Halving.{nearer, Search, ended, begun, halved, comparisons}
 use Rattle.ports_realms.specs.Answers.{searched}
-use Rattle.ports_realms.specs.Turns.{halved-next, halved-end, comparisons-next, comparisons-end, comparisons-few}
+use Rattle.ports_realms.specs.Turns.{ended-next, ended-end}
 
 drop-take : (n m : ℕ) (ps : List Port) → n ≤ m → drop n (take m ps) ≡ take (m - n) (drop n ps)
 drop-take zero m ps h = let e : m - 0 ≡ m = omega arith in rw e
@@ -25,17 +25,17 @@ drop-take (suc n) (suc m) (p ∷ ps) h = let e : suc m - suc n ≡ m - n = omega
 abbrev pub interval : List ℕ → ℕ → ℕ → List Port
 interval l at rows = take rows (pairs (drop at l))
 
--- So many rows are left from a place on, after so many comparisons.
+-- So many rows are left from a place on, after so many comparisons: from here the search ends as it would from the start.
 pub record Searching (l : List ℕ) (k at rows count : ℕ) : Type 0 where
   pub within : at + rows * 2 ≤ length l
-  pub left : halved k (pairs l) ≡ halved k (interval l at rows)
-  pub counted : count + comparisons rows ≡ comparisons (length (pairs l))
+  pub few : count + rows ≤ length l / 2
+  pub same : ended k (begun (pairs l)) ≡ ended k (record { rows = interval l at rows; compared = count })
 
 pub starts : (l : List ℕ) (k : ℕ) → Searching l k 0 (length l / 2) 0
 starts l k = record {
   within = omega arith;
-  left = ap (halved k) (sym (take-all (length l / 2) (pairs l) (omega (arith, length-pairs l))));
-  counted = let e : 0 + comparisons (length l / 2) ≡ comparisons (length l / 2) = omega arith in e ∙ ap comparisons (sym (length-pairs l));
+  few = omega arith;
+  same = ap (λ ps. ended k (begun ps)) (sym (take-all (length l / 2) (pairs l) (omega (arith, length-pairs l))));
 }
 
 module _ {l : List ℕ} {k at rows count : ℕ} (s : Searching l k at rows count) where
@@ -55,11 +55,14 @@ module _ {l : List ℕ} {k at rows count : ℕ} (s : Searching l k at rows count
 
     fewer : {at′ : ℕ} → at′ + (rows - half) * 2 ≤ length l → nearer k (interval l at rows) ≡ interval l at′ (rows - half)
         → Searching l k at′ (rows - half) (count + 1)
-    fewer w i = record {
-      within = w;
-      left = s .left ∙ halved-next k (interval l at rows) (omega (arith, interval-length)) ∙ ap (halved k) i;
-      counted = let n = comparisons-next rows (omega arith) in omega (arith, s .counted, rw (sym e) at n);
-    }
+    fewer w i =
+        let more-rows : 1 < length (interval l at rows) = omega (arith, interval-length) in
+        let now : Search = record { rows = interval l at rows; compared = count } in
+        record {
+          within = w;
+          few = omega (arith, s .few);
+          same = s .same ∙ ended-next k now more-rows ∙ ap (λ ps. ended k (record { rows = ps; compared = count + 1 })) i;
+        }
 
     up : getD l (at + half * 2) 0 ≤ k → Searching l k (at + half * 2) (rows - half) (count + 1)
     up h =
@@ -80,23 +83,20 @@ module _ {l : List ℕ} {k at rows count : ℕ} (s : Searching l k at rows count
     goes-on (inl (h, i)) = rw i (up h)
     goes-on (inr (h, i)) = rw i (down h)
 
-  -- so the count fits
-  pub few : count + comparisons rows ≤ length l / 2
-  few = omega (arith, s .counted, comparisons-few (length (pairs l)), length-pairs l)
-
   -- the end: no row is left, or one
-  ends : (other n : ℕ) (ps : List Port) → rows ≡ n → n ≤ 1 → interval l at rows ≡ ps
+  ends : (other n : ℕ) (ps : List Port) → rows ≡ n → n ≤ 1 → length ps ≡ n → interval l at rows ≡ ps
       → searched other (pairs l) k ≡ record { port = resolveIn other ps k; comparisons = count + n }
-  ends other n ps e h i =
+  unfolding halved comparisons
+  ends other n ps e h z i =
       let one : length (interval l at rows) ≤ 1 = omega (arith, interval-length) in
-      let rest = s .left ∙ halved-end k (interval l at rows) one ∙ i in
-      let all : comparisons (length (pairs l)) ≡ count + n = omega (arith, s .counted, comparisons-end rows (omega arith)) in
-      λ j. record { port = resolveIn other (rest j) k; comparisons = all j }
+      let end = s .same ∙ ended-end k (record { rows = interval l at rows; compared = count }) one ∙ ap (λ x. record { rows = x; compared = count }) i in
+      ap (λ (x : Search). record { port = resolveIn other (x .rows) k; comparisons = x .compared + length (x .rows) }) end
+      ∙ ap (λ m. record { port = resolveIn other ps k; comparisons = count + m }) z
 
   pub ends-empty : (other : ℕ) → rows ≡ 0 → searched other (pairs l) k ≡ record { port = port k other; comparisons = count }
   ends-empty other e =
       let z : count + 0 ≡ count = omega arith in
-      ends other 0 [] e (omega arith) (rw e) ∙ ap (λ n. record { port = port k other; comparisons = n }) z
+      ends other 0 [] e (omega arith) refl (rw e) ∙ ap (λ n. record { port = port k other; comparisons = n }) z
 
   module _ (other : ℕ) (e : rows ≡ 1) where
     row : Port
@@ -108,8 +108,8 @@ module _ {l : List ℕ} {k at rows count : ℕ} (s : Searching l k at rows count
 
     pub ends-other : (getD l at 0 ≡ k → ⊥) → searched other (pairs l) k ≡ record { port = port k other; comparisons = count + 1 }
     unfolding row
-    ends-other n = ends other 1 (row ∷ []) e (omega arith) one-row ∙ rw (ne-eqb (getD l at 0) k n)
+    ends-other n = ends other 1 (row ∷ []) e (omega arith) refl one-row ∙ rw (ne-eqb (getD l at 0) k n)
 
     pub ends-found : getD l at 0 ≡ k → searched other (pairs l) k ≡ record { port = port k (getD l (at + 1) 0); comparisons = count + 1 }
     unfolding row
-    ends-found h = ends other 1 (row ∷ []) e (omega arith) one-row ∙ rw (eq-eqb (getD l at 0) k h, h)
+    ends-found h = ends other 1 (row ∷ []) e (omega arith) refl one-row ∙ rw (eq-eqb (getD l at 0) k h, h)

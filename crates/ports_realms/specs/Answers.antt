@@ -2,7 +2,6 @@
 use Prim.Native.Nat.{ℕ}
 use mathlib.Core.Path.{_≡_, ap}
 use mathlib.Core.List.{List, [], _∷_}
-use lib.ListN.{length}
 use Rattle.rules.specs.declared.Port.{Port}
 use Rattle.rules.specs.Outcomes.{Answer, Refused, Accepted}
 use Rattle.rules.specs.Ports.{flat}
@@ -17,7 +16,7 @@ resolvedAnswer (resolved.Refused n) = Refused n []
 
 -- what a search by halving answers
 abbrev pub searched : ℕ → List Port → ℕ → Lookup
-searched other rows k = record { port = byHalving other rows k; comparisons = comparisons (length rows) }
+searched other rows k = record { port = byHalving other rows k; comparisons = comparisons k rows }
 
 -- Any two outcomes that the promise of a resolved key allows are equal.
 pub resolved-exact : (a b : Resolved) → resolvedAnswer a ≡ resolvedAnswer b → a ≡ b

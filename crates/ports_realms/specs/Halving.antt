@@ -15,25 +15,37 @@ nearer k rows =
     let half = length rows / 2 in
     pick (leb (getD rows half (port 0 0) .key) k) (drop half rows) (take (length rows - half) rows)
 
--- So until one row is left, or none; the first number bounds the turns.
-unfoldable pub halvedIn : ℕ → ℕ → List Port → List Port
-halvedIn zero k rows = rows
-halvedIn (suc turns) k rows = pick (ltb 1 (length rows)) (halvedIn turns k (nearer k rows)) rows
+-- A search on its way: the rows that are left, and how many keys were compared.
+pub record Search : Type 0 where
+  pub rows : List Port
+  pub compared : ℕ
 
+abbrev pub turned : ℕ → Search → Search
+turned k s = record { rows = nearer k (s .rows); compared = s .compared + 1 }
+
+-- Turn by turn until one row is left, or none; the first number bounds the turns.
+unfoldable pub goneOn : ℕ → ℕ → Search → Search
+goneOn zero k s = s
+goneOn (suc turns) k s = pick (ltb 1 (length (s .rows))) (goneOn turns k (turned k s)) s
+
+-- its end; a turn for each row is enough
+unfoldable pub ended : ℕ → Search → Search
+ended k s = goneOn (length (s .rows)) k s
+
+abbrev pub begun : List Port → Search
+begun rows = record { rows = rows; compared = 0 }
+
+-- What a search for a key leaves of the rows.
 unfoldable pub halved : ℕ → List Port → List Port
-halved k rows = halvedIn (length rows) k rows
+halved k rows = ended k (begun rows) .rows
 
 -- The search by halving is the rule's lookup in what is left.
 abbrev pub byHalving : ℕ → List Port → ℕ → Port
 byHalving other rows k = resolveIn other (halved k rows) k
 
--- Its comparisons of keys: one for each halving, and one with the row that is left.
-unfoldable pub comparisonsIn : ℕ → ℕ → ℕ
-comparisonsIn zero rows = rows
-comparisonsIn (suc turns) rows = pick (ltb 1 rows) (1 + comparisonsIn turns (rows - rows / 2)) rows
-
-unfoldable pub comparisons : ℕ → ℕ
-comparisons rows = comparisonsIn rows rows
+-- Its comparisons of keys: one for each turn, and one with the row that is left.
+unfoldable pub comparisons : ℕ → List Port → ℕ
+comparisons k rows = ended k (begun rows) .compared + length (halved k rows)
 
 -- The rows that pass a test, in order.
 abbrev pub passing : (Port → Bool) → List Port → List Port

@@ -16,18 +16,18 @@ use Rattle.rules_laws.specs.Laws.Tests.{by-test}
 use Rattle.rules_laws.specs.Laws.Members.{In, same-port, same-self, is-in}
 use Rattle.rules_laws.specs.Laws.Realms.{rising-at, rising-drop, rising-take}
 use Rattle.ports_realms.specs.Rows.{good-realms}
-use Rattle.ports_realms.specs.Halving.{nearer, halvedIn, halved, byHalving, passing, reached}
+use Rattle.ports_realms.specs.Halving.{Search, turned, goneOn, ended, begun, halved, byHalving, passing, reached}
 use Rattle.ports_realms.specs.Turns.{nearer-length}
 
 -- what is left is one row of the list, or none
-halved-short : (n k : ℕ) (rows : List Port) → length rows ≤ n → length (halvedIn n k rows) ≤ 1
-unfolding halvedIn
-halved-short zero k rows h = omega arith
-halved-short (suc n) k rows h =
-    let less = nearer-length k rows in
-    by-test (ltb 1 (length rows))
-    (λ t. let l = ltb-true 1 (length rows) t in rw t (halved-short n k (nearer k rows) (omega arith)))
-    (λ f. rw f (ltb-false 1 (length rows) f))
+halved-short : (n k : ℕ) (s : Search) → length (s .rows) ≤ n → length (goneOn n k s .rows) ≤ 1
+unfolding goneOn
+halved-short zero k s h = omega arith
+halved-short (suc n) k s h =
+    let less = nearer-length k (s .rows) in
+    by-test (ltb 1 (length (s .rows)))
+    (λ t. let l = ltb-true 1 (length (s .rows)) t in rw t (halved-short n k (turned k s) (omega arith)))
+    (λ f. rw f (ltb-false 1 (length (s .rows)) f))
 
 in-at : (l : List Port) (i : ℕ) → i < length l → isIn (getD l i (port 0 0)) l ≡ true
 in-at [] i h = absurd (omega arith)
@@ -46,13 +46,14 @@ in-take q zero l e = absurd (true≢false (sym e))
 in-take q (suc n) [] e = e
 in-take q (suc n) (p ∷ l) e = by-test (samePort q p) (λ t. rw t) (λ f. rw f (in-take q n l (rw f at e)))
 
-halved-within : (n k : ℕ) (q : Port) (rows : List Port) → isIn q (halvedIn n k rows) ≡ true → isIn q rows ≡ true
-unfolding halvedIn
-halved-within zero k q rows e = e
-halved-within (suc n) k q rows e =
+halved-within : (n k : ℕ) (q : Port) (s : Search) → isIn q (goneOn n k s .rows) ≡ true → isIn q (s .rows) ≡ true
+unfolding goneOn
+halved-within zero k q s e = e
+halved-within (suc n) k q s e =
+    let rows = s .rows in
     let half = length rows / 2 in
     by-test (ltb 1 (length rows))
-    (λ t. let i = halved-within n k q (nearer k rows) (rw t at e) in
+    (λ t. let i = halved-within n k q (turned k s) (rw t at e) in
     by-test (leb (getD rows half (port 0 0) .key) k)
     (λ u. in-drop q half rows (rw u at i))
     (λ g. in-take q (length rows - half) rows (rw g at i)))
@@ -84,8 +85,8 @@ module _ (f : Port → Bool) (other k : ℕ) where
 
 -- The search by halving is the rule's lookup in the rows that it reaches.
 pub reached-search : (other k : ℕ) (rows : List Port) → byHalving other rows k ≡ resolveIn other (reached rows) k
-unfolding halved reached
-reached-search other k rows = of (halved k rows) refl (halved-short (length rows) k rows (omega arith))
+unfolding halved ended reached
+reached-search other k rows = of (halved k rows) refl (halved-short (length rows) k (begun rows) (omega arith))
   where
     finds : Port → Bool
     finds row = isIn row (halved (row .key) rows)
@@ -107,7 +108,7 @@ reached-search other k rows = of (halved k rows) refl (halved-short (length rows
     of (q ∷ []) e h = by-test (eqb (q .key) k)
         (λ t. let j = eqb-true (q .key) k t in
         let itself = in-at (q ∷ []) 0 (omega arith) in
-        let within = halved-within (length rows) k q rows (ap (isIn q) e ∙ itself) in
+        let within = halved-within (length rows) k q (begun rows) (ap (isIn q) e ∙ itself) in
         rw t (sym (one-passes finds other k q rows j (found q (q ∷ []) e j ∙ itself) (only q e) within)))
         (λ n. rw n (sym (none-passes finds other k rows (λ row i. found row (q ∷ []) e i ∙ rw (apart q n row i)))))
     of (q ∷ p ∷ l) e h = absurd (omega arith)
@@ -133,10 +134,11 @@ module _ (l : List Port) (i half k : ℕ) (e : rising l ≡ true) where
       below-half a b = let less : half < i = omega arith in omega (arith, rising-at l half i e less h)
 
 -- where keys rise, each row stays among what is left for its key
-stays : (n k i : ℕ) (l : List Port) → rising l ≡ true → i < length l → getD l i (port 0 0) .key ≡ k → isIn (getD l i (port 0 0)) (halvedIn n k l) ≡ true
-unfolding halvedIn
-stays zero k i l e h s = in-at l i h
-stays (suc n) k i l e h s =
+stays : (n k i c : ℕ) (l : List Port) → rising l ≡ true → i < length l → getD l i (port 0 0) .key ≡ k
+    → isIn (getD l i (port 0 0)) (goneOn n k (record { rows = l; compared = c }) .rows) ≡ true
+unfolding goneOn
+stays zero k i c l e h s = in-at l i h
+stays (suc n) k i c l e h s =
     let half = length l / 2 in
     by-test (ltb 1 (length l))
     (λ t. let more = ltb-true 1 (length l) t in
@@ -144,13 +146,13 @@ stays (suc n) k i l e h s =
     (λ u. let above = not-below l i half k e (omega arith) s (leb-true _ _ u) in
     let at = getD-drop half l (i - half) (port 0 0) ∙ ap (λ x. getD l x (port 0 0)) (there half i above) in
     rw (t, u)
-    (subst (λ q. isIn q (halvedIn n k (drop half l)) ≡ true) at
-    (stays n k (i - half) (drop half l) (rising-drop half l e) (simp length-drop (omega arith)) (ap (λ (q : Port). q .key) at ∙ s))))
+    (subst (λ q. isIn q (goneOn n k (record { rows = drop half l; compared = c + 1 }) .rows) ≡ true) at
+    (stays n k (i - half) (c + 1) (drop half l) (rising-drop half l e) (simp length-drop (omega arith)) (ap (λ (q : Port). q .key) at ∙ s))))
     (λ g. let below = not-above l i half k e h s (leb-false _ _ g) in
     let at = getD-take (length l - half) l i (port 0 0) (omega arith) in
     rw (t, g)
-    (subst (λ q. isIn q (halvedIn n k (take (length l - half) l)) ≡ true) at
-    (stays n k i (take (length l - half) l) (rising-take (length l - half) l e) (simp length-take (omega arith)) (ap (λ (q : Port). q .key) at ∙ s)))))
+    (subst (λ q. isIn q (goneOn n k (record { rows = take (length l - half) l; compared = c + 1 }) .rows) ≡ true) at
+    (stays n k i (c + 1) (take (length l - half) l) (rising-take (length l - half) l e) (simp length-take (omega arith)) (ap (λ (q : Port). q .key) at ∙ s)))))
     (λ f. rw f (in-at l i h))
 
 all-pass : (f : Port → Bool) (rows : List Port) → ((i : ℕ) → i < length rows → f (getD rows i (port 0 0)) ≡ true) → passing f rows ≡ rows
@@ -159,9 +161,9 @@ all-pass f (p ∷ ps) h = rw (h 0 (omega arith), all-pass f ps (λ i l. h (suc i
 
 -- Where keys rise it reaches all rows.
 pub reached-all : (rows : List Port) → rising rows ≡ true → reached rows ≡ rows
-unfolding reached halved
+unfolding reached halved ended
 reached-all rows e =
-    all-pass (λ (row : Port). isIn row (halved (row .key) rows)) rows λ i h. stays (length rows) (getD rows i (port 0 0) .key) i rows e h refl
+    all-pass (λ (row : Port). isIn row (halved (row .key) rows)) rows λ i h. stays (length rows) (getD rows i (port 0 0) .key) i 0 rows e h refl
 
 -- So there it is the rule's lookup.
 pub halving-finds : (other k : ℕ) (rows : List Port) → rising rows ≡ true → byHalving other rows k ≡ resolveIn other rows k

@@ -1,12 +1,11 @@
--- What is left of the list gives the key the same port as the whole list, and the comparisons that are left are those still to make.
+-- From what is left, with the comparisons made so far, the search ends as from the whole list.
 use Prim.Native.Nat.{_+_, _/_}
 use native.Mathlib.Omega.{arith}
 use mathlib.Core.Path.{_≡_, refl, sym, ap, _∙_}
 use mathlib.Core.Logic.{inl, inr, ⊎-elim}
 use borrow.Author.Needs.{needs}
 use Rattle.rules.specs.declared.Port.{Port}
-use Rattle.ports_realms.specs.Turns.{comparisons-next}
-use Rattle.ports_realms.proofs.Interval.{Searching, starts, goes-on, few, ends-empty, ends-other, ends-found}
+use Rattle.ports_realms.proofs.Interval.{Searching, starts, goes-on, ends-empty, ends-other, ends-found}
 use Rattle.ports_realms.proofs.search.Statement.{statement}
 use Rattle.ports_realms.proofs.search.Tie as tie
 
@@ -40,7 +39,7 @@ add-at c = search needs
 add-comparisons : tie.Need-add-comparisons Inv-loop μ-loop
 add-comparisons c =
     let at = c .before .before .before .before in
-    omega (arith, few (at .loop .inv .0), comparisons-next (at .loop .rows) (omega arith))
+    omega (arith, at .loop .inv .0 .few)
 
 sub-rows : tie.Need-sub-rows Inv-loop μ-loop
 sub-rows c = search needs
@@ -60,7 +59,7 @@ returns c = let at = c .before .before in sym (ends-empty (at .loop .inv .0) _ (
 add-comparisons-2 : tie.Need-add-comparisons-2 Inv-loop μ-loop
 add-comparisons-2 c =
     let at = c .before .before in
-    omega (arith, few (at .loop .inv .0))
+    omega (arith, at .loop .inv .0 .few)
 
 mul-if3 : tie.Need-mul-if3 Inv-loop μ-loop
 mul-if3 c = search needs
