@@ -16,7 +16,7 @@ use crate::admission::Root;
 use crate::console::{Console, Operation, is_passed_over, parse};
 use crate::phases::Phase;
 use crate::plugin::Plugin;
-use crate::ports::{MAX_REALM_ROWS, Port};
+use crate::ports::{MAX_REALM_ROWS, Port, resolve};
 use crate::registration::{MAX_DEPENDENCIES, MAX_DEPENDENCY_KEYS, MAX_PROVISION_KEYS, MAX_ROWS};
 use crate::registry::{MAX_PLUGINS, Registry};
 
@@ -168,6 +168,13 @@ impl Coverage {
                 reached(id == u64::MAX - 1, LAST_ID);
                 let own = |port: &Port| plugin.provides(*port);
                 reached(plugin.dependencies().iter().any(own), OWN_PORT);
+                let anchor = new.anchor;
+                reached(plugin.dependencies().contains(&anchor), ANCHOR_DECLARED);
+                let inherited = inherited(registry, plugin);
+                reached(inherited.contains(&anchor), ANCHOR_INHERITED);
+                let again = |port: &Port| port.key == anchor.key && *port != anchor;
+                let again = inherited.iter().any(again);
+                reached(again && resolve(anchor.key, new.realms) == Ok(anchor), ANCHOR_AGAIN);
             }
             Operation::Begin(id) => {
                 let plugin = registry.plugin(id).expect("it has begun");
@@ -177,6 +184,8 @@ impl Coverage {
                     registry.provider(*port).is_some_and(|(_, p)| p.anchor() == *port)
                 };
                 reached(plugin.dependencies().iter().any(by_anchor), BEGIN_BY_ANCHOR);
+                let wanted = inherited(registry, plugin).contains(&plugin.anchor());
+                reached(wanted, BEGIN_ANCHOR_INHERITED);
             }
             Operation::Deps { id, place } => {
                 let plugin = registry.plugin(id).expect("it was listed");
@@ -210,9 +219,13 @@ const ROWS_1024: &str = "registered to 1,024 rows in use";
 const PLUGINS_32: &str = "registered as the 32nd plugin";
 const LAST_ID: &str = "registered with id 2^64 - 2";
 const OWN_PORT: &str = "registered depending on its own port";
+const ANCHOR_DECLARED: &str = "registered depending on its own anchor";
+const ANCHOR_INHERITED: &str = "registered, its anchor in its parent's list";
+const ANCHOR_AGAIN: &str = "registered, its anchor a key resolved again";
 const BEGIN_48: &str = "begun with 48 dependencies";
 const BEGIN_AGAIN: &str = "begun again";
 const BEGIN_BY_ANCHOR: &str = "begun on another's anchor";
+const BEGIN_ANCHOR_INHERITED: &str = "begun, its anchor in its parent's list";
 const LIST_AT_END: &str = "nothing listed at the buffer's end";
 
 const WRITE_EXACT: &str = "written into just enough room";
@@ -223,7 +236,7 @@ const WRITE_QUEUED: &str = "written with a Queued root";
 const WRITE_UNLOADING: &str = "written while Unloading and Queued";
 const WRITE_VALUES: &str = "written with some of a plugin's values";
 
-const BOUNDARIES: [&str; 19] = [
+const BOUNDARIES: [&str; 23] = [
     KEYS_16,
     KEYS_15,
     REALMS_16,
@@ -232,9 +245,13 @@ const BOUNDARIES: [&str; 19] = [
     PLUGINS_32,
     LAST_ID,
     OWN_PORT,
+    ANCHOR_DECLARED,
+    ANCHOR_INHERITED,
+    ANCHOR_AGAIN,
     BEGIN_48,
     BEGIN_AGAIN,
     BEGIN_BY_ANCHOR,
+    BEGIN_ANCHOR_INHERITED,
     LIST_AT_END,
     WRITE_EXACT,
     WRITE_ROWS,
@@ -244,6 +261,12 @@ const BOUNDARIES: [&str; 19] = [
     WRITE_UNLOADING,
     WRITE_VALUES,
 ];
+
+/// The list of a plugin's parent; none without a parent.
+fn inherited<'r>(registry: &'r Registry, plugin: &Plugin) -> &'r [Port] {
+    let parent = plugin.parent().and_then(|id| registry.plugin(id).ok());
+    parent.map_or(&[], |parent| parent.dependencies())
+}
 
 /// A kind that has to be told before the operation is carried out.
 fn accepted_kind(registry: &Registry, asked: &Operation<'_>) -> Option<&'static str> {

@@ -17,26 +17,25 @@ impl Dependencies {
         inherited: &[Port],
         realms: Realms<'_>,
         provisions: &[Port],
+        anchor: Port,
     ) -> Result<(), Refusal> {
         self.refill(declared.iter().map(|&key| realms.port(key)));
         for &port in inherited {
-            self.inherit(port, provisions)?;
+            self.inherit(port, provisions, anchor)?;
             let again = realms.port(port.key);
             // The same port was dealt with a line above.
             if again != port {
-                self.inherit(again, provisions)?;
+                self.inherit(again, provisions, anchor)?;
             }
         }
         Ok(())
     }
 
-    /// Appends a port unless the plugin provides it or the list so far has it.
-    fn inherit(&mut self, port: Port, provisions: &[Port]) -> Result<(), Refusal> {
-        if provisions.contains(&port) || self.contains(&port) || self.push(port) {
-            Ok(())
-        } else {
-            Err(Refusal::TooLong)
-        }
+    /// Appends a port unless the plugin provides it, has it as its anchor, or the
+    /// list so far has it.
+    fn inherit(&mut self, port: Port, provisions: &[Port], anchor: Port) -> Result<(), Refusal> {
+        let skipped = provisions.contains(&port) || port == anchor || self.contains(&port);
+        if skipped || self.push(port) { Ok(()) } else { Err(Refusal::TooLong) }
     }
 }
 

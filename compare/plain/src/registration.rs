@@ -67,7 +67,7 @@ impl Registry {
         // nobody reads the place, so a refusal below still changes nothing.
         let place = self.occupancy.trailing_ones() as usize;
         let (plugin, inherited) = self.new_place(place, parent);
-        plugin.dependencies.finish(new.dependencies, inherited, realms, &provisions)?;
+        plugin.dependencies.finish(new.dependencies, inherited, realms, &provisions, new.anchor)?;
         plugin.provisions = provisions;
         let rows = plugin.rows();
         if self.rows + rows > MAX_ROWS {

@@ -1,4 +1,4 @@
-//! The numbered examples E1 to E10.
+//! The numbered examples E1 to E10, E4 as document 02 amends it.
 
 mod common;
 
@@ -50,11 +50,31 @@ fn e3_an_inherited_port_already_declared_is_not_repeated() {
 }
 
 #[test]
-fn e4_the_anchor_filters_nothing() {
+fn e4_a_private_anchor_is_not_inherited() {
     let (mut registry, id) = parent(&[4]);
     let child = registry.register(&Registration { parent: Some(id), ..bare((4, 0)) }).unwrap();
+    assert_eq!(dependencies(&registry, child), []);
+    assert!(registry.begin(child).is_ok());
+}
+
+#[test]
+fn e4_an_anchor_that_a_key_resolves_to_again_is_not_inherited() {
+    let (mut registry, id) = parent(&[4]);
+    let child = Registration { parent: Some(id), realms: &[4, 6], ..bare((4, 6)) };
+    let child = registry.register(&child).unwrap();
+    assert_eq!(dependencies(&registry, child), [(4, 0)]);
+}
+
+#[test]
+fn e4_a_declared_anchor_stays_and_is_handed_down() {
+    let (mut registry, id) = parent(&[4]);
+    let child = Registration { parent: Some(id), dependencies: &[4], ..bare((4, 0)) };
+    let child = registry.register(&child).unwrap();
     assert_eq!(dependencies(&registry, child), [(4, 0)]);
     assert_eq!(registry.begin(child), Err(Refusal::Unavailable));
+    let grandchild = Registration { parent: Some(child), ..bare((91, 0)) };
+    let grandchild = registry.register(&grandchild).unwrap();
+    assert_eq!(dependencies(&registry, grandchild), [(4, 0)]);
 }
 
 #[test]

@@ -16,9 +16,9 @@ use Rattle.ports_inherited.specs.declared.Dependencies.{Dependencies}
 use Rattle.ports_inherited.specs.Blocks.{fitted}
 
 -- at most 16 keys are all declared
-pub dependency-law : (z : Realms) (provisions : List Port) (keys : List ℕ) (parents : List Port) → length keys ≤ maxDependencyKeys
-    → dependencyList z provisions (take maxDependencyKeys keys) parents ≡ dependencyList z provisions keys parents
-dependency-law z provisions keys parents h = rw (take-all maxDependencyKeys keys h)
+pub dependency-law : (z : Realms) (provisions : List Port) (anchor : Port) (keys : List ℕ) (parents : List Port) → length keys ≤ maxDependencyKeys
+    → dependencyList z provisions anchor (take maxDependencyKeys keys) parents ≡ dependencyList z provisions anchor keys parents
+dependency-law z provisions anchor keys parents h = rw (take-all maxDependencyKeys keys h)
 
 -- what is answered: a list of at most 48 ports, or that it is longer
 pub fitted-lists : (l : List Port) {n : ℕ} {array : List ℕ} → Lists listRoom n array l → n ≤ maxDependencies → record { count = n; ports = array } ≡ fitted l

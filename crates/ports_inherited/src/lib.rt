@@ -1,16 +1,18 @@
-// Document 01, "Dependency list".
+// Document 01, "Dependency list", as document 02 [3] amends it.
 ghost use mathlib.Core.Path.{_≡_};
 ghost use mathlib.Core.List.{[]};
 ghost use Prim.Native.Nat.{_+_};
 ghost use lib.ListN.{take};
+ghost use Rattle.rules.specs.Holds.{port, isIn};
 ghost use Rattle.rules.specs.Ports.{pairs};
 ghost use Rattle.ports_realms.specs.Halving.{reachedWith};
-ghost use Rattle.rules.specs.Dependencies.{dependencyList};
+ghost use Rattle.rules.specs.Dependencies.{ownPorts, dependencyList};
 ghost use Rattle.rules.specs.Limits.{maxDependencyKeys, maxDependencies};
 ghost use Rattle.ports_resolved.specs.Filled.{filled};
 ghost use Rattle.ports_resolved.specs.Keys.{listRoom};
 ghost use Rattle.ports_inherited.specs.Blocks.{fitted};
 use ports_resolved::LIST_ROOM;
+use rules::Port;
 use rules::limits;
 
 // The count that says that a list is too long.
@@ -22,17 +24,35 @@ pub struct Dependencies {
     pub ports: [u64; LIST_ROOM],
 }
 
+// Whether a port is one of the new plugin's own: its provisions first, then its anchor.
+fn is_own(provisions: &[u64], anchor: Port, key: u64, realm: u64) -> bool
+    ensures { λ r. ⌜ r ≡ isIn (port key realm) (ownPorts (pairs (now (provisions .entry))) anchor) ⌝ }
+{
+    let Port {
+        key: own_key,
+        realm: own_realm,
+    } = anchor;
+    if ports::has_port(provisions, key, realm) {
+        return true;
+    }
+    if key != own_key {
+        return false;
+    }
+    realm == own_realm
+}
+
 // The list of a new plugin: the first 16 declared keys resolved, then for each port of the parent's list itself and its
-// key resolved again, each appended if it is neither among the provisions nor in the list so far. A port that resolves to itself
-// takes both turns at once.
+// key resolved again, each appended if it is neither one of the plugin's own nor in the list so far. A port that resolves to
+// itself takes both turns at once.
 pub fn dependency_list(
     other: u64,
+    anchor: Port,
     realms: &[u64],
     keys: &[u64],
     provisions: &[u64],
     parents: &[u64],
 ) -> Dependencies
-    ensures { λ r. ⌜ r ≡ fitted (dependencyList (reachedWith other (now (realms .entry))) (pairs (now (provisions .entry)))
+    ensures { λ r. ⌜ r ≡ fitted (dependencyList (reachedWith other (now (realms .entry))) (pairs (now (provisions .entry))) anchor
         (take maxDependencyKeys (now (keys .entry))) (pairs (now (parents .entry)))) ⌝ }
 {
     let mut list = [0u64; LIST_ROOM];
@@ -44,7 +64,7 @@ pub fn dependency_list(
         let turn = ports_resolved::candidate(other, c % 2, key, parents[at + 1], realms);
         let realm = turn.realm;
         c += turn.turns;
-        if ports::has_port(provisions, key, realm) {
+        if is_own(provisions, anchor, key, realm) {
             continue;
         }
         let mut k: usize = 0;

@@ -131,7 +131,7 @@ module _ (m : List ℕ) (parent : Parent) (anchor : Port) (zs ks vs : List ℕ) 
 
         module _ (free : t ≡ done.Accepted) (pw : List ℕ) (rest : pw ≡ part cw 2 (length cw))
             (iw : List ℕ) (rows : iw ≡ dependenciesAt m above)
-            (l : Dependencies) (listed : l ≡ fitted (dependencyList (reachedWith 0 zs) (pairs pw) (take maxDependencyKeys ks) (pairs iw)))
+            (l : Dependencies) (listed : l ≡ fitted (dependencyList (reachedWith 0 zs) (pairs pw) anchor (take maxDependencyKeys ks) (pairs iw)))
             (dw : List ℕ) (first : dw ≡ take (l .count * 2) (l .ports)) where
           none-taken : verdict (claims r d) ≡ done.Accepted
           none-taken = sym taken ∙ free
@@ -144,8 +144,8 @@ module _ (m : List ℕ) (parent : Parent) (anchor : Port) (zs ks vs : List ℕ) 
           unfolding dependenciesOf
           list =
               listed
-              ∙ ap fitted ((λ i. dependencyList (record { rows = good-reached zs good i; other = 0 }) (provisions i) (take maxDependencyKeys ks) ((ap pairs (rows ∙ ap (dependenciesAt m) (sym place)) ∙ inherits) i))
-              ∙ dependency-law (realmsOf zs) (resolved d vs) ks (inheritedFrom (parentOf r (parentId parent))) few-keys)
+              ∙ ap fitted ((λ i. dependencyList (record { rows = good-reached zs good i; other = 0 }) (provisions i) anchor (take maxDependencyKeys ks) ((ap pairs (rows ∙ ap (dependenciesAt m) (sym place)) ∙ inherits) i))
+              ∙ dependency-law (realmsOf zs) (resolved d vs) anchor ks (inheritedFrom (parentOf r (parentId parent))) few-keys)
 
           late-is : lateVerdict m (l .count) cw ≡ verdict (room r d)
           late-is =

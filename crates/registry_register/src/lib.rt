@@ -157,6 +157,7 @@ pub fn register(
     let provided = memory_lists::some_words(claims, 2, claims.len());
     let list = ports_inherited::dependency_list(
         Port::DEFAULT_REALM,
+        anchor,
         realms,
         dependencies,
         provided,

@@ -1,4 +1,4 @@
--- Document 01, "Dependency list".
+-- Document 01, "Dependency list", as document 02 [3] amends it: a private anchor is no dependency.
 use Prim.Native.Nat.{ℕ}
 use mathlib.Core.Bool.{Bool, _||_}
 use mathlib.Core.List.{List, [], _∷_, _++_, map}
@@ -13,18 +13,22 @@ abbrev pub candidates : Realms → List Port → List Port
 candidates z [] = []
 candidates z (q ∷ qs) = q ∷ resolve z (q .key) ∷ candidates z qs
 
--- In the new plugin's resolved provisions (anchor not counted), or in the list so far.
+-- The new plugin's own ports, in the order in which a candidate is compared with them: its resolved provisions, then its anchor.
+abbrev pub ownPorts : List Port → Port → List Port
+ownPorts provisions anchor = provisions ++ anchor ∷ []
+
+-- Among the new plugin's own ports, or in the list so far.
 abbrev pub skipped : List Port → List Port → Port → Bool
-skipped provisions list q = isIn q provisions || isIn q list
+skipped own list q = isIn q own || isIn q list
 
 -- Each candidate is appended unless it is skipped.
 abbrev pub inherit : List Port → List Port → List Port → List Port
-inherit provisions [] list = list
-inherit provisions (q ∷ qs) list = inherit provisions qs (pick (skipped provisions list q) list (list ++ q ∷ []))
+inherit own [] list = list
+inherit own (q ∷ qs) list = inherit own qs (pick (skipped own list q) list (list ++ q ∷ []))
 
--- Declared keys resolved in order, then the parent's list.
-unfoldable pub dependencyList : Realms → List Port → List ℕ → List Port → List Port
-dependencyList z provisions keys parents = inherit provisions (candidates z parents) (map (resolve z) keys)
+-- Declared keys resolved in order, then the parent's list. Declared keys are not skipped.
+unfoldable pub dependencyList : Realms → List Port → Port → List ℕ → List Port → List Port
+dependencyList z provisions anchor keys parents = inherit (ownPorts provisions anchor) (candidates z parents) (map (resolve z) keys)
 
 -- The search stops at the first port with that key; no such port answers none.
 abbrev pub firstPort : ℕ → List Port → List ℕ

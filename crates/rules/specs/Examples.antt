@@ -1,4 +1,4 @@
--- Document 01, "Numbered examples": E1 to E10, each computed from the rules.
+-- Document 01, "Numbered examples": E1 to E10, E4 as document 02 [3] amends it, each computed from the rules.
 use Prim.Native.Nat.{ℕ, _^_, _-_}
 use mathlib.Core.Path.{_≡_, refl}
 use mathlib.Core.Bool.{false}
@@ -61,12 +61,19 @@ E3-plugins =
     ∷ registers (some 1) (port 101 0) E1-realms (2 ∷ []) []
     ∷ []
 
--- a parent (1) with dependency (4,0), and its child with that anchor
-abbrev pub E4-plugins : List Op
-E4-plugins =
+-- a parent (1) with dependency (4,0), its child with that anchor and these dependency keys, and a grandchild
+abbrev pub E4-plugins : List ℕ → List Op
+E4-plugins keys =
     registers none (port 100 0) [] (4 ∷ []) []
-    ∷ registers (some 1) (port 4 0) [] [] []
+    ∷ registers (some 1) (port 4 0) [] keys []
+    ∷ registers (some 2) (port 101 0) [] [] []
     ∷ []
+
+-- how many dependencies the child and the grandchild have, and the answers to their begin
+abbrev pub E4-answers : List ℕ → List Answer
+E4-answers keys =
+    answersFrom (run fresh (E4-plugins keys) .registry)
+    (Write (Listed Dependencies 2 0) (0 ∷ 0 ∷ []) ∷ Begin 2 ∷ Write (Listed Dependencies 3 0) (0 ∷ 0 ∷ []) ∷ Begin 3 ∷ [])
 
 -- a grandparent (1) with (2,0), a parent (2) that so gets (2,0), (2,7), and its child
 abbrev pub E5-plugins : List Op
@@ -120,8 +127,10 @@ pub record Examples : Type 0 where
   pub E1 : answersTo (Ask (ResolveKey E1-realms 2) ∷ Ask (ResolveKey E1-realms 3) ∷ []) ≡ Accepted (2 ∷ 5 ∷ []) ∷ Accepted (3 ∷ 0 ∷ []) ∷ []
   pub E2 : listed E2-plugins 2 (0 ∷ 0 ∷ 0 ∷ 0 ∷ 0 ∷ 0 ∷ []) ≡ 9 ∷ 1 ∷ 2 ∷ 0 ∷ 2 ∷ 5 ∷ []
   pub E3 : listed E3-plugins 2 (0 ∷ 0 ∷ []) ≡ 2 ∷ 5 ∷ []
-  pub E4 : listed E4-plugins 2 (0 ∷ 0 ∷ []) ≡ 4 ∷ 0 ∷ []
-  pub E4-begin : answerTo (run fresh E4-plugins .registry) (Begin 2) ≡ Refused 14 []
+  pub E4 : E4-answers [] ≡ Accepted (0 ∷ []) ∷ Accepted (7 ∷ 2 ∷ 1 ∷ 1 ∷ []) ∷ Accepted (0 ∷ []) ∷ Accepted (7 ∷ 3 ∷ 1 ∷ 1 ∷ []) ∷ []
+  -- declared and anchor: it stays, is handed down, and begin answers 14
+  pub E4-declared : E4-answers (4 ∷ []) ≡ Accepted (1 ∷ []) ∷ Refused 14 [] ∷ Accepted (1 ∷ []) ∷ Refused 14 [] ∷ []
+  pub E4-declared-list : listed (E4-plugins (4 ∷ [])) 2 (0 ∷ 0 ∷ []) ≡ 4 ∷ 0 ∷ []
   pub E5 : listed E5-plugins 3 (0 ∷ 0 ∷ 0 ∷ 0 ∷ 0 ∷ 0 ∷ []) ≡ 2 ∷ 0 ∷ 2 ∷ 5 ∷ 2 ∷ 7 ∷ []
   pub E5-key : answerTo (run fresh E5-plugins .registry) (Ask (DependencyPort 3 2)) ≡ Accepted (2 ∷ 0 ∷ [])
   pub E6 : answersFrom E6-registry (Ask (Fits 1 3) ∷ Ask (Fits 1 4) ∷ []) ≡ Accepted (1 ∷ []) ∷ Accepted (0 ∷ []) ∷ []
@@ -146,7 +155,8 @@ examples = record {
   E2 = refl;
   E3 = refl;
   E4 = refl;
-  E4-begin = refl;
+  E4-declared = refl;
+  E4-declared-list = refl;
   E5 = refl;
   E5-key = refl;
   E6 = refl;

@@ -45,9 +45,12 @@ abbrev pub repeats : List Port → Bool
 repeats [] = false
 repeats (p ∷ ps) = isIn p ps || repeats ps
 
+-- its dependency list, under a parent with this list
+abbrev pub dependenciesUnder : List Port → Definition → List Port
+dependenciesUnder parents d = dependencyList (realmsOf (d .realms)) (resolved d (d .provisions)) (d .anchor) (d .dependencies) parents
+
 unfoldable pub dependenciesOf : Registry → Definition → List Port
-dependenciesOf r d =
-    dependencyList (realmsOf (d .realms)) (resolved d (d .provisions)) (d .dependencies) (inheritedFrom (parentOf r (d .parent)))
+dependenciesOf r d = dependenciesUnder (inheritedFrom (parentOf r (d .parent))) d
 
 abbrev pub unoffered : Port → Provision
 unoffered q = record { port = q; value = none }

@@ -15,7 +15,7 @@ use Rattle.rules.specs.Holds.{Plugin, Registry, plugins, lookup, count, provide
 use Rattle.rules.specs.Outcomes.{Answer, Refused, Accepted, Outcome, tells, refusing, accepting, writes, stores, adds, removes, checked, found, answerOf, after}
 use Rattle.rules.specs.Ports.{badRealms, realmsOf, resolve}
 use Rattle.rules.specs.Dependencies.{dependencyList}
-use Rattle.rules.specs.Registration.{Definition, parentOf, inheritedFrom, resolved, unoffered, dependenciesOf, newPlugin, register}
+use Rattle.rules.specs.Registration.{Definition, parentOf, inheritedFrom, resolved, unoffered, dependenciesUnder, dependenciesOf, newPlugin, register}
 use Rattle.rules.specs.Retirement.{retire, remove}
 use Rattle.rules.specs.Steps.{Op, Event, Run, step, answerTo, afterStep, goOn, goOnWith, run, runFresh, Retire, Remove}
 use Rattle.rules.specs.Examples.{fresh, E2-plugins}
@@ -51,7 +51,7 @@ parentIn (some x) l = entryIn x l
 abbrev pub newEntry : Definition → ℕ → List Entry → Entry
 newEntry d id l = record {
   id = id;
-  dependencies = dependencyList (realmsOf (d .realms)) (resolved d (d .provisions)) (d .dependencies) (handedDown (parentIn (d .parent) l));
+  dependencies = dependenciesUnder (handedDown (parentIn (d .parent) l)) d;
   provisions = length (d .provisions);
 }
 
@@ -136,7 +136,7 @@ module _ (r : Registry) (b : Built r) (l : List Entry) (h : Booked l r) where
       let m = length-map (resolved d (d .provisions)) unoffered in
       λ i. record {
         id = r .next;
-        dependencies = dependencyList (realmsOf (d .realms)) (resolved d (d .provisions)) (d .dependencies) (e i);
+        dependencies = dependenciesUnder (e i) d;
         provisions = sym (m ∙ n) i;
       }
 

@@ -9,15 +9,11 @@ use Rattle.rules.specs.Basics.{pick, any}
 use Rattle.rules.specs.declared.Port.{Port}
 use Rattle.rules.specs.Holds.{Realms, samePort, isIn}
 use Rattle.rules.specs.Ports.{flat, resolve}
-use Rattle.rules.specs.Dependencies.{candidates, skipped, inherit, dependencyList, firstPort}
+use Rattle.rules.specs.Dependencies.{candidates, ownPorts, skipped, inherit, dependencyList, firstPort}
 use Rattle.rules.specs.Registration.{repeats}
 use Rattle.rules.specs.Values.{isEmpty}
 use Rattle.rules_laws.specs.Laws.Tests.{by-test, neither}
-use Rattle.rules_laws.specs.Laws.Members.{In, same-port, is-in, same-swap, same-self}
-
-pub any-append : {A : Type 0} (f : A → Bool) (l m : List A) → any f (l ++ m) ≡ (any f l || any f m)
-any-append f [] m = refl
-any-append f (x ∷ l) m = rw (any-append f l m, or-assoc)
+use Rattle.rules_laws.specs.Laws.Members.{In, same-port, is-in, in-behind, same-swap, same-self}
 
 -- R has_port, S declares: the test is membership.
 pub is-in-exactly : (k : Port) (l : List Port) → isIn k l ≡ true ↔ In k l
@@ -30,25 +26,23 @@ is-in-exactly k l = (is-in k l, into l)
 -- a port is appended unless a test holds
 appended : (c : Bool) (l : List Port) (p q : Port) → isIn p (pick c l (l ++ q ∷ [])) ≡ (isIn p l || (not c && samePort p q))
 appended true l p q = sym (or-false _)
-appended false l p q = any-append (samePort p) l (q ∷ []) ∙ ap (λ b. isIn p l || b) (or-false _)
+appended false l p q = in-behind p q l
 
 absorb : (a b : Bool) → (a || (not (b || a) && true)) ≡ (a || (not b && true))
 absorb true b = refl
 absorb false b = rw or-false
 
--- R inherit_one: the list contains what it contained, and the port unless that is provided.
-pub inherit-one : (provisions l : List Port) (p q : Port)
-    → isIn p (pick (skipped provisions l q) l (l ++ q ∷ [])) ≡ (isIn p l || (not (isIn p provisions) && samePort p q))
-inherit-one provisions l p q = appended (skipped provisions l q) l p q ∙ by-test (samePort p q)
-    (λ y. let i = same-port p q y in rw (y, ap (λ x. isIn x provisions) i, ap (λ x. isIn x l) i) (absorb (isIn p l) (isIn p provisions)))
+-- R inherit_one: the list contains what it contained, and the port unless that is one of the plugin's own.
+pub inherit-one : (own l : List Port) (p q : Port)
+    → isIn p (pick (skipped own l q) l (l ++ q ∷ [])) ≡ (isIn p l || (not (isIn p own) && samePort p q))
+inherit-one own l p q = appended (skipped own l q) l p q ∙ by-test (samePort p q)
+    (λ y. let i = same-port p q y in rw (y, ap (λ x. isIn x own) i, ap (λ x. isIn x l) i) (absorb (isIn p l) (isIn p own)))
     (λ n. rw n (simp and-false))
 
--- R inherit_dependencies: .. and each candidate that is not provided.
-pub inherit-in : (provisions cs l : List Port) (p : Port)
-    → isIn p (inherit provisions cs l) ≡ (isIn p l || (not (isIn p provisions) && isIn p cs))
-inherit-in provisions [] l p = rw (and-false, or-false)
-inherit-in provisions (q ∷ qs) l p =
-    inherit-in provisions qs _ p ∙ rw (inherit-one provisions l p q, or-assoc, and-or-distrib-left)
+-- R inherit_dependencies: .. and each candidate that is none of its own.
+pub inherit-in : (own cs l : List Port) (p : Port) → isIn p (inherit own cs l) ≡ (isIn p l || (not (isIn p own) && isIn p cs))
+inherit-in own [] l p = rw (and-false, or-false)
+inherit-in own (q ∷ qs) l p = inherit-in own qs _ p ∙ rw (inherit-one own l p q, or-assoc, and-or-distrib-left)
 
 -- R inherited_at: some port of the parent's list is p, or has a key that resolves to p. These are the candidates.
 abbrev pub inheritedAt : List Port → Realms → Port → Bool
@@ -58,11 +52,34 @@ pub candidates-in : (z : Realms) (parents : List Port) (p : Port) → isIn p (ca
 candidates-in z [] p = refl
 candidates-in z (q ∷ qs) p = rw (candidates-in z qs p, or-assoc)
 
--- R registered_dependencies: a declared port, or one that is inherited and not provided.
-pub dependencies-in : (z : Realms) (provisions : List Port) (keys : List ℕ) (parents : List Port) (p : Port)
-    → isIn p (dependencyList z provisions keys parents) ≡ (isIn p (map (resolve z) keys) || (not (isIn p provisions) && inheritedAt parents z p))
-unfolding dependencyList
-dependencies-in z provisions keys parents p = inherit-in provisions (candidates z parents) _ p ∙ rw candidates-in
+module _ (z : Realms) (provisions : List Port) (anchor : Port) (keys : List ℕ) (parents : List Port) where
+  abbrev declared : List Port
+  declared = map (resolve z) keys
+
+  abbrev finished : List Port
+  finished = dependencyList z provisions anchor keys parents
+
+  -- R registered_dependencies: a declared port, or one that is inherited and no provision.
+  abbrev pub registeredDependencies : Port → Bool
+  registeredDependencies p = isIn p declared || (not (isIn p provisions) && inheritedAt parents z p)
+
+  -- Here a port is inherited if it is neither provision nor anchor.
+  pub dependencies-in : (p : Port) → isIn p finished ≡ (isIn p declared || (not (isIn p provisions || samePort p anchor) && inheritedAt parents z p))
+  unfolding dependencyList
+  dependencies-in p = inherit-in (ownPorts provisions anchor) (candidates z parents) _ p ∙ rw (candidates-in, in-behind p anchor provisions)
+
+  -- So R's set is kept but for the anchor,
+  pub dependencies-registered : (p : Port) → samePort p anchor ≡ false → isIn p finished ≡ registeredDependencies p
+  dependencies-registered p n = dependencies-in p ∙ rw (n, or-false)
+
+  -- .. for of its own ports a plugin depends on those that it declares, and on no other,
+  pub own-declared : (p : Port) → isIn p (ownPorts provisions anchor) ≡ true → isIn p finished ≡ isIn p declared
+  unfolding dependencyList
+  own-declared p o = inherit-in (ownPorts provisions anchor) (candidates z parents) _ p ∙ rw (o, or-false)
+
+  -- .. and the anchor is one.
+  pub anchor-declared : isIn anchor finished ≡ isIn anchor declared
+  anchor-declared = own-declared anchor (in-behind anchor anchor provisions ∙ rw (same-self anchor, or-true))
 
 -- R distinct_ports, as far as can be seen: no two places of the list hold the same port. So behind a port it does not stand again,
 pub distinct-apart : (before behind : List Port) (q : Port) → repeats (before ++ q ∷ behind) ≡ false → isIn q behind ≡ false
@@ -90,42 +107,41 @@ repeats-twice (x ∷ l) e = by-test (isIn x l)
       again = w .again;
     })
 
-regroup : (a b c d : Bool) → ((a || (b || false)) || (c || d)) ≡ ((a || c) || (b || d))
+regroup : (a b c d : Bool) → ((a || b) || (c || d)) ≡ ((a || c) || (b || d))
 regroup true b c d = refl
 regroup false true c d = sym (or-true c)
 regroup false false c d = refl
 
 repeats-append : (l : List Port) (q : Port) → repeats (l ++ q ∷ []) ≡ (repeats l || isIn q l)
 repeats-append [] q = refl
-repeats-append (x ∷ l) q = rw (any-append (samePort x) l (q ∷ []), repeats-append l q, same-swap x q) (regroup (isIn x l) (samePort q x) _ _)
+repeats-append (x ∷ l) q = rw (in-behind x q l, repeats-append l q, same-swap x q) (regroup (isIn x l) (samePort q x) _ _)
 
 -- R inherit_one, inherit_dependencies: distinct_ports stays as it was,
-pub one-distinct : (provisions l : List Port) (q : Port) → repeats (pick (skipped provisions l q) l (l ++ q ∷ [])) ≡ repeats l
-one-distinct provisions l q = by-test (skipped provisions l q)
+pub one-distinct : (own l : List Port) (q : Port) → repeats (pick (skipped own l q) l (l ++ q ∷ [])) ≡ repeats l
+one-distinct own l q = by-test (skipped own l q)
     (λ y. rw y)
-    (λ n. rw n (repeats-append l q ∙ rw (neither (isIn q provisions) (isIn q l) n .1, or-false)))
+    (λ n. rw n (repeats-append l q ∙ rw (neither (isIn q own) (isIn q l) n .1, or-false)))
 
-pub inherit-distinct : (provisions cs l : List Port) → repeats (inherit provisions cs l) ≡ repeats l
-inherit-distinct provisions [] l = refl
-inherit-distinct provisions (q ∷ qs) l = inherit-distinct provisions qs _ ∙ one-distinct provisions l q
+pub inherit-distinct : (own cs l : List Port) → repeats (inherit own cs l) ≡ repeats l
+inherit-distinct own [] l = refl
+inherit-distinct own (q ∷ qs) l = inherit-distinct own qs _ ∙ one-distinct own l q
 
--- .. so a finished list names a port twice only if two declared keys resolve alike.
-pub dependencies-distinct : (z : Realms) (provisions : List Port) (keys : List ℕ) (parents : List Port)
-    → repeats (dependencyList z provisions keys parents) ≡ repeats (map (resolve z) keys)
-unfolding dependencyList
-dependencies-distinct z provisions keys parents = inherit-distinct provisions (candidates z parents) _
+inherit-keeps : (own cs l : List Port) → (m : List Port) × (inherit own cs l ≡ l ++ m)
+inherit-keeps own [] l = ([], sym (append-nil l))
+inherit-keeps own (q ∷ qs) l = by-test (skipped own l q)
+    (λ y. rw y (inherit-keeps own qs l))
+    (λ n. let (m, e) = inherit-keeps own qs (l ++ q ∷ []) in (q ∷ m, rw n (e ∙ append-assoc l (q ∷ []) m)))
 
--- R resolve_keys, and the comment on dependency_port: the declared keys resolved, in order, and only then what is inherited.
-inherit-keeps : (provisions cs l : List Port) → (m : List Port) × (inherit provisions cs l ≡ l ++ m)
-inherit-keeps provisions [] l = ([], sym (append-nil l))
-inherit-keeps provisions (q ∷ qs) l = by-test (skipped provisions l q)
-    (λ y. rw y (inherit-keeps provisions qs l))
-    (λ n. let (m, e) = inherit-keeps provisions qs (l ++ q ∷ []) in (q ∷ m, rw n (e ∙ append-assoc l (q ∷ []) m)))
+module _ (z : Realms) (provisions : List Port) (anchor : Port) (keys : List ℕ) (parents : List Port) where
+  -- .. so a finished list names a port twice only if two declared keys resolve alike.
+  pub dependencies-distinct : repeats (dependencyList z provisions anchor keys parents) ≡ repeats (map (resolve z) keys)
+  unfolding dependencyList
+  dependencies-distinct = inherit-distinct (ownPorts provisions anchor) (candidates z parents) _
 
-pub declared-first : (z : Realms) (provisions : List Port) (keys : List ℕ) (parents : List Port)
-    → (m : List Port) × (dependencyList z provisions keys parents ≡ map (resolve z) keys ++ m)
-unfolding dependencyList
-declared-first z provisions keys parents = inherit-keeps provisions (candidates z parents) (map (resolve z) keys)
+  -- R resolve_keys, and the comment on dependency_port: the declared keys resolved, in order, and only then what is inherited.
+  pub declared-first : (m : List Port) × (dependencyList z provisions anchor keys parents ≡ map (resolve z) keys ++ m)
+  unfolding dependencyList
+  declared-first = inherit-keeps (ownPorts provisions anchor) (candidates z parents) (map (resolve z) keys)
 
 -- The first of a list that passes a test: where it stands.
 pub record First {A : Type 0} (f : A → Bool) (l : List A) (a : A) : Type 0 where

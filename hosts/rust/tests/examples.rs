@@ -1,4 +1,4 @@
-//! The numbered examples E1 to E10.
+//! The numbered examples E1 to E10, E4 as document 02 amends it.
 
 mod common;
 
@@ -46,12 +46,23 @@ fn e3_an_inherited_port_already_declared_is_not_repeated() {
 }
 
 #[test]
-fn e4_the_anchor_filters_nothing() {
+fn e4_a_private_anchor_is_not_inherited() {
     let (mut registry, id) = parent(&[4]);
     let new = Definition { parent: Some(id), ..Definition::new(Port::new(4, 0), 0) };
     let child = registry.register(&new).unwrap();
+    assert_eq!(dependencies(&registry, child), []);
+    assert!(registry.begin(child).is_ok());
+}
+
+#[test]
+fn e4_a_declared_anchor_stays_and_is_handed_down() {
+    let (mut registry, id) = parent(&[4]);
+    let new = Definition { dependencies: &[4], ..Definition::new(Port::new(4, 0), 0) };
+    let child = registry.register(&Definition { parent: Some(id), ..new }).unwrap();
     assert_eq!(dependencies(&registry, child), [(4, 0)]);
     assert_eq!(refused(&mut registry, |r| r.begin(child)), Refusal::Unavailable);
+    let grandchild = registry.register(&Definition { parent: Some(child), ..bare(1) }).unwrap();
+    assert_eq!(dependencies(&registry, grandchild), [(4, 0)]);
 }
 
 #[test]

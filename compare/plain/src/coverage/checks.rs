@@ -277,7 +277,8 @@ fn register(registry: &Registry, new: &Registration<'_>, found: &mut Found) -> O
     let mut list = declared;
     for &port in parent.map_or(&[][..], |p| p.dependencies()) {
         for port in [port, resolve(port.key)] {
-            if !provisions.contains(&port) && !list.contains(&port) {
+            let own = provisions.contains(&port) || port == new.anchor;
+            if !own && !list.contains(&port) {
                 list.push(port);
             }
         }

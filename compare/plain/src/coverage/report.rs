@@ -32,7 +32,7 @@ impl fmt::Display for Coverage {
         writeln!(f, "\nBoundaries")?;
         for name in BOUNDARIES {
             let count = self.boundaries.get(name).unwrap_or(&0);
-            writeln!(f, "{name:40} {count:>8}")?;
+            writeln!(f, "{name:44} {count:>8}")?;
         }
         writeln!(f, "\nGaps")?;
         writeln!(f, "{}", list_or_none(&self.gaps()))?;

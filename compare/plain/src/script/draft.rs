@@ -127,10 +127,15 @@ impl Script {
         draft
     }
 
-    /// A draft that depends on nothing and provides this port.
-    pub(super) fn provider_draft(&mut self, port: Port) -> Draft {
+    /// A draft that provides this port for a plugin in need. It depends on nothing, or is
+    /// the needy one's child and has the port as its anchor.
+    pub(super) fn provider_draft(&mut self, needy: u64, port: Port) -> Draft {
         if self.rng.one_in(3) {
-            return Draft::bare(port, self.rng.number());
+            let mut draft = Draft::bare(port, self.rng.number());
+            if self.rng.one_in(2) && may_be_parent(self.plugin(needy)) {
+                draft.parent = Some(needy);
+            }
+            return draft;
         }
         let mut draft = Draft::bare(self.fresh_port(), self.rng.number());
         draft.aim(port);

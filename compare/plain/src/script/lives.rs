@@ -224,7 +224,7 @@ impl Script {
                 self.step_up(other);
             }
             None if self.rng.one_in(2) => {
-                let draft = self.provider_draft(port);
+                let draft = self.provider_draft(needy, port);
                 self.register(&draft);
             }
             _ if self.rng.one_in(3) => {

@@ -11,7 +11,7 @@ use Rattle.rules.specs.declared.Port.{Port}
 use Rattle.rules.specs.Holds.{port, isIn}
 use Rattle.rules.specs.Ports.{pairs, resolve, resolveIn}
 use Rattle.ports_realms.specs.Halving.{reached, reachedWith}
-use Rattle.rules.specs.Dependencies.{candidates, skipped, inherit, dependencyList}
+use Rattle.rules.specs.Dependencies.{candidates, ownPorts, skipped, inherit, dependencyList}
 use Rattle.rules.specs.Limits.{maxDependencyKeys, maxDependencies}
 use Rattle.ports.specs.Places.{in-hit, in-miss}
 use Rattle.ports_inherited.specs.Blocks.{fitted}
@@ -19,7 +19,7 @@ use Rattle.ports_resolved.specs.Filled.{Lists, listed, lists-own, lists-at, lis
 use Rattle.ports_resolved.specs.Stored.{declared-lists}
 use Rattle.ports_resolved.specs.Keys.{listRoom}
 use Rattle.ports_inherited.specs.Answers.{fitted-lists, fitted-longer}
-use Rattle.ports_inherited.proofs.Turns.{candidate-at, candidates-end, some-turns, turns-taken, skip-provision, skip-listed, append-new, in-last, grows}
+use Rattle.ports_inherited.proofs.Turns.{candidate-at, candidates-end, some-turns, turns-taken, skip-own, skip-listed, append-new, in-last, grows}
 use Rattle.ports_inherited.proofs.dependency_list.Statement.{statement}
 use Rattle.ports_inherited.proofs.dependency_list.Tie as tie
 
@@ -28,20 +28,20 @@ abbrev soFar : ℕ → List ℕ → List Port
 soFar n ports = pairs (take (n * 2) ports)
 
 abbrev Inv-loop : tie.InvT-loop
-Inv-loop other realms keys provisions parents ports n c at key realm k₀ k =
+Inv-loop other anchor realms keys provisions parents ports n c at key realm k₀ k =
     (k ≤ n) × (isIn (port key realm) (soFar n ports) ≡ isIn (port key realm) (drop k (soFar n ports)))
 
 abbrev μ-loop : tie.MeasureT-loop
-μ-loop other realms keys provisions parents ports n c at key realm k₀ k = n - k
+μ-loop other anchor realms keys provisions parents ports n c at key realm k₀ k = n - k
 
 abbrev Inv-next : tie.InvT-next
-Inv-next other realms keys provisions parents ports₀ n₀ c₀ ports n c =
+Inv-next other anchor realms keys provisions parents ports₀ n₀ c₀ ports n c =
     (n ≤ maxDependencies) × Lists listRoom n ports (soFar n ports)
-    × (dependencyList (reachedWith other realms) (pairs provisions) (take maxDependencyKeys keys) (pairs parents)
-    ≡ inherit (pairs provisions) (drop c (candidates (reachedWith other realms) (pairs parents))) (soFar n ports))
+    × (dependencyList (reachedWith other realms) (pairs provisions) anchor (take maxDependencyKeys keys) (pairs parents)
+    ≡ inherit (ownPorts (pairs provisions) anchor) (drop c (candidates (reachedWith other realms) (pairs parents))) (soFar n ports))
 
 abbrev μ-next : tie.MeasureT-next
-μ-next other realms keys provisions parents ports₀ n₀ c₀ ports n c = length parents / 2 * 2 - c
+μ-next other anchor realms keys provisions parents ports₀ n₀ c₀ ports n c = length parents / 2 * 2 - c
 
 -- the candidate of a turn: the loop's head before it, and the function's entry
 abbrev Turned : Type 0
@@ -56,8 +56,8 @@ entry t = head t .before .before .before .before .before .before .before
 abbrev list : Turned → List Port
 list t = soFar (head t .next .n) (head t .next .list)
 
-abbrev provided : Turned → List Port
-provided t = pairs (entry t .args .provisions .now)
+abbrev own : Turned → List Port
+own t = ownPorts (pairs (entry t .args .provisions .now)) (entry t .args .anchor)
 
 abbrev rest : Turned → ℕ → List Port
 rest t c = drop c (candidates (reachedWith (entry t .args .other) (entry t .args .realms .now)) (pairs (entry t .args .parents .now)))
@@ -87,21 +87,21 @@ less : (t : Turned)
 less t = omega (arith, inside t, few-turns t .0)
 
 -- a candidate that is skipped from here on is dealt with, in both its turns where they are taken at once
-dealt : (t : Turned) (l : List Port) → skipped (provided t) l (port-at t) ≡ true
-    → inherit (provided t) (rest t (head t .next .c + 1)) l ≡ inherit (provided t) (rest t (head t .next .c + turns t)) l
+dealt : (t : Turned) (l : List Port) → skipped (own t) l (port-at t) ≡ true
+    → inherit (own t) (rest t (head t .next .c + 1)) l ≡ inherit (own t) (rest t (head t .next .c + turns t)) l
 dealt t l k =
     let a = entry t .args in
-    turns-taken (a .other) (a .realms .now) (a .parents .now) (head t .next .c) (inside t) (t .candidate .ensures) (provided t) l k
+    turns-taken (a .other) (a .realms .now) (a .parents .now) (head t .next .c) (inside t) (t .candidate .ensures) (own t) l k
 
--- it is no provision
+-- it is none of its own
 abbrev Free : Type 0
 Free = tie.Else1 Inv-loop μ-loop Inv-next μ-next
 
 abbrev turned : Free → Turned
 turned f = f .before .before .before
 
-free : (f : Free) → isIn (port-at (turned f)) (provided (turned f)) ≡ false
-free f = sym (f .before .has-port .ensures) ∙ f .if1 .left
+free : (f : Free) → isIn (port-at (turned f)) (own (turned f)) ≡ false
+free f = sym (f .before .is-own .ensures) ∙ f .if1 .left
 
 declared-requires : tie.Need-declared-requires Inv-loop μ-loop Inv-next μ-next
 declared-requires c κs = search needs
@@ -114,7 +114,7 @@ next-holds c =
     let keys = take maxDependencyKeys (a .keys .now) in
     let r = declared-lists (a .other) (reached (pairs (a .realms .now))) (a .keys .now) (c .declared .ensures .0) (c .declared .ensures .1) in
     let h : c .declared .result ≤ maxDependencies = omega (arith, r .counted, length-map keys f, length-take maxDependencyKeys (a .keys .now)) in
-    (h, lists-own r, ap (λ (l : List Port). inherit (pairs (a .provisions .now)) (candidates (reachedWith (a .other) (a .realms .now)) (pairs (a .parents .now))) l) (sym (listed r)))
+    (h, lists-own r, ap (λ (l : List Port). inherit (ownPorts (pairs (a .provisions .now)) (a .anchor)) (candidates (reachedWith (a .other) (a .realms .now)) (pairs (a .parents .now))) l) (sym (listed r)))
 
 mul-at : tie.Need-mul-at Inv-loop μ-loop Inv-next μ-next
 mul-at c = search needs
@@ -140,8 +140,8 @@ candidate-requires c κs = search needs
 add-c : tie.Need-add-c Inv-loop μ-loop Inv-next μ-next
 add-c c = omega (arith, inside (c .before), few-turns (c .before) .1)
 
-has-port-requires : tie.Need-has-port-requires Inv-loop μ-loop Inv-next μ-next
-has-port-requires c κs = search needs
+is-own-requires : tie.Need-is-own-requires Inv-loop μ-loop Inv-next μ-next
+is-own-requires c κs = search needs
 
 next-less : tie.Need-next-less Inv-loop μ-loop Inv-next μ-next
 next-less c = less (c .before .before .before)
@@ -150,8 +150,8 @@ next-again : tie.Need-next-again Inv-loop μ-loop Inv-next μ-next
 next-again c =
     let t = c .before .before .before in
     let v = head t .next .inv in
-    let provision = sym (c .before .has-port .ensures) ∙ c .if1 .taken in
-    (v .0, v .1, v .2 ∙ skip-provision (split t) (provided t) (list t) provision ∙ dealt t (list t) (rw provision))
+    let is-own = sym (c .before .is-own .ensures) ∙ c .if1 .taken in
+    (v .0, v .1, v .2 ∙ skip-own (split t) (own t) (list t) is-own ∙ dealt t (list t) (rw is-own))
 
 loop-holds : tie.Need-loop-holds Inv-loop μ-loop Inv-next μ-next
 loop-holds c = search needs
@@ -187,8 +187,8 @@ next-again-2 c =
     let t = turned (at .before) in
     let v = head t .next .inv in
     let there = at .loop .inv .1 ∙ in-hit (lists-at (v .1) (at .loop .k) (in-loop .loop-test .taken)) (port-at t) (c .before .if2 .taken) (c .if3 .taken) in
-    let no-provision = free (at .before) in
-    (v .0, v .1, v .2 ∙ skip-listed (split t) (provided t) (list t) no-provision there ∙ dealt t (list t) (rw (no-provision, there)))
+    let not-own = free (at .before) in
+    (v .0, v .1, v .2 ∙ skip-listed (split t) (own t) (list t) not-own there ∙ dealt t (list t) (rw (not-own, there)))
 
 add-k : tie.Need-add-k Inv-loop μ-loop Inv-next μ-next
 add-k c = search needs
@@ -206,12 +206,12 @@ loop-again c =
 -- the candidate is appended
 appended : (c : tie.After-loop Inv-loop μ-loop Inv-next μ-next)
     → let t = turned (c .before .before) in
-    inherit (provided t) (rest t (head t .next .c)) (list t) ≡ inherit (provided t) (rest t (head t .next .c + 1)) (list t ++ port-at t ∷ [])
+    inherit (own t) (rest t (head t .next .c)) (list t) ≡ inherit (own t) (rest t (head t .next .c + 1)) (list t ++ port-at t ∷ [])
 appended c =
     let at = c .before in
     let t = turned (at .before) in
     let absent = at .loop .inv .1 ∙ ap (λ (l : List Port). isIn (port-at t) l) (lists-end (head t .next .inv .1) (at .loop .k) (c .loop-test .left)) in
-    append-new (split t) (provided t) (list t) (free (at .before)) absent
+    append-new (split t) (own t) (list t) (free (at .before)) absent
 
 longer-requires : tie.Need-longer-requires Inv-loop μ-loop Inv-next μ-next
 longer-requires c κs = search needs
@@ -223,9 +223,9 @@ returns c =
     let v = head t .next .inv in
     let l = list t ++ port-at t ∷ [] in
     let e = v .2 ∙ appended al in
-    let n : maxDependencies < length (inherit (provided t) (rest t (head t .next .c + 1)) l) =
-    omega (arith, grows (provided t) (rest t (head t .next .c + 1)) l, length-append (list t) (port-at t ∷ []), v .1 .counted, c .before .if4 .taken) in
-    fitted-longer (inherit (provided t) (rest t (head t .next .c + 1)) l) n (c .longer .ensures .0) (c .longer .ensures .1) ∙ ap fitted (sym e)
+    let n : maxDependencies < length (inherit (own t) (rest t (head t .next .c + 1)) l) =
+    omega (arith, grows (own t) (rest t (head t .next .c + 1)) l, length-append (list t) (port-at t ∷ []), v .1 .counted, c .before .if4 .taken) in
+    fitted-longer (inherit (own t) (rest t (head t .next .c + 1)) l) n (c .longer .ensures .0) (c .longer .ensures .1) ∙ ap fitted (sym e)
 
 mul-list : tie.Need-mul-list Inv-loop μ-loop Inv-next μ-next
 mul-list c = search needs
@@ -262,7 +262,7 @@ next-again-3 c =
     let n = head t .next .n in
     let r = lists-more (v .1) (port-at t) {a = n * 2} {b = n * 2 + 1} refl refl (omega (arith, c .if4 .left)) in
     let there = dealt t (list t ++ port-at t ∷ []) (rw (free f, in-last (port-at t) (list t))) in
-    let more = ap (λ (l : List Port). inherit (provided t) (rest t (head t .next .c + turns t)) l) (sym (listed r)) in
+    let more = ap (λ (l : List Port). inherit (own t) (rest t (head t .next .c + turns t)) l) (sym (listed r)) in
     (omega (arith, c .if4 .left), lists-own r, v .2 ∙ appended (c .before) ∙ there ∙ more)
 
 returns-2 : tie.Need-returns-2 Inv-loop μ-loop Inv-next μ-next
@@ -271,7 +271,7 @@ returns-2 c =
     let a = at .before .before .before .before .before .before .before .args in
     let v = at .next .inv in
     let l = soFar (at .next .n) (at .next .list) in
-    let e = v .2 ∙ ap (λ (cs : List Port). inherit (pairs (a .provisions .now)) cs l) (candidates-end (a .other) (a .realms .now) (a .parents .now) (at .next .c) (c .next-test .left)) in
+    let e = v .2 ∙ ap (λ (cs : List Port). inherit (ownPorts (pairs (a .provisions .now)) (a .anchor)) cs l) (candidates-end (a .other) (a .realms .now) (a .parents .now) (at .next .c) (c .next-test .left)) in
     fitted-lists l (v .1) (v .0) ∙ ap fitted (sym e)
 
 pub dependency-list-spec : {M : Type 1} → statement M
@@ -292,7 +292,7 @@ dependency-list-spec =
     shared-slice-read-candidate
     candidate-requires
     add-c
-    has-port-requires
+    is-own-requires
     next-less
     next-again
     loop-holds

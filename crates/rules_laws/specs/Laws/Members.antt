@@ -2,8 +2,8 @@
 use Prim.Native.Nat.{ℕ}
 use native.Mathlib.Omega.{arith}
 use mathlib.Core.Path.{_≡_, refl, sym, ap, _∙_, subst}
-use mathlib.Core.Bool.{Bool, true, false, true≢false}
-use mathlib.Core.List.{List, [], _∷_, map}
+use mathlib.Core.Bool.{Bool, true, false, _||_, true≢false, or-false, or-assoc}
+use mathlib.Core.List.{List, [], _∷_, _++_, map}
 use mathlib.Core.Option.{none, some}
 use mathlib.Core.Logic.{_⊎_, inl, inr, ⊎-elim}
 use lib.Dec.{eqb}
@@ -41,6 +41,10 @@ module _ {A : Type 0} (f : A → Bool) {l rest : List A} {a : A} (s : l ≡ a �
   pub any-miss : f a ≡ false → any f l ≡ any f rest
   any-miss t = rw (s, t)
 
+pub any-append : {A : Type 0} (f : A → Bool) (l m : List A) → any f (l ++ m) ≡ (any f l || any f m)
+any-append f [] m = refl
+any-append f (x ∷ l) m = rw (any-append f l m, or-assoc)
+
 pub any-false : {A : Type 0} (f : A → Bool) (l : List A) (a : A) → any f l ≡ false → In a l → f a ≡ false
 any-false f (x ∷ l) a e (inl i) = by-test (f x)
     (λ y. let j : true ≡ false = rw y at e in cc)
@@ -76,6 +80,10 @@ is-in k [] e = absurd (true≢false (sym e))
 is-in k (x ∷ l) e = by-test (samePort k x)
     (λ y. inl (same-port k x y))
     (λ n. inr (is-in k l (rw n at e)))
+
+-- a list with one port behind it
+pub in-behind : (p q : Port) (l : List Port) → isIn p (l ++ q ∷ []) ≡ (isIn p l || samePort p q)
+in-behind p q l = any-append (samePort p) l (q ∷ []) ∙ ap (λ b. isIn p l || b) (or-false _)
 
 -- the places
 pub lookup-in : (r : Registry) (x : ℕ) (p : Plugin) → lookup r x ≡ some p → In p (plugins r)
