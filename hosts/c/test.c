@@ -455,6 +455,23 @@ static void last_id(void) {
     writing();
 }
 
+// E4: a child whose anchor its parent depends on begins; one that declares its anchor never does, and hands it down.
+static void own_anchor(void) {
+    const uint64_t four[] = {4};
+    OPENED(vaskelbi_open(m, 7, 0));
+    TOLD(vaskelbi_register(m, 90, 0, 1, none, 0, four, 1, none, 0, out), IS(0));
+    TOLD(vaskelbi_register_child(m, 0, 4, 0, 2, none, 0, none, 0, none, 0, out), IS(1));
+    LISTED(vaskelbi_list_dependencies(m, 1, 0, buffer, 96, out), 0, NONE);
+    TOLD(vaskelbi_begin(m, 1, out), IS(7, 1, 1, 1));
+    OPENED(vaskelbi_open(m, 7, 0));
+    TOLD(vaskelbi_register(m, 90, 0, 1, none, 0, four, 1, none, 0, out), IS(0));
+    TOLD(vaskelbi_register_child(m, 0, 4, 0, 2, none, 0, four, 1, none, 0, out), IS(1));
+    LISTED(vaskelbi_list_dependencies(m, 1, 0, buffer, 96, out), 0, IS(4, 0));
+    REFUSED(vaskelbi_begin(m, 1, out), 14);
+    TOLD(vaskelbi_register_child(m, 1, 91, 0, 3, none, 0, none, 0, none, 0, out), IS(2));
+    LISTED(vaskelbi_list_dependencies(m, 2, 0, buffer, 96, out), 0, IS(4, 0));
+}
+
 // 48 dependencies are inherited over three plugins, 16 keys in three realms; then the rows are filled.
 static void long_lists(void) {
     uint64_t realms[32];
@@ -585,6 +602,7 @@ int main(void) {
     retiring();
     full();
     last_id();
+    own_anchor();
     long_lists();
     exhausted();
     example();

@@ -130,8 +130,8 @@ uint64_t vaskelbi_register(vaskelbi_registry *registry, uint64_t key, uint64_t r
                            const uint64_t *realms, size_t realms_len, const uint64_t *dependencies, size_t dependencies_len,
                            const uint64_t *provisions, size_t provisions_len, vaskelbi_answer *out);
 
-/* Registers a plugin under a parent, whose dependencies it inherits. Refuses 4, 5, 1 and 2 of the parent, 3 if the parent is
- * Unloading, 6, 7, 8, 9, 10, 11, 12. Answers the new id. */
+/* Registers a plugin under a parent, whose dependencies it inherits, but for its own provisions and anchor. Refuses 4, 5, 1 and 2
+ * of the parent, 3 if the parent is Unloading, 6, 7, 8, 9, 10, 11, 12. Answers the new id. */
 uint64_t vaskelbi_register_child(vaskelbi_registry *registry, uint64_t parent, uint64_t key, uint64_t realm, uint64_t payload,
                                  const uint64_t *realms, size_t realms_len, const uint64_t *dependencies, size_t dependencies_len,
                                  const uint64_t *provisions, size_t provisions_len, vaskelbi_answer *out);

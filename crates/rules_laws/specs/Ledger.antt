@@ -13,7 +13,7 @@ use Rattle.rules.specs.Basics.{first, twice, sum, last}
 use Rattle.rules.specs.declared.Port.{Port}
 use Rattle.rules.specs.Holds.{Plugin, Registry, plugins, lookup, count, provider, opened, rowsOf, sumRows, rowsInUse}
 use Rattle.rules.specs.Outcomes.{Answer, Refused, Accepted, Outcome, tells, refusing, accepting, writes, stores, adds, removes, checked, found, answerOf, after}
-use Rattle.rules.specs.Ports.{badRealms, realmsOf, resolve}
+use Rattle.rules.specs.Ports.{badRealms, resolve}
 use Rattle.rules.specs.Dependencies.{dependencyList}
 use Rattle.rules.specs.Registration.{Definition, parentOf, inheritedFrom, resolved, unoffered, dependenciesUnder, dependenciesOf, newPlugin, register}
 use Rattle.rules.specs.Retirement.{retire, remove}

@@ -32,13 +32,13 @@ impl Port {
 /// What a registration is given.
 #[derive(Clone, Copy, Debug, PartialEq, Eq)]
 pub struct Definition<'a> {
-    /// The parent's id, if there is one.
+    /// The parent's id, if there is one. Its dependencies are inherited, but for the new plugin's own provisions and anchor.
     pub parent: Option<u64>,
     /// A port of its own, which has no value.
     pub anchor: Port,
     /// The realm list: key, realm, key, realm.
     pub realms: &'a [u64],
-    /// The keys it depends on.
+    /// The keys it depends on. With its own provision or anchor among them it can never begin.
     pub dependencies: &'a [u64],
     /// The keys it provides.
     pub provisions: &'a [u64],
