@@ -6,7 +6,6 @@ use Rattle.memory_values.proofs as memory_values
 use Rattle.registry_ready_finish.proofs as registry_ready_finish
 use Rattle.registry_values.proofs as registry_values
 use Rattle.registry_offer.proofs as registry_offer
-use Rattle.registry_checks.proofs as registry_checks
 use Rattle.registry_register.proofs as registry_register
 use Rattle.outcome.specs.One.{One}
 use Rattle.outcome.specs.Equations.{by-equation, memory-alone, one-outcome, one-with-memory}
@@ -56,14 +55,14 @@ registry-values-declares κs a r s ms ns p q = one-outcome whether-exact p q
 pub registry-offer-offer : One registry_offer.offer.ended registry_offer.offer.Reads.Learnt
 registry-offer-offer κs a r s ms ns p q = one-with-memory done-exact p q
 
-pub registry-checks-early-verdict : One registry_checks.«early_verdict».ended registry_checks.«early_verdict».Reads.Learnt
-registry-checks-early-verdict κs a r s ms ns p q = by-equation p q
+pub registry-register-early-verdict : One registry_register.«early_verdict».ended registry_register.«early_verdict».Reads.Learnt
+registry-register-early-verdict κs a r s ms ns p q = by-equation p q
 
-pub registry-checks-claim-verdict : One registry_checks.«claim_verdict».ended registry_checks.«claim_verdict».Reads.Learnt
-registry-checks-claim-verdict κs a r s ms ns p q = by-equation p q
+pub registry-register-claim-verdict : One registry_register.«claim_verdict».ended registry_register.«claim_verdict».Reads.Learnt
+registry-register-claim-verdict κs a r s ms ns p q = by-equation p q
 
-pub registry-checks-late-verdict : One registry_checks.«late_verdict».ended registry_checks.«late_verdict».Reads.Learnt
-registry-checks-late-verdict κs a r s ms ns p q = by-equation p q
+pub registry-register-late-verdict : One registry_register.«late_verdict».ended registry_register.«late_verdict».Reads.Learnt
+registry-register-late-verdict κs a r s ms ns p q = by-equation p q
 
 pub registry-register-register : One registry_register.register.ended registry_register.register.Reads.Learnt
 registry-register-register κs a r s ms ns p q = one-with-memory number-exact p q

@@ -23,8 +23,8 @@ use Rattle.memory_entry.specs.declared.Entry.{Entry}
 use Rattle.rules.specs.Registration.{roomChecks}
 use Rattle.rules.specs.declared.Done.{Done}
 use Rattle.rules.specs.declared.Done.the-variants as done
-use Rattle.registry_checks.specs.Verdicts.{verdict}
-use Rattle.registry_checks.specs.Runs.{passes}
+use Rattle.registry_register.specs.Verdicts.{verdict}
+use Rattle.registry_register.specs.Runs.{passes}
 use Rattle.registry_register.specs.Written.{newEntry, lateVerdict, settledAnswer, settledWords}
 
 -- as many rows as there are

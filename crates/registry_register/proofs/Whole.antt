@@ -40,10 +40,10 @@ use Rattle.ports_inherited.specs.Blocks.{fitted}
 use Rattle.ports_inherited.specs.Answers.{dependency-law, fitted-law, fitted-long}
 use Rattle.rules.specs.declared.Done.{Done}
 use Rattle.rules.specs.declared.Done.the-variants as done
-use Rattle.registry_checks.specs.declared.Early.{Early}
-use Rattle.registry_checks.specs.declared.Early.the-variants as early
-use Rattle.registry_checks.specs.Verdicts.{verdict, under, placeAbove}
-use Rattle.registry_checks.specs.Runs.{under-passed, under-refused, passes, RefusesWith, asks, claims, room, early-refuses, claims-refuse, late-refuses, all-pass}
+use Rattle.registry_register.specs.declared.checks.Early.{Early}
+use Rattle.registry_register.specs.declared.checks.Early.the-variants as early
+use Rattle.registry_register.specs.Verdicts.{verdict, under, placeAbove}
+use Rattle.registry_register.specs.Runs.{under-passed, under-refused, passes, RefusesWith, asks, claims, room, early-refuses, claims-refuse, late-refuses, all-pass}
 use Rattle.registry_register.specs.Parts.{dependenciesAt}
 use Rattle.registry_register.specs.Written.{definition, newEntry, writtenAt, addedTo, lateVerdict, settledAnswer, settledWords}
 use Rattle.rules.specs.declared.Number.{Number}

@@ -1,3 +1,5 @@
+pub mod Verdicts
+pub mod Runs
 pub mod Parts
 pub mod Written
 pub mod Refines

@@ -20,7 +20,7 @@ use Rattle.memory_places.specs.Changes.{freeAt}
 use Rattle.memory_entry.specs.Entries.{filledPlace}
 use Rattle.memory_entry.specs.Filled.{filled-size}
 use Rattle.memory_entry.specs.declared.Entry.{Entry}
-use Rattle.registry_checks.specs.Verdicts.{verdict}
+use Rattle.registry_register.specs.Verdicts.{verdict}
 use Rattle.rules.specs.declared.Done.{Done}
 use Rattle.rules.specs.declared.Done.the-variants as done
 use Rattle.registry_register.specs.Parts.{tagOf, wordOf}

@@ -17,11 +17,17 @@ use memory::Parent;
 use memory::Place;
 use memory::WORDS;
 use memory_entry::Entry;
-use registry_checks::Early;
 use rules::Done;
 use rules::Number;
 use rules::Port;
 use rules::refusal;
+
+mod checks;
+
+pub use checks::Early;
+pub use checks::claim_verdict;
+pub use checks::early_verdict;
+pub use checks::late_verdict;
 
 // The dependency rows of the parent at this place; none without a parent.
 fn inherited(m: &[u64; WORDS], parent: Place) -> &[u64]
@@ -112,7 +118,7 @@ fn settle(
 {
     let claimed = claims.len() / 2;
     let rows = memory_places::rows_in_use(m);
-    if let Done::Refused(n) = registry_checks::late_verdict(m, rows, count, claimed) {
+    if let Done::Refused(n) = checks::late_verdict(m, rows, count, claimed) {
         return Number::Refused(n);
     }
     let Place::At(at) = memory_places::lowest_free(m) else {
@@ -145,13 +151,13 @@ pub fn register(
         (definition parent anchor (now (realms .entry)) (now (dependencies .entry)) (now (provisions .entry)) payload))
         (now (m .entry)) (numberAnswer r) (now (m .exit)) ⌝ }
 {
-    let above = match registry_checks::early_verdict(m, parent, realms, dependencies, provisions) {
+    let above = match checks::early_verdict(m, parent, realms, dependencies, provisions) {
         Early::Passed(place) => place,
         Early::Refused(n) => return Number::Refused(n),
     };
     let claimed = ports_resolved::claims(Port::DEFAULT_REALM, anchor, realms, provisions);
     let claims = first_rows(&claimed.ports, claimed.count);
-    if let Done::Refused(n) = registry_checks::claim_verdict(m, claims) {
+    if let Done::Refused(n) = checks::claim_verdict(m, claims) {
         return Number::Refused(n);
     }
     let provided = memory_lists::some_words(claims, 2, claims.len());

@@ -4,10 +4,10 @@ use mathlib.Core.Bool.{false}
 use borrow.Author.Needs.{needs}
 use Rattle.rules.specs.Holds.{isUnloading}
 use Rattle.memory.specs.declared.Place.the-variants.{At}
-use Rattle.registry_checks.specs.declared.Early.the-variants as early
-use Rattle.registry_checks.proofs.Laws.{of-parent, parent-none, parent-unknown, parent-retired, parent-stands, parent-unloading}
-use Rattle.registry_checks.proofs.parent_verdict.Statement.{statement}
-use Rattle.registry_checks.proofs.parent_verdict.Tie as tie
+use Rattle.registry_register.specs.declared.checks.Early.the-variants as early
+use Rattle.registry_register.proofs.checks.Laws.{of-parent, parent-none, parent-unknown, parent-retired, parent-stands, parent-unloading}
+use Rattle.registry_register.proofs.checks.parent_verdict.Statement.{statement}
+use Rattle.registry_register.proofs.checks.parent_verdict.Tie as tie
 
 enum-known-parent : tie.Need-enum-known-parent
 enum-known-parent c = search needs

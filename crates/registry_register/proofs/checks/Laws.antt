@@ -27,10 +27,10 @@ use Rattle.ports_resolved.specs.Keys.{keysRepeat}
 use Rattle.ports_resolved.specs.Answers.{keys-repeat-in}
 use Rattle.rules.specs.declared.Done.{Done}
 use Rattle.rules.specs.declared.Done.the-variants.{Accepted, Refused}
-use Rattle.registry_checks.specs.declared.Early.{Early}
-use Rattle.registry_checks.specs.declared.Early.the-variants as early
-use Rattle.registry_checks.specs.Verdicts.{verdict, under, placeAbove}
-use Rattle.registry_checks.specs.Runs.{under-passed, under-refused, verdict-first, verdict-then}
+use Rattle.registry_register.specs.declared.checks.Early.{Early}
+use Rattle.registry_register.specs.declared.checks.Early.the-variants as early
+use Rattle.registry_register.specs.Verdicts.{verdict, under, placeAbove}
+use Rattle.registry_register.specs.Runs.{under-passed, under-refused, verdict-first, verdict-then}
 
 -- 9, 10, 11, 12
 next-of : (m : List ℕ) (n : ℕ) → n ≡ word m nextWord → n ≡ view m .next

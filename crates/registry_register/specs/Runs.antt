@@ -13,8 +13,8 @@ use Rattle.rules_laws.specs.Laws.Tests as tests
 use Rattle.memory.specs.declared.Place.{Place}
 use Rattle.rules.specs.declared.Done.{Done}
 use Rattle.rules.specs.declared.Done.the-variants.{Accepted, Refused}
-use Rattle.registry_checks.specs.declared.Early.the-variants as early
-use Rattle.registry_checks.specs.Verdicts.{verdict, under}
+use Rattle.registry_register.specs.declared.checks.Early.the-variants as early
+use Rattle.registry_register.specs.Verdicts.{verdict, under}
 
 -- a run that refuses does not pass
 clash : {A : Type 0} (n : ℕ) → Refused n ≡ Accepted → A

@@ -13,8 +13,8 @@ use Rattle.memory.specs.declared.Place.{Place}
 use Rattle.memory.specs.declared.Place.the-variants.{None}
 use Rattle.rules.specs.declared.Done.{Done}
 use Rattle.rules.specs.declared.Done.the-variants as done
-use Rattle.registry_checks.specs.declared.Early.{Early}
-use Rattle.registry_checks.specs.declared.Early.the-variants as early
+use Rattle.registry_register.specs.declared.checks.Early.{Early}
+use Rattle.registry_register.specs.declared.checks.Early.the-variants as early
 
 -- passed, or the number of the first check that refuses
 unfoldable pub verdict : List Check → Done

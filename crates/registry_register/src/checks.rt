@@ -5,7 +5,7 @@ ghost use Rattle.rules.specs.Ports.{pairs};
 ghost use Rattle.rules.specs.Registration.{parentChecks, askedChecks, claimChecks, roomChecks};
 ghost use Rattle.memory.specs.View.{view};
 ghost use Rattle.memory.specs.Writes.{parentId};
-ghost use Rattle.registry_checks.specs.Verdicts.{verdict, under, placeAbove, asked};
+ghost use Rattle.registry_register.specs.Verdicts.{verdict, under, placeAbove, asked};
 use memory::Parent;
 use memory::Place;
 use memory::WORDS;

@@ -2,10 +2,10 @@
 use mathlib.Core.Path.{sym, _∙_}
 use Rattle.memory.specs.View.{view}
 use borrow.Author.Needs.{needs}
-use Rattle.registry_checks.specs.Verdicts.{asked, placeAbove}
-use Rattle.registry_checks.proofs.Laws.{early-4, early-5-dependencies, early-5-provisions, early-parent, early-6, early-pass}
-use Rattle.registry_checks.proofs.early_verdict.Statement.{statement}
-use Rattle.registry_checks.proofs.early_verdict.Tie as tie
+use Rattle.registry_register.specs.Verdicts.{asked, placeAbove}
+use Rattle.registry_register.proofs.checks.Laws.{early-4, early-5-dependencies, early-5-provisions, early-parent, early-6, early-pass}
+use Rattle.registry_register.proofs.checks.early_verdict.Statement.{statement}
+use Rattle.registry_register.proofs.checks.early_verdict.Tie as tie
 
 bad-realms-requires : tie.Need-bad-realms-requires
 bad-realms-requires c κs = search needs

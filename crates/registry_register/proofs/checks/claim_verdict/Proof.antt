@@ -2,9 +2,9 @@
 use borrow.Author.Needs.{needs}
 use Rattle.rules.specs.Ports.{pairs}
 use Rattle.memory.specs.View.{view}
-use Rattle.registry_checks.proofs.Laws.{claim-7, claim-8, claim-pass}
-use Rattle.registry_checks.proofs.claim_verdict.Statement.{statement}
-use Rattle.registry_checks.proofs.claim_verdict.Tie as tie
+use Rattle.registry_register.proofs.checks.Laws.{claim-7, claim-8, claim-pass}
+use Rattle.registry_register.proofs.checks.claim_verdict.Statement.{statement}
+use Rattle.registry_register.proofs.checks.claim_verdict.Tie as tie
 
 repeated-requires : tie.Need-repeated-requires
 repeated-requires c κs = search needs

@@ -1,9 +1,9 @@
 -- `late_verdict` meets its contract: 9, 10, 11, 12 by three differences that cannot wrap, or none.
 use native.Mathlib.Omega.{arith}
 use borrow.Author.Needs.{needs}
-use Rattle.registry_checks.proofs.Laws.{late-no-id, late-full, late-long, late-rows, late-pass}
-use Rattle.registry_checks.proofs.late_verdict.Statement.{statement}
-use Rattle.registry_checks.proofs.late_verdict.Tie as tie
+use Rattle.registry_register.proofs.checks.Laws.{late-no-id, late-full, late-long, late-rows, late-pass}
+use Rattle.registry_register.proofs.checks.late_verdict.Statement.{statement}
+use Rattle.registry_register.proofs.checks.late_verdict.Tie as tie
 
 registered-requires : tie.Need-registered-requires
 registered-requires c κs = search needs
