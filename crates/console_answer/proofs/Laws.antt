@@ -12,7 +12,8 @@ use borrow.Author.Tests.{lt-ltb, le-ltb, eq-eqb, ne-eqb}
 use Rattle.rules.specs.Basics.{pick}
 use Rattle.text_form.specs.Digits.{decimalOf}
 use Rattle.console_answer.specs.Pages.{Page, upTo, room, putOn, numberOn, numbersOn}
-use Rattle.console_answer.specs.Answers.{okWord, yesWord, noWord, noneWord, wordOn, toldIn, answerIn, refusalOn, answerOn, orNoneOn, answerOrNoneOn, saysYes, answerYesNoOn}
+use Rattle.console_answer.specs.Answers.{okWord, yesWord, noWord, noneWord, wordOn, toldIn, answerIn, refusalOn, answerOn, orNoneOn, answerOrNoneOn}
+use Rattle.console_answer.specs.Answers.{saysYes, answerYesNoOn}
 
 module _ (text bytes : List ℕ) (from : ℕ) where
   pub left-out : room < from + length bytes → upTo text from ≡ putOn (upTo text from) bytes
@@ -24,7 +25,8 @@ module _ (text bytes : List ℕ) (from : ℕ) where
   one-more i h k = rw add-one (paste-suc text from bytes i 0 h k)
 
   -- All of them.
-  pub all-put : (now : List ℕ) (i : ℕ) → from + length bytes ≤ room → i ≡ length bytes → now ≡ paste text from bytes i → upTo now (from + length bytes) ≡ putOn (upTo text from) bytes
+  pub all-put : (now : List ℕ) (i : ℕ) → from + length bytes ≤ room → i ≡ length bytes → now ≡ paste text from bytes i
+      → upTo now (from + length bytes) ≡ putOn (upTo text from) bytes
   unfolding putOn
   all-put now i h e p = rw (le-ltb room (from + length bytes) h, p, e, take-all (length bytes) bytes (omega arith))
 
@@ -47,7 +49,8 @@ none-told [] e = refl
 none-told (x ∷ l) e = absurd (omega arith)
 
 pub all-told : (out : List ℕ) → length out - 1 < getD out 0 0 → take (length out - 1) (drop 1 out) ≡ toldIn out
-all-told out h = take-all (length out - 1) (drop 1 out) (omega (arith, length-drop 1 out)) ∙ sym (take-all (getD out 0 0) (drop 1 out) (omega (arith, length-drop 1 out)))
+all-told out h = take-all (length out - 1) (drop 1 out) (omega (arith, length-drop 1 out))
+    ∙ sym (take-all (getD out 0 0) (drop 1 out) (omega (arith, length-drop 1 out)))
 
 pub some-told : (out : List ℕ) → take (getD out 0 0 + 1 - 1) (drop 1 out) ≡ toldIn out
 some-told out =
@@ -80,7 +83,8 @@ module _ (p q r : Page) (s : ℕ) (l : List ℕ) where
   pub accepted-or-none : s ≡ 0 → q ≡ putOn p okWord → r ≡ orNoneOn q l → r ≡ answerOrNoneOn p (answerIn s l)
   accepted-or-none h e f = f ∙ rw (eq-eqb s 0 h, e)
 
-  pub accepted-yes-no : (m : List ℕ) (b : Bool) → s ≡ 0 → q ≡ putOn p okWord → m ≡ l → b ≡ saysYes m → r ≡ wordOn q (pick b yesWord noWord) → r ≡ answerYesNoOn p (answerIn s l)
+  pub accepted-yes-no : (m : List ℕ) (b : Bool) → s ≡ 0 → q ≡ putOn p okWord → m ≡ l → b ≡ saysYes m → r ≡ wordOn q (pick b yesWord noWord)
+      → r ≡ answerYesNoOn p (answerIn s l)
   accepted-yes-no m b h e g y f = f ∙ rw (eq-eqb s 0 h, e, y, g)
 
 module _ (p r : Page) (s : ℕ) (l : List ℕ) (h : s ≡ 0 → ⊥) where

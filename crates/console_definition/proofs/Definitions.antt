@@ -62,10 +62,12 @@ module _ (line : List ℕ) (from : ℕ) (w : Span) (e : w ≡ nextWord line from
         let f : sameNumbers (wordFrom line from) name ≡ true = rw e at h in
         rw (e, f)
 
-    pub list-here : (after : List ℕ) (run : Run) → sameNumbers (bytesOf line w) name ≡ true → Gathered line (w .stop) before after run → Behind (listBehind line from name) before after (record { found = true; count = run .count; stop = run .stop })
+    pub list-here : (after : List ℕ) (run : Run) → sameNumbers (bytesOf line w) name ≡ true → Gathered line (w .stop) before after run
+        → Behind (listBehind line from name) before after (record { found = true; count = run .count; stop = run .stop })
     list-here after run h g = rw (here h) (record { list = rw (g .count, g .stop); numbers = g .numbers })
 
-    pub list-missing : sameNumbers (bytesOf line w) name ≡ false → Behind (listBehind line from name) before before (record { found = false; count = 0; stop = length line })
+    pub list-missing : sameNumbers (bytesOf line w) name ≡ false
+        → Behind (listBehind line from name) before before (record { found = false; count = 0; stop = length line })
     unfolding listBehind
     list-missing h =
         let f : sameNumbers (wordFrom line from) name ≡ false = rw e at h in
@@ -75,7 +77,8 @@ front : (l : Listed) (before after : List ℕ) (r : Counted) → Behind l before
 front l before after r h = fronted (l .numbers) (r .count) before after (ap (λ (x : Counted). x .count) (h .list)) (h .numbers)
 
 module _ (line : List ℕ) (from : ℕ) where
-  pub head-of : (a b c : Number) (found : Bool) → a ≡ numberIn line from → b ≡ numberIn line (a .stop) → c ≡ numberIn line (b .stop) → found ≡ (a .is && (b .is && c .is)) → record { found = found; key = a .value; realm = b .value; payload = c .value; stop = c .stop } ≡ headIn line from
+  pub head-of : (a b c : Number) (found : Bool) → a ≡ numberIn line from → b ≡ numberIn line (a .stop) → c ≡ numberIn line (b .stop)
+      → found ≡ (a .is && (b .is && c .is)) → record { found = found; key = a .value; realm = b .value; payload = c .value; stop = c .stop } ≡ headIn line from
   unfolding headIn
   head-of a b c found ea eb ec ef = rw (← ea, ← eb, ← ec, ef)
 
@@ -92,7 +95,9 @@ module _ (line : List ℕ) (from : ℕ) where
   unfolding listsIn
   lists-are a b ea eb = rw (eb, ea)
 
-  pub three-of : (a b c : Counted) (r r′ d d′ p p′ : List ℕ) → Behind realmsOf r r′ a → Behind (depsOf a) d d′ b → Behind (provsOf b) p p′ c → (last found : Bool) → last ≡ (c .found && eqb (c .stop) (length line)) → found ≡ (a .found && (b .found && last)) → Three (listsIn line from) r r′ d d′ p p′ (record { found = found; realms = a .count; deps = b .count; provs = c .count })
+  pub three-of : (a b c : Counted) (r r′ d d′ p p′ : List ℕ) → Behind realmsOf r r′ a → Behind (depsOf a) d d′ b → Behind (provsOf b) p p′ c
+      → (last found : Bool) → last ≡ (c .found && eqb (c .stop) (length line)) → found ≡ (a .found && (b .found && last))
+      → Three (listsIn line from) r r′ d d′ p p′ (record { found = found; realms = a .count; deps = b .count; provs = c .count })
   three-of a b c r r′ d d′ p p′ ha hb hc last found el ef =
       rw (lists-are a b (ha .list) (hb .list))
       (record {

@@ -36,27 +36,35 @@ use Rattle.console_line.specs.Console.{After, Leaves, operateBy, operate
 pub same-done : (a b : Done) (text : List ℕ) (place : ℕ) (memory buffer : List ℕ) → a ≡ b → Does b text place memory buffer → Does a text place memory buffer
 same-done a b text place memory buffer e t = rw e t
 
-pub same-left : (a b : After) (text : List ℕ) (place : ℕ) (memory buffer : List ℕ) (slot : Slot) → a ≡ b → Leaves b text place memory buffer slot → Leaves a text place memory buffer slot
+pub same-left : (a b : After) (text : List ℕ) (place : ℕ) (memory buffer : List ℕ) (slot : Slot) → a ≡ b → Leaves b text place memory buffer slot
+    → Leaves a text place memory buffer slot
 same-left a b text place memory buffer slot e t = rw e t
 
 module _ (p : Page) (m : List ℕ) where
   -- What is told of what is asked for is said.
-  pub asked-said : (v : Values) (a : Asked) (q : Page) (status : ℕ) (out : List ℕ) → status ≡ statusBy m a → out ≡ wordsBy m a untold → q ≡ lineEnd (spokenOn p v status (toldIn out)) → q ≡ askedLine p m v a
+  pub asked-said : (v : Values) (a : Asked) (q : Page) (status : ℕ) (out : List ℕ) → status ≡ statusBy m a → out ≡ wordsBy m a untold
+      → q ≡ lineEnd (spokenOn p v status (toldIn out)) → q ≡ askedLine p m v a
   asked-said v a q status out s w e = rw (← s, ← w) e
 
   module _ (buffer : List ℕ) where
     -- What is told of a listing is said.
-    pub list-done : (held : Held) (l : List ℕ) (id from : ℕ) → id ≡ first l → from ≡ second l → (text : List ℕ) (place status : ℕ) (out buffer′ : List ℕ) → Lists m (whichOf held) id from buffer untold status out buffer′ → upTo text place ≡ lineEnd (spokenOn p Numbers status (toldIn out)) → Does (listed p m buffer held l) text place m buffer′
+    pub list-done : (held : Held) (l : List ℕ) (id from : ℕ) → id ≡ first l → from ≡ second l → (text : List ℕ) (place status : ℕ) (out buffer′ : List ℕ)
+        → Lists m (whichOf held) id from buffer untold status out buffer′ → upTo text place ≡ lineEnd (spokenOn p Numbers status (toldIn out))
+        → Does (listed p m buffer held l) text place m buffer′
     list-done held l id from ei ef text place status out buffer′ t e = (e ∙ rw (t .0 .0, t .0 .1, ei, ef), refl, t .1 ∙ rw (ei, ef))
 
     module _ (place : ℕ) (kind : Kind) (l : List ℕ) where
-      pub shown-done : (id : ℕ) → id ≡ first l → kind ≡ Show → (q : Page) → q ≡ shownOn p m id → (text : List ℕ) (at : ℕ) → upTo text at ≡ lineEnd q → Does (numbersLine p m buffer place kind l) text at m buffer
+      pub shown-done : (id : ℕ) → id ≡ first l → kind ≡ Show → (q : Page) → q ≡ shownOn p m id → (text : List ℕ) (at : ℕ) → upTo text at ≡ lineEnd q
+          → Does (numbersLine p m buffer place kind l) text at m buffer
       shown-done id ei k q e text at f = rw (k, ← ei) (f ∙ ap lineEnd e, refl, refl)
 
-      pub buffered-done : (from to : ℕ) → from ≡ first l → to ≡ second l → kind ≡ Buffer → (q : Page) → q ≡ numbersOn (putOn p okWord) (between from to buffer) → (text : List ℕ) (at : ℕ) → upTo text at ≡ lineEnd q → Does (numbersLine p m buffer place kind l) text at m buffer
+      pub buffered-done : (from to : ℕ) → from ≡ first l → to ≡ second l → kind ≡ Buffer → (q : Page)
+          → q ≡ numbersOn (putOn p okWord) (between from to buffer) → (text : List ℕ) (at : ℕ) → upTo text at ≡ lineEnd q
+          → Does (numbersLine p m buffer place kind l) text at m buffer
       buffered-done from to ef et k q e text at f = rw (k, ← ef, ← et) (f ∙ ap lineEnd e, refl, refl)
 
-      pub text-done : (size : ℕ) → size ≡ first l → kind ≡ Text → (text : List ℕ) (at : ℕ) → upTo text at ≡ textOn p m (lentBytes size) → Does (numbersLine p m buffer place kind l) text at m buffer
+      pub text-done : (size : ℕ) → size ≡ first l → kind ≡ Text → (text : List ℕ) (at : ℕ) → upTo text at ≡ textOn p m (lentBytes size)
+          → Does (numbersLine p m buffer place kind l) text at m buffer
       text-done size es k text at e = rw (k, ← es) (e, refl, refl)
 
     -- Numbers stand behind the name: not as many as are due, or as many.
@@ -70,7 +78,8 @@ module _ (p : Page) (m : List ℕ) where
       due false e h = cc
 
   -- The text is said behind the line of an acceptance, and a refusal says its line alone.
-  module _ (lent lent′ out : List ℕ) (status : ℕ) (t : ListsAndTells m (Write writing.Text lent) untold status out lent′) (q : Page) (e : q ≡ lineEnd (spokenOn p Numbers status (toldIn out))) where
+  module _ (lent lent′ out : List ℕ) (status : ℕ) (t : ListsAndTells m (Write writing.Text lent) untold status out lent′) (q : Page)
+      (e : q ≡ lineEnd (spokenOn p Numbers status (toldIn out))) where
     pub no-text : (status ≡ 0 → ⊥) → q ≡ textOn p m lent
     unfolding textOn
     no-text h = rw (← t .0 .0, ← t .0 .1, ne-eqb status 0 h) e
@@ -80,10 +89,12 @@ module _ (p : Page) (m : List ℕ) where
     text-put h r bytes b f = f ∙ rw (b, t .1, e, ← t .0 .0, ← t .0 .1, eq-eqb status 0 h)
 
   module _ (buffer : List ℕ) (s : Slot) (line : List ℕ) where
-    pub operate-is : (place from : ℕ) (row r : Row) → row ≡ rowAt place → row ≡ r → operate p m buffer s line place from ≡ operateBy r p m buffer s line place from
+    pub operate-is : (place from : ℕ) (row r : Row) → row ≡ rowAt place → row ≡ r
+        → operate p m buffer s line place from ≡ operateBy r p m buffer s line place from
     operate-is place from row r e f = ap (λ (r : Row). operateBy r p m buffer s line place from) (sym e ∙ f)
 
-    pub answered-is : (w : Span) → w ≡ nextWord line 0 → (place : ℕ) → place ≡ placeAmong (bytesOf line w) names → answered p m buffer s line ≡ operate p m buffer s line place (w .stop)
+    pub answered-is : (w : Span) → w ≡ nextWord line 0 → (place : ℕ) → place ≡ placeAmong (bytesOf line w) names
+        → answered p m buffer s line ≡ operate p m buffer s line place (w .stop)
     unfolding answered
     answered-is w e place d = rw (d, e)
 

@@ -75,7 +75,8 @@ lentBytes size = take size (replicate textRoom 0)
 -- Numbers, as many as are due: show ID, buffer FROM TO, a list, what the registry is asked for, or write SIZE.
 abbrev pub numbersLine : Page → List ℕ → List ℕ → ℕ → Kind → List ℕ → Done
 numbersLine p m buffer place Show l = record { page = lineEnd (shownOn p m (first l)); memory = m; buffer = buffer }
-numbersLine p m buffer place Buffer l = record { page = lineEnd (numbersOn (putOn p okWord) (between (first l) (second l) buffer)); memory = m; buffer = buffer }
+numbersLine p m buffer place Buffer l = record
+    { page = lineEnd (numbersOn (putOn p okWord) (between (first l) (second l) buffer)); memory = m; buffer = buffer }
 numbersLine p m buffer place (Lists held) l = listed p m buffer held l
 numbersLine p m buffer place (Registry v) l = record { page = askedLine p m v (askedAt place l); memory = leftBy m (askedAt place l); buffer = buffer }
 numbersLine p m buffer place Text l = record { page = textOn p m (lentBytes (first l)); memory = m; buffer = buffer }

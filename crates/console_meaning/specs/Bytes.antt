@@ -52,7 +52,8 @@ module _ (text m : List ℕ) (size : ℕ) (e : length text ≡ room) where
       let word = stands-put (upTo text 0) [] okWord (blank-page text e) (omega arith) in
       let space = stands-put (putOn (upTo text 0) okWord) okWord (32 ∷ []) word (omega arith) in
       let number = stands-put (putOn (putOn (upTo text 0) okWord) (32 ∷ [])) (bytes "ok ") n space (omega arith) in
-      let line = stands-put (numberOn (putOn (upTo text 0) okWord) (length t)) (bytes "ok " ++ n) (10 ∷ []) number (omega (arith, length-append (bytes "ok ") n)) in
+      let line = stands-put (numberOn (putOn (upTo text 0) okWord) (length t)) (bytes "ok " ++ n) (10 ∷ []) number
+      (omega (arith, length-append (bytes "ok ") n)) in
       rw (write-said (upTo text 0) m size h)
       (stands-put (lineEnd (numberOn (putOn (upTo text 0) okWord) (length t))) (bytes "ok " ++ n ++ (10 ∷ [])) t line
       (omega (arith, length-append (bytes "ok ") n, length-append (bytes "ok " ++ n) (10 ∷ []))))

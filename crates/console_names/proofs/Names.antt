@@ -38,7 +38,8 @@ module _ (w names : List ℕ) (at : ℕ) (s : Span) (e : s ≡ nextWord names at
         long : length (bytesOf names s) ≡ s .stop - s .start
         long = length-take-le (s .stop - s .start) (drop (s .start) names) (rw (length-drop (s .start) names) (omega arith))
 
-        go : (b : List ℕ) → bytesOf names s ≡ b → words (drop at names) ≡ closed b (words (drop (s .stop) names)) → words (drop at names) ≡ b ∷ words (drop (s .stop) names)
+        go : (b : List ℕ) → bytesOf names s ≡ b → words (drop at names) ≡ closed b (words (drop (s .stop) names))
+            → words (drop at names) ≡ b ∷ words (drop (s .stop) names)
         go [] d c =
             let z : 0 ≡ s .stop - s .start = sym (ap length d) ∙ long in
             absurd (omega arith)

@@ -36,7 +36,8 @@ module _ (u : Parent) (h : Head) (l : ThreeLists) where
       go None f = rw (f, and-false)
       go Bad f = refl
 
-  pub all-there : (realms deps provs : List ℕ) → h .found ≡ true → l .found ≡ true → realms ≡ l .realms → deps ≡ l .deps → provs ≡ l .provs → registration (definitionOf u h l) ≡ underParent u (port (h .key) (h .realm)) realms deps provs (h .payload)
+  pub all-there : (realms deps provs : List ℕ) → h .found ≡ true → l .found ≡ true → realms ≡ l .realms → deps ≡ l .deps → provs ≡ l .provs
+      → registration (definitionOf u h l) ≡ underParent u (port (h .key) (h .realm)) realms deps provs (h .payload)
   all-there realms deps provs hf lf a b c = go u
     where
       go : (u : Parent) → registration (definitionOf u h l) ≡ underParent u (port (h .key) (h .realm)) realms deps provs (h .payload)

@@ -71,7 +71,8 @@ module _ (m : List ℕ) (id : ℕ) (known : Registered m id) where
     unfolding fieldOn
     field-said p r e = e ∙ ap (λ (l : List ℕ). numbersOn p l) numbers
 
-  pub life-said : (p₀ p₁ p₂ p₃ p₄ p₅ : Page) → p₁ ≡ fieldOn p₀ m id PhaseOf → p₂ ≡ fieldOn p₁ m id RetiredMark → p₃ ≡ fieldOn p₂ m id Generation → p₄ ≡ fieldOn p₃ m id Revision → p₅ ≡ fieldOn p₄ m id Payload → p₅ ≡ lifeOn p₀ m id
+  pub life-said : (p₀ p₁ p₂ p₃ p₄ p₅ : Page) → p₁ ≡ fieldOn p₀ m id PhaseOf → p₂ ≡ fieldOn p₁ m id RetiredMark → p₃ ≡ fieldOn p₂ m id Generation
+      → p₄ ≡ fieldOn p₃ m id Revision → p₅ ≡ fieldOn p₄ m id Payload → p₅ ≡ lifeOn p₀ m id
   unfolding lifeOn
   life-said p₀ p₁ p₂ p₃ p₄ p₅ e₁ e₂ e₃ e₄ e₅ = e₅ ∙ rw (e₄, e₃, e₂, e₁)
 
@@ -87,16 +88,20 @@ module _ (m : List ℕ) (id : ℕ) (known : Registered m id) where
     unfolding rootOn
     some-queued h = root-queued p q (valuesOf (asked m id RootOf)) root-said (λ d. h (count RootOf s out out′ k t ∙ d))
 
-  pub all-shown : (s : ℕ) (out out′ : List ℕ) → length out ≡ 7 → Tells (asked m id Parent) out s out′ → (p₀ p₁ p₂ p₃ p₄ p₅ : Page) → p₁ ≡ putOn p₀ okWord → p₂ ≡ orNoneOn p₁ (toldIn out′) → p₃ ≡ lifeOn p₂ m id → p₄ ≡ rootOn p₃ m id → p₅ ≡ fieldOn p₄ m id Anchor → p₅ ≡ shownOn p₀ m id
+  pub all-shown : (s : ℕ) (out out′ : List ℕ) → length out ≡ 7 → Tells (asked m id Parent) out s out′ → (p₀ p₁ p₂ p₃ p₄ p₅ : Page) → p₁ ≡ putOn p₀ okWord
+      → p₂ ≡ orNoneOn p₁ (toldIn out′) → p₃ ≡ lifeOn p₂ m id → p₄ ≡ rootOn p₃ m id → p₅ ≡ fieldOn p₄ m id Anchor → p₅ ≡ shownOn p₀ m id
   unfolding shownOn
-  all-shown s out out′ k t p₀ p₁ p₂ p₃ p₄ p₅ e₁ e₂ e₃ e₄ e₅ = e₅ ∙ rw (e₄, e₃, e₂, e₁, numbers Parent s out out′ k t) (ap (λ (a : Answer). shownAs p₀ m id a) (sym (accepted Parent)))
+  all-shown s out out′ k t p₀ p₁ p₂ p₃ p₄ p₅ e₁ e₂ e₃ e₄ e₅ = e₅
+      ∙ rw (e₄, e₃, e₂, e₁, numbers Parent s out out′ k t) (ap (λ (a : Answer). shownAs p₀ m id a) (sym (accepted Parent)))
 
 -- An id that is no plugin's is refused, and no number is told with it.
-refuses : (m : List ℕ) (id s : ℕ) (out′ : List ℕ) (p r : Page) (o : Option Plugin) → Tells (answered o Parent) (replicate 7 0) s out′ → (s ≡ 0 → ⊥) → r ≡ answerOn p (answerIn s (toldIn out′)) → r ≡ shownAs p m id (answered o Parent)
+refuses : (m : List ℕ) (id s : ℕ) (out′ : List ℕ) (p r : Page) (o : Option Plugin) → Tells (answered o Parent) (replicate 7 0) s out′ → (s ≡ 0 → ⊥)
+    → r ≡ answerOn p (answerIn s (toldIn out′)) → r ≡ shownAs p m id (answered o Parent)
 unfolding answered found statusOf wordsOf
 refuses m id s out′ p r none t h e = e ∙ rw (t .0, t .1)
 refuses m id s out′ p r (some q) t h e = absurd (h (t .0))
 
-pub refusal-shown : (m : List ℕ) (id s : ℕ) (out′ : List ℕ) (p r : Page) → Tells (asked m id Parent) (replicate 7 0) s out′ → (s ≡ 0 → ⊥) → r ≡ answerOn p (answerIn s (toldIn out′)) → r ≡ shownOn p m id
+pub refusal-shown : (m : List ℕ) (id s : ℕ) (out′ : List ℕ) (p r : Page) → Tells (asked m id Parent) (replicate 7 0) s out′ → (s ≡ 0 → ⊥)
+    → r ≡ answerOn p (answerIn s (toldIn out′)) → r ≡ shownOn p m id
 unfolding shownOn askPlugin answered
 refusal-shown m id s out′ p r = refuses m id s out′ p r (lookup (view m) id)

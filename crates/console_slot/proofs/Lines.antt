@@ -20,7 +20,8 @@ module _ (p : Page) (s : Slot) (line : List ℕ) (from : ℕ) (w : Span) (e : w 
       let k : numbersBehind line (nextWord line from .stop) ≡ none = rw e at h in
       rw k
 
-  pub named-line : (l : List ℕ) → numbersBehind line (w .stop) ≡ some l → (t : Option Decided) → t ≡ decidedBy s (bytesOf line w) l → slotLine p s line from ≡ decidedOr p s t
+  pub named-line : (l : List ℕ) → numbersBehind line (w .stop) ≡ some l → (t : Option Decided) → t ≡ decidedBy s (bytesOf line w) l
+      → slotLine p s line from ≡ decidedOr p s t
   named-line l h t d =
       let k : numbersBehind line (nextWord line from .stop) ≡ some l = rw e at h in
       rw (k, d, e)

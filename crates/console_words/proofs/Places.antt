@@ -39,6 +39,7 @@ module _ (line : List ℕ) (from : ℕ) where
   unfolding nextWord
   none-left h = record { word = rw (lt-ltb (length line) from h); order = omega arith; within = omega arith }
 
-  pub one-word : (start stop : ℕ) → from ≤ length line → start ≡ from + spaces (drop from line) → stop ≡ start + wordLength (drop start line) → stop ≤ length line → Spanned line from (record { start = start; stop = stop })
+  pub one-word : (start stop : ℕ) → from ≤ length line → start ≡ from + spaces (drop from line) → stop ≡ start + wordLength (drop start line)
+      → stop ≤ length line → Spanned line from (record { start = start; stop = stop })
   unfolding nextWord
   one-word start stop h e d l = record { word = rw (le-ltb (length line) from h, ← e, d); order = omega arith; within = l }

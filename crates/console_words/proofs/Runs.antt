@@ -27,7 +27,8 @@ module _ (line l : List ℕ) (at count : ℕ) where
     pub run-stop : numberOf (bytesOf line w) ≡ none → ahead l (runFrom (2048 - count) line at) ≡ record { found = l; stop = w .start }
     run-stop d = rw (step, d, append-nil)
 
-    pub run-next : (n : ℕ) → numberOf (bytesOf line w) ≡ some n → ahead l (runFrom (2048 - count) line at) ≡ ahead (l ++ n ∷ []) (runFrom (2048 - (count + 1)) line (w .stop))
+    pub run-next : (n : ℕ) → numberOf (bytesOf line w) ≡ some n
+        → ahead l (runFrom (2048 - count) line at) ≡ ahead (l ++ n ∷ []) (runFrom (2048 - (count + 1)) line (w .stop))
     run-next n d = rw (step, d, append-assoc)
 
   pub run-full : 2048 ≤ count → ahead l (runFrom (2048 - count) line at) ≡ record { found = l; stop = at }
@@ -38,7 +39,8 @@ module _ (line l : List ℕ) (at count : ℕ) where
 
 module _ (line before out : List ℕ) (from count : ℕ) (few : count ≤ 2048) (room : length out ≡ 2048) (rest : drop count out ≡ drop count before) where
   -- The first numbers of the array are the run.
-  pub gathered : (stop : ℕ) → runFrom 2048 line from ≡ record { found = take count out; stop = stop } → Gathered line from before out (record { count = count; stop = stop })
+  pub gathered : (stop : ℕ) → runFrom 2048 line from ≡ record { found = take count out; stop = stop }
+      → Gathered line from before out (record { count = count; stop = stop })
   gathered stop e =
       let n : length (take count out) ≡ count = length-take-le count out (omega arith) in
       record {
@@ -49,7 +51,12 @@ module _ (line before out : List ℕ) (from count : ℕ) (few : count ≤ 2048) 
       }
 
   -- One more number in the array.
-  pub stored : (n : ℕ) → count < 2048 → (length (set out count n) ≡ 2048) × (drop (count + 1) (set out count n) ≡ drop (count + 1) before) × (take (count + 1) (set out count n) ≡ take count out ++ n ∷ [])
+  pub stored : (n : ℕ) → count < 2048 → (length (set out count n) ≡ 2048) × (drop (count + 1) (set out count n) ≡ drop (count + 1) before)
+      × (take (count + 1) (set out count n) ≡ take count out ++ n ∷ [])
   stored n h =
-      let behind : drop 1 (drop count out) ≡ drop 1 (drop count before) = ap (λ (l : List ℕ). drop 1 l) rest in
-      (simp length-set room, drop-set-lt (count + 1) out count n (omega arith) ∙ (simp drop-drop at behind), rw add-one (take-suc-set out count n (omega arith)))
+      let behind : drop 1 (drop count out) ≡ drop 1 (drop count before) = ap (λ (l : List ℕ). drop 1 l) rest in (
+        simp length-set room,
+        drop-set-lt (count + 1) out count n (omega arith)
+            ∙ (simp drop-drop at behind),
+        rw add-one (take-suc-set out count n (omega arith)),
+      )

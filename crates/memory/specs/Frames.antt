@@ -19,14 +19,17 @@ use Rattle.rules.specs.declared.Root.the-variants.{Unissued, Queued, Spent}
 use Rattle.rules.specs.Ports.{pairs}
 use Rattle.rules.specs.Queries.{phaseNumber}
 use Rattle.rules.specs.Limits.{maxProvisionKeys}
-use Rattle.memory.specs.Layout.{word, part, anchorWord, depPart, provPart, realmPart, memoryWords, placeWords, places, idWord, tagWord, parentWord, revisionWord, payloadWord, phaseWord, retiredWord, generationWord, rootWord, rootRevisionWord, rootArgumentWord, firstRowWord, maskWord, valuesWord}
+use Rattle.memory.specs.Layout.{word, part, anchorWord, depPart, provPart, realmPart, memoryWords, placeWords, places, idWord, tagWord, parentWord}
+use Rattle.memory.specs.Layout.{revisionWord, payloadWord, phaseWord, retiredWord, generationWord, rootWord, rootRevisionWord, rootArgumentWord}
+use Rattle.memory.specs.Layout.{firstRowWord, maskWord, valuesWord}
 use Rattle.memory.specs.View.{phaseOf, rootOf, wordsAt, decoded, lifeAt, valueAt, valued, pluginAt}
 use Rattle.memory.specs.Writes.{puts, rootTag, rootRevision, rootArgument, lifeWords, encoded, putLife, renewedAt}
 use Rattle.memory.specs.Lives.{renewedLife}
 use Rattle.memory.specs.declared.Life.{Life}
 
 -- A part is read word by word.
-pub part-same : (m m′ : List ℕ) (a b n : ℕ) → a + n ≤ length m′ → b + n ≤ length m → ((k : ℕ) → k < n → word m′ (a + k) ≡ word m (b + k)) → part m′ a n ≡ part m b n
+pub part-same : (m m′ : List ℕ) (a b n : ℕ) → a + n ≤ length m′ → b + n ≤ length m → ((k : ℕ) → k < n → word m′ (a + k) ≡ word m (b + k))
+    → part m′ a n ≡ part m b n
 part-same m m′ a b n la lb h =
     let whole : (l : List ℕ) (c : ℕ) → c + n ≤ length l → length (part l c n) ≡ n = λ l c le. simp (length-take, length-drop) (omega arith) in
     ext-getD 0 (part m′ a n) (part m b n) (whole m′ a la ∙ sym (whole m b lb)) λ i l.
@@ -103,7 +106,17 @@ few m i = pairs-half (provPart m i) maxProvisionKeys (simp (length-take, length-
 pub plugin-kept : (m m′ : List ℕ) (i : ℕ) → Kept m m′ i → pluginAt m′ i ≡ withLife (pluginAt m i) (lifeAt m′ i)
 unfolding pluginAt
 plugin-kept m m′ i w =
-    rw (w .id, w .tag, w .parent, w .anchor-key, w .anchor-realm, w .realms, w .dependencies, w .provisions, valued-same m m′ i w (pairs (provPart m i)) 0 (omega (arith, few m i)))
+    rw (
+      w .id,
+      w .tag,
+      w .parent,
+      w .anchor-key,
+      w .anchor-realm,
+      w .realms,
+      w .dependencies,
+      w .provisions,
+      valued-same m m′ i w (pairs (provPart m i)) 0 (omega (arith, few m i)),
+    )
 
 -- The codes.
 phase-code : (p : Phase) → phaseOf (phaseNumber p) ≡ p

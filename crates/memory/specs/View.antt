@@ -13,7 +13,9 @@ use Rattle.rules.specs.declared.Phase.the-variants.{Idle, Loading, Active, Unlo
 use Rattle.rules.specs.declared.Root.{Root}
 use Rattle.rules.specs.declared.Root.the-variants.{Unissued, Queued, Spent}
 use Rattle.rules.specs.Ports.{pairs}
-use Rattle.memory.specs.Layout.{word, taken, idAt, anchorWord, depPart, provPart, realmPart, placeWords, places, domainWord, firstWord, nextWord, tagWord, parentWord, revisionWord, payloadWord, phaseWord, retiredWord, generationWord, rootWord, rootRevisionWord, rootArgumentWord, maskWord, valuesWord}
+use Rattle.memory.specs.Layout.{word, taken, idAt, anchorWord, depPart, provPart, realmPart, placeWords, places, domainWord, firstWord, nextWord, tagWord}
+use Rattle.memory.specs.Layout.{parentWord, revisionWord, payloadWord, phaseWord, retiredWord, generationWord, rootWord, rootRevisionWord}
+use Rattle.memory.specs.Layout.{rootArgumentWord, maskWord, valuesWord}
 use Rattle.memory.specs.declared.Life.{Life}
 use Rattle.memory.specs.declared.Words.{Words}
 

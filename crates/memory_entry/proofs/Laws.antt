@@ -46,6 +46,7 @@ pub fill-not : (m : List ℕ) (p : ℕ) (e : Entry) (ds cs zs : List ℕ) → ma
 unfolding filledPlace
 fill-not m p e ds cs zs a = rw (lt-leb _ _ a)
 
-pub fill-long : (m : List ℕ) (p : ℕ) (e : Entry) (ds cs zs : List ℕ) → e .start ≤ maxRows → maxDependencies * rowWords < length ds → m ≡ filledPlace m p e ds cs zs
+pub fill-long : (m : List ℕ) (p : ℕ) (e : Entry) (ds cs zs : List ℕ) → e .start ≤ maxRows → maxDependencies * rowWords < length ds
+    → m ≡ filledPlace m p e ds cs zs
 unfolding filledPlace
 fill-long m p e ds cs zs a b = rw (le-leb _ _ a, lt-leb _ _ b)

@@ -21,7 +21,10 @@ use Rattle.rules.specs.declared.Root.the-variants.{Unissued}
 use Rattle.rules.specs.Ports.{pairs}
 use Rattle.rules.specs.Registration.{unoffered}
 use Rattle.rules.specs.Limits.{maxRows, maxProvisionKeys, maxDependencies, maxRealmRows}
-use Rattle.memory.specs.Layout.{word, taken, idAt, startAt, depsAt, provsAt, realmsAt, part, rowWord, depPart, provPart, realmPart, memoryWords, placeWords, places, rowsStart, idWord, tagWord, parentWord, revisionWord, payloadWord, phaseWord, retiredWord, generationWord, rootWord, rootRevisionWord, rootArgumentWord, firstRowWord, dependenciesWord, provisionsWord, realmsWord, maskWord, realmRowsWord, placeEnd, rowWords}
+use Rattle.memory.specs.Layout.{word, taken, idAt, startAt, depsAt, provsAt, realmsAt, part, rowWord, depPart, provPart, realmPart, memoryWords, placeWords}
+use Rattle.memory.specs.Layout.{places, rowsStart, idWord, tagWord, parentWord, revisionWord, payloadWord, phaseWord, retiredWord, generationWord, rootWord}
+use Rattle.memory.specs.Layout.{rootRevisionWord, rootArgumentWord, firstRowWord, dependenciesWord, provisionsWord, realmsWord, maskWord, realmRowsWord}
+use Rattle.memory.specs.Layout.{placeEnd, rowWords}
 use Rattle.memory.specs.View.{parentOf, lifeAt, decoded, valueAt, valued, pluginAt}
 use Rattle.memory.specs.Frames.{Kept, withLife, plugin-kept}
 use Rattle.memory.specs.Stores.{kept-frame}
@@ -177,8 +180,10 @@ module _ (m m′ : List ℕ) (p : ℕ) (n : Newcomer) (h : p < places) (free : t
   added-dense = record {
     size = size′;
     alone = λ i j s t e. alone i j (origin i s) (origin j t) e;
-    few-dependencies = λ j t. limit dependenciesWord maxDependencies (omega arith) (omega arith) (omega (arith, r .d, sized .few-dependencies)) (dense .few-dependencies) j (origin j t);
-    few-provisions = λ j t. limit provisionsWord maxProvisionKeys (omega arith) (omega arith) (omega (arith, r .c, sized .few-provisions)) (dense .few-provisions) j (origin j t);
+    few-dependencies = λ j t. limit dependenciesWord maxDependencies (omega arith) (omega arith) (omega (arith, r .d, sized .few-dependencies))
+        (dense .few-dependencies) j (origin j t);
+    few-provisions = λ j t. limit provisionsWord maxProvisionKeys (omega arith) (omega arith) (omega (arith, r .c, sized .few-provisions))
+        (dense .few-provisions) j (origin j t);
     few-realms = λ j t. limit realmsWord maxRealmRows (omega arith) (omega arith) (omega (arith, r .z, sized .few-realms)) (dense .few-realms) j (origin j t);
     tiled = tiled-added (taken m) (taken m′) (startWord m) (startWord m′) (rowsAt m) (rowsAt m′) (used m) (used m′) p (dense .tiled) h some-rows
         free (r .comes) (r .kept) counts (λ j k d. r .words j firstRowWord k d (omega arith) (omega arith)) (r .start) end;
@@ -216,12 +221,14 @@ module _ (m m′ : List ℕ) (p : ℕ) (n : Newcomer) (h : p < places) (free : t
   deps-part : depPart m′ p ≡ n .dependencies
   deps-part =
       rw (start-new, deps-new)
-      (part-list m′ (n .dependencies) (rowWord (used m)) (n .d * rowWords) (sized .dependencies) (omega (arith, size′, dense .room, sized .few-dependencies)) (r .dependencies))
+      (part-list m′ (n .dependencies) (rowWord (used m)) (n .d * rowWords) (sized .dependencies) (omega (arith, size′, dense .room, sized .few-dependencies))
+      (r .dependencies))
 
   provs-part : provPart m′ p ≡ n .provisions
   provs-part =
       rw (start-new, deps-new, provs-new)
-      (part-list m′ (n .provisions) (rowWord (used m + n .d) + rowWords) (n .c * rowWords) (sized .provisions) (omega (arith, size′, sized .room)) (r .provisions))
+      (part-list m′ (n .provisions) (rowWord (used m + n .d) + rowWords) (n .c * rowWords) (sized .provisions) (omega (arith, size′, sized .room))
+      (r .provisions))
 
   realms-part : realmPart m′ p ≡ n .realms
   realms-part =

@@ -23,5 +23,6 @@ filledPlace m p e dependencies claims realms =
     let r = rowWord (e .start) in
     pick (leb (e .start) maxRows)
     (pick (leb (length dependencies) (maxDependencies * rowWords))
-    (occupiedAt (set (puts (puts (puts (puts m r 0 dependencies) (r + length dependencies) 0 claims) (p * placeWords + realmRowsWord) 0 realms) (p * placeWords) idWord (entryWords e)) 2 (e .next)) p)
+    (occupiedAt (set (puts (puts (puts (puts m r 0 dependencies) (r + length dependencies) 0 claims) (p * placeWords + realmRowsWord) 0 realms)
+    (p * placeWords) idWord (entryWords e)) 2 (e .next)) p)
     m) m

@@ -13,7 +13,8 @@ use borrow.Author.Tests.{le-leb}
 use Rattle.rules.specs.Outcomes.{adds, after}
 use Rattle.rules_laws.specs.Laws.Tests.{by-test}
 use Rattle.rules.specs.Limits.{maxRows, maxDependencies}
-use Rattle.memory.specs.Layout.{word, taken, idAt, rowWord, memoryWords, placeWords, places, nextWord, rowsStart, idWord, realmRowsWord, placeEnd, rowWords, domainWord, firstWord, occupancyWord}
+use Rattle.memory.specs.Layout.{word, taken, idAt, rowWord, memoryWords, placeWords, places, nextWord, rowsStart, idWord, realmRowsWord, placeEnd, rowWords}
+use Rattle.memory.specs.Layout.{domainWord, firstWord, occupancyWord}
 use Rattle.memory.specs.View.{placeAt, view}
 use Rattle.memory.specs.Writes.{puts}
 use Rattle.memory.specs.Frames.{puts-length, puts-before, puts-after, puts-same, puts-apart}
@@ -149,7 +150,8 @@ module _ (m : List ℕ) (p : ℕ) (n : Newcomer) (next : ℕ) (lowest : freeAt m
     size = occupied-length m₅ p ∙ size₅ ∙ sym (d .size);
     comes = occupied-here m₅ p size₅ h (taken-still p ∙ free);
     kept = λ j a. occupied-others m₅ p size₅ h (taken-still p ∙ free) j a ∙ taken-still j;
-    words = λ j k a b c f. occupied-word m₅ p (j * placeWords + k) (omega arith) ∙ still (j * placeWords + k) (omega arith) (omega arith) (λ u v. b (omega arith));
+    words = λ j k a b c f. occupied-word m₅ p (j * placeWords + k) (omega arith)
+        ∙ still (j * placeWords + k) (omega arith) (omega arith) (λ u v. b (omega arith));
     rows = λ k a. late (rowsStart + k) (omega arith) ∙ outside (rowsStart + k) (λ b c. omega (arith, h)) ∙ front (rowsStart + k) (omega arith);
     id = own 0 (lit< tt);
     tag = own 1 (lit< tt);

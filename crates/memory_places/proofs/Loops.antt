@@ -47,7 +47,8 @@ module _ (m : List ℕ) (i w : ℕ) (h : i < 29) (e : w ≡ occupancy m / 2 ^ i)
       let s : w / 2 ^ k ≡ occupancy m / 2 ^ j = ap (λ x. x / 2 ^ k) e ∙ shr-shr (occupancy m) i k ∙ ap (λ x. occupancy m / 2 ^ x) (sym p) in
       f ∙ rw (g, t, s)
 
-  pub rows-four : (a b c d : ℕ) → a ≡ rowsBy w m (i % places) → b ≡ rowsBy (w / 2) m ((i + 1) % places) → c ≡ rowsBy (w / 4) m ((i + 2) % places) → d ≡ rowsBy (w / 8) m ((i + 3) % places)
+  pub rows-four : (a b c d : ℕ) → a ≡ rowsBy w m (i % places) → b ≡ rowsBy (w / 2) m ((i + 1) % places) → c ≡ rowsBy (w / 4) m ((i + 2) % places)
+      → d ≡ rowsBy (w / 8) m ((i + 3) % places)
       → a + b + c + d ≡ rowsFrom 4 m i
   unfolding rowsFrom
   rows-four a b c d p q r s =
@@ -66,7 +67,8 @@ module _ (m : List ℕ) (k w total : ℕ) (h : k < 8) (t : Counted m k w total) 
       let n : places - k * 4 ≡ suc (suc (suc (suc (places - (k + 1) * 4)))) = omega arith in
       let j : k * 4 + 1 + 1 + 1 + 1 ≡ (k + 1) * 4 = omega arith in
       let q : k * 4 + 4 ≡ (k + 1) * 4 = omega arith in
-      let s : rowsFrom (places - k * 4) m (k * 4) ≡ rowsFrom 4 m (k * 4) + rowsFrom (places - (k + 1) * 4) m ((k + 1) * 4) = rw n (rows-split _ m (k * 4) ∙ rw j) in (
+      let s : rowsFrom (places - k * 4) m (k * 4) ≡ rowsFrom 4 m (k * 4) + rowsFrom (places - (k + 1) * 4) m ((k + 1) * 4) =
+      rw n (rows-split _ m (k * 4) ∙ rw j) in (
         omega arith,
         omega arith,
         ap (λ x. x / 16) (t .2) ∙ shr-shr (occupancy m) (k * 4) 4 ∙ ap (λ x. occupancy m / 2 ^ x) q,

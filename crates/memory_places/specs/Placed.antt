@@ -21,7 +21,8 @@ use Rattle.memory_places.specs.Free.{free-lowest}
 use Rattle.memory_places.specs.Taken.{taken-below}
 
 -- A change place by place.
-pub places-map : (f : Option Plugin → Option Plugin) (m m′ : List ℕ) (n i : ℕ) → ((j : ℕ) → i ≤ j → j < i + n → placeAt m′ j ≡ f (placeAt m j)) → placesFrom n m′ i ≡ map f (placesFrom n m i)
+pub places-map : (f : Option Plugin → Option Plugin) (m m′ : List ℕ) (n i : ℕ) → ((j : ℕ) → i ≤ j → j < i + n → placeAt m′ j ≡ f (placeAt m j))
+    → placesFrom n m′ i ≡ map f (placesFrom n m i)
 unfolding placesFrom
 places-map f m m′ zero i each = refl
 places-map f m m′ (suc n) i each =
@@ -72,7 +73,8 @@ module _ (m m′ : List ℕ) (p : ℕ) (q : Plugin) (here : placeAt m′ p ≡ s
       let s : placeAt m′ i ≡ some q = rw x here in
       rw (s, free-place m i f, r))
 
-  pub places-added : freeAt m ≡ At p → ((j : ℕ) → j < places → j ≢ p → placeAt m′ j ≡ placeAt m j) → placesFrom places m′ 0 ≡ atLowestFree q (placesFrom places m 0)
+  pub places-added : freeAt m ≡ At p → ((j : ℕ) → j < places → j ≢ p → placeAt m′ j ≡ placeAt m j)
+      → placesFrom places m′ 0 ≡ atLowestFree q (placesFrom places m 0)
   unfolding freeAt
   places-added e same = add-from places 0 e (λ j a b n. same j b n)
 

@@ -80,4 +80,5 @@ unfolding provider view
 provided-one m qs =
     let ps = held (placesFrom places m 0) in
     let f : Plugin → Bool = λ p. any (λ q. provides p q) qs in
-    any-same _ _ (λ q. is-first (λ (p : Plugin). provides p q) ps) qs ∙ exchange (λ (p : Plugin) (q : Port). provides p q) ps qs ∙ sym (is-first f ps) ∙ ap isSome (search-first f places m 0)
+    any-same _ _ (λ q. is-first (λ (p : Plugin). provides p q) ps) qs ∙ exchange (λ (p : Plugin) (q : Port). provides p q) ps qs ∙ sym (is-first f ps)
+    ∙ ap isSome (search-first f places m 0)

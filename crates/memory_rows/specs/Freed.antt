@@ -73,7 +73,8 @@ module _ (m : List ℕ) (p : ℕ) (there : taken m p ≡ true) (d : Dense m) whe
     words = λ j k a b c n. vacated-word low p (j * placeWords + k) (omega arith) ∙ low-word (j * placeWords + k) (omega arith) (λ i u e. n (omega arith));
     starts = λ j a. vacated-word low p (j * placeWords + firstRowWord) (omega arith)
         ∙ lower-start places gap (S + C) C 0 j (omega arith) (omega arith) (omega (arith, gap-size))
-        ∙ ap (λ x. lowered x (S + C) C) (moved-below ((used m - (S + C)) * rowWords) m (rowWord S) (C * rowWords) (j * placeWords + firstRowWord) (omega arith));
+        ∙ ap (λ x. lowered x (S + C) C) (moved-below ((used m - (S + C)) * rowWords) m (rowWord S) (C * rowWords) (j * placeWords + firstRowWord)
+        (omega arith));
     above = λ k a. vacated-word low p (rowsStart + k) (omega arith) ∙ low-word (rowsStart + k) (omega arith) (λ i u. omega arith);
     below = λ k a b.
         let e : rowsStart + (k - C * rowWords) ≡ rowWord S + (k - C * rowWords - S * rowWords) = omega arith in
@@ -81,7 +82,8 @@ module _ (m : List ℕ) (p : ℕ) (there : taken m p ≡ true) (d : Dense m) whe
         vacated-word low p (rowsStart + (k - C * rowWords)) (omega arith)
         ∙ lower-other places gap (S + C) C 0 (rowsStart + (k - C * rowWords)) (λ j u v. omega arith)
         ∙ ap (word gap) e
-        ∙ moved-within ((used m - (S + C)) * rowWords) m (rowWord S) (C * rowWords) (k - C * rowWords - S * rowWords) (omega arith) (omega (arith, d .size, d .room, fits))
+        ∙ moved-within ((used m - (S + C)) * rowWords) m (rowWord S) (C * rowWords) (k - C * rowWords - S * rowWords) (omega arith)
+        (omega (arith, d .size, d .room, fits))
         ∙ ap (word m) f;
   }
 

@@ -57,14 +57,16 @@ unfolding moved
 gap-none m start count end h = let s : (end - (start + count)) * rowWords ≡ 0 = omega arith in rw s
 
 pub gap-start : (m : List ℕ) (start count end : ℕ) → start + count ≤ end
-    → closedGap m start count end ≡ moved ((end - count) * rowWords + rowsStart - (start * rowWords + rowsStart)) m (start * rowWords + rowsStart) (count * rowWords)
+    → closedGap m start count end ≡ moved ((end - count) * rowWords + rowsStart - (start * rowWords + rowsStart)) m (start * rowWords + rowsStart)
+    (count * rowWords)
 gap-start m start count end h =
     let e : (end - (start + count)) * rowWords ≡ (end - count) * rowWords + rowsStart - (start * rowWords + rowsStart) = omega arith in
     rw e
 
 -- starts lowered
 pub lower-next : (e : ℕ) (m : List ℕ) (x k i : ℕ) → i < e
-    → lowerFrom (e - i) m x k i ≡ lowerFrom (e - (i + 1)) (set m (i * placeWords + firstRowWord) (lowered (word m (i * placeWords + firstRowWord)) x k)) x k (i + 1)
+    → lowerFrom (e - i) m x k i ≡ lowerFrom (e - (i + 1)) (set m (i * placeWords + firstRowWord) (lowered (word m (i * placeWords + firstRowWord)) x k)) x k
+    (i + 1)
 unfolding lowerFrom
 lower-next e m x k i h = let s : e - i ≡ suc (e - (i + 1)) = omega arith in rw s
 
@@ -76,14 +78,17 @@ pub lower-length : (n : ℕ) (m : List ℕ) (x k i : ℕ) → length (lowerFrom 
 unfolding lowerFrom
 lower-length zero m x k i = refl
 lower-length (suc n) m x k i =
-    lower-length n (set m (i * placeWords + firstRowWord) (lowered (word m (i * placeWords + firstRowWord)) x k)) x k (i + 1) ∙ length-set m (i * placeWords + firstRowWord) (lowered (word m (i * placeWords + firstRowWord)) x k)
+    lower-length n (set m (i * placeWords + firstRowWord) (lowered (word m (i * placeWords + firstRowWord)) x k)) x k (i + 1)
+    ∙ length-set m (i * placeWords + firstRowWord) (lowered (word m (i * placeWords + firstRowWord)) x k)
 
 -- a word that is no start stays
-pub lower-other : (n : ℕ) (m : List ℕ) (x k i a : ℕ) → ((j : ℕ) → i ≤ j → j < i + n → a ≢ j * placeWords + firstRowWord) → word (lowerFrom n m x k i) a ≡ word m a
+pub lower-other : (n : ℕ) (m : List ℕ) (x k i a : ℕ) → ((j : ℕ) → i ≤ j → j < i + n → a ≢ j * placeWords + firstRowWord)
+    → word (lowerFrom n m x k i) a ≡ word m a
 unfolding lowerFrom
 lower-other zero m x k i a h = refl
 lower-other (suc n) m x k i a h =
-    lower-other n (set m (i * placeWords + firstRowWord) (lowered (word m (i * placeWords + firstRowWord)) x k)) x k (i + 1) a (λ j l t. h j (omega arith) (omega arith))
+    lower-other n (set m (i * placeWords + firstRowWord) (lowered (word m (i * placeWords + firstRowWord)) x k)) x k (i + 1) a
+    (λ j l t. h j (omega arith) (omega arith))
     ∙ getD-set-other m (i * placeWords + firstRowWord) a (lowered (word m (i * placeWords + firstRowWord)) x k) 0 (h i (omega arith) (omega arith))
 
 pub lower-start : (n : ℕ) (m : List ℕ) (x k i j : ℕ) → i ≤ j → j < i + n → j * placeWords + firstRowWord < length m
@@ -97,7 +102,8 @@ lower-start (suc n) m x k i j l t f =
     one = set m (i * placeWords + firstRowWord) (lowered (word m (i * placeWords + firstRowWord)) x k)
 
     cases : (b : Bool) → eqb i j ≡ b
-        → (i + 1 ≤ j → j < i + 1 + n → j * placeWords + firstRowWord < length one → word (lowerFrom n one x k (i + 1)) (j * placeWords + firstRowWord) ≡ lowered (word one (j * placeWords + firstRowWord)) x k)
+        → (i + 1 ≤ j → j < i + 1 + n → j * placeWords + firstRowWord < length one
+        → word (lowerFrom n one x k (i + 1)) (j * placeWords + firstRowWord) ≡ lowered (word one (j * placeWords + firstRowWord)) x k)
         → word (lowerFrom n one x k (i + 1)) (j * placeWords + firstRowWord) ≡ lowered (word m (j * placeWords + firstRowWord)) x k
     cases true e ih =
         let s : i ≡ j = eqb-true i j e in
@@ -107,10 +113,12 @@ lower-start (suc n) m x k i j l t f =
         let d : i ≢ j = eqb-false i j e in
         let g : length one ≡ length m = length-set m (i * placeWords + firstRowWord) (lowered (word m (i * placeWords + firstRowWord)) x k) in
         ih (omega arith) (omega arith) (omega arith)
-        ∙ ap (λ y. lowered y x k) (getD-set-other m (i * placeWords + firstRowWord) (j * placeWords + firstRowWord) (lowered (word m (i * placeWords + firstRowWord)) x k) 0 (omega arith))
+        ∙ ap (λ y. lowered y x k) (getD-set-other m (i * placeWords + firstRowWord) (j * placeWords + firstRowWord)
+        (lowered (word m (i * placeWords + firstRowWord)) x k) 0 (omega arith))
 
 -- the remover's steps
-pub free-steps : (m m₁ m₂ m₃ : List ℕ) (p s d v u end : ℕ) → p < places → taken m p ≡ true → s ≡ startAt m (p % places) → d ≡ depsAt m (p % places) → v ≡ provsAt m (p % places)
+pub free-steps : (m m₁ m₂ m₃ : List ℕ) (p s d v u end : ℕ) → p < places → taken m p ≡ true → s ≡ startAt m (p % places) → d ≡ depsAt m (p % places)
+    → v ≡ provsAt m (p % places)
     → u ≡ rowsInUse (view m) → end ≡ min u maxRows → m₁ ≡ closedGap m s (d + v + 1) end → m₂ ≡ lowerFrom places m₁ (s + (d + v + 1)) (d + v + 1) 0
     → m₃ ≡ vacatedAt m₂ p → m₃ ≡ freedPlace m p
 unfolding freedPlace

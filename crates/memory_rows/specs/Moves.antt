@@ -26,7 +26,8 @@ lowered s end count = pick (leb end s) (s - count) s
 
 unfoldable pub lowerFrom : ℕ → List ℕ → ℕ → ℕ → ℕ → List ℕ
 lowerFrom zero m end count i = m
-lowerFrom (suc n) m end count i = lowerFrom n (set m (i * placeWords + firstRowWord) (lowered (word m (i * placeWords + firstRowWord)) end count)) end count (i + 1)
+lowerFrom (suc n) m end count i = lowerFrom n (set m (i * placeWords + firstRowWord) (lowered (word m (i * placeWords + firstRowWord)) end count)) end count
+    (i + 1)
 
 -- A place and its rows freed: the rows behind them come down. A free place changes nothing.
 unfoldable pub freedPlace : List ℕ → ℕ → List ℕ

@@ -6,7 +6,8 @@ use mathlib.Core.Bool.{true, false}
 use mathlib.Core.Logic.{_≢_}
 use mathlib.Core.List.{List}
 use lib.ListN.{length}
-use Rattle.memory.specs.Layout.{word, taken, placeWords, places, rowsStart, idWord, revisionWord, payloadWord, phaseWord, retiredWord, generationWord, rootWord, rootRevisionWord, rootArgumentWord, firstRowWord, dependenciesWord, provisionsWord, placeEnd, rowWords}
+use Rattle.memory.specs.Layout.{word, taken, placeWords, places, rowsStart, idWord, revisionWord, payloadWord, phaseWord, retiredWord, generationWord, rootWord}
+use Rattle.memory.specs.Layout.{rootRevisionWord, rootArgumentWord, firstRowWord, dependenciesWord, provisionsWord, placeEnd, rowWords}
 use Rattle.memory.specs.View.{lifeAt, decoded, pluginAt}
 use Rattle.memory.specs.Frames.{Kept, withLife, plugin-kept}
 use Rattle.memory.specs.Stores.{kept-frame}
@@ -26,14 +27,18 @@ pub record Removes (m m′ : List ℕ) (p : ℕ) : Type 0 where
   pub words : (j k : ℕ) → j < places → idWord ≤ k → k < placeEnd → k ≢ firstRowWord → word m′ (j * placeWords + k) ≡ word m (j * placeWords + k)
   pub starts : (j : ℕ) → j < places → startWord m′ j ≡ lowered (startWord m j) (startWord m p + rowsAt m p) (rowsAt m p)
   pub above : (k : ℕ) → k < startWord m p * rowWords → word m′ (rowsStart + k) ≡ word m (rowsStart + k)
-  pub below : (k : ℕ) → (startWord m p + rowsAt m p) * rowWords ≤ k → k < used m * rowWords → word m′ (rowsStart + (k - rowsAt m p * rowWords)) ≡ word m (rowsStart + k)
+  pub below : (k : ℕ) → (startWord m p + rowsAt m p) * rowWords ≤ k → k < used m * rowWords
+      → word m′ (rowsStart + (k - rowsAt m p * rowWords)) ≡ word m (rowsStart + k)
 
 module _ (m m′ : List ℕ) (p : ℕ) (there : taken m p ≡ true) (d : Dense m) (r : Removes m m′ p) where
   p-below : p < places
   p-below = taken-below m p there
 
   counts : (j : ℕ) → j < places → rowsAt m′ j ≡ rowsAt m j
-  counts j h = rw (r .words j dependenciesWord h (omega arith) (omega arith) (omega arith), r .words j provisionsWord h (omega arith) (omega arith) (omega arith))
+  counts j h = rw (
+    r .words j dependenciesWord h (omega arith) (omega arith) (omega arith),
+    r .words j provisionsWord h (omega arith) (omega arith) (omega arith),
+  )
 
   some-rows : (i : ℕ) → 1 ≤ rowsAt m i
   some-rows i = omega arith
@@ -67,7 +72,8 @@ module _ (m m′ : List ℕ) (p : ℕ) (there : taken m p ≡ true) (d : Dense m
   removed-dense = record {
     size = r .size ∙ d .size;
     alone = λ i j s t e. d .alone i j (was i s) (was j t)
-        (sym (r .words i idWord (taken-below m′ i s) (omega arith) (omega arith) (omega arith)) ∙ e ∙ r .words j idWord (taken-below m′ j t) (omega arith) (omega arith) (omega arith));
+        (sym (r .words i idWord (taken-below m′ i s) (omega arith) (omega arith) (omega arith)) ∙ e
+        ∙ r .words j idWord (taken-below m′ j t) (omega arith) (omega arith) (omega arith));
     few-dependencies = λ i t. rw (r .words i 20 (taken-below m′ i t) (omega arith) (omega arith) (omega arith)) (d .few-dependencies i (was i t));
     few-provisions = λ i t. rw (r .words i 21 (taken-below m′ i t) (omega arith) (omega arith) (omega arith)) (d .few-provisions i (was i t));
     few-realms = λ i t. rw (r .words i 22 (taken-below m′ i t) (omega arith) (omega arith) (omega arith)) (d .few-realms i (was i t));

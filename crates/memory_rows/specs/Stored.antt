@@ -19,7 +19,8 @@ use Rattle.rules_laws.specs.Kept.Reach.{life, reach, Within}
 use Rattle.rules_laws.specs.Kept.Operations.{Lawful, lawful}
 use Rattle.rules_laws.specs.Laws.Tests.{by-test}
 use Rattle.memory.specs.Ways.{leftBy}
-use Rattle.memory.specs.Layout.{word, taken, idAt, placeWords, places, domainWord, firstWord, nextWord, occupancyWord, idWord, firstRowWord, dependenciesWord, provisionsWord, realmsWord}
+use Rattle.memory.specs.Layout.{word, taken, idAt, placeWords, places, domainWord, firstWord, nextWord, occupancyWord, idWord, firstRowWord, dependenciesWord}
+use Rattle.memory.specs.Layout.{provisionsWord, realmsWord}
 use Rattle.memory.specs.View.{pluginAt, placeAt, view}
 use Rattle.memory.specs.Writes.{findAt, putLife}
 use Rattle.memory.specs.Frames.{withLife, OnlyLife, life-only}

@@ -98,7 +98,12 @@ module _ (tk tk′ : ℕ → Bool) (st st′ ct ct′ : ℕ → ℕ) (u u′ p :
     total-removed =
         let a : share tk′ ct′ p ≡ 0 = rw gone in
         let b : share tk ct p ≡ ct p = rw there in
-        omega (arith, old .total, sum-but places (share tk′ ct′) (share tk ct) p 0 (λ j h d. rw (kept j d) (ap (λ (x : ℕ). pick (tk j) x 0) (counts j h))) (omega arith) (omega arith))
+        omega (
+          arith,
+          old .total,
+          sum-but places (share tk′ ct′) (share tk ct) p 0 (λ j h d. rw (kept j d) (ap (λ (x : ℕ). pick (tk j) x 0) (counts j h)))
+              (omega arith) (omega arith),
+        )
 
     pub tiled-removed : Tiled tk′ st′ ct′ u′
     tiled-removed = record { below = below-removed; apart = apart-removed; total = total-removed }
@@ -142,7 +147,12 @@ module _ (tk tk′ : ℕ → Bool) (st st′ ct ct′ : ℕ → ℕ) (u u′ p :
     total-added =
         let a : share tk′ ct′ p ≡ ct′ p = rw comes in
         let b : share tk ct p ≡ 0 = rw free in
-        omega (arith, old .total, sum-but places (share tk′ ct′) (share tk ct) p 0 (λ j h d. rw (kept j d) (ap (λ (x : ℕ). pick (tk j) x 0) (counts j h d))) (omega arith) (omega arith))
+        omega (
+          arith,
+          old .total,
+          sum-but places (share tk′ ct′) (share tk ct) p 0 (λ j h d. rw (kept j d) (ap (λ (x : ℕ). pick (tk j) x 0) (counts j h d)))
+              (omega arith) (omega arith),
+        )
 
     pub tiled-added : Tiled tk′ st′ ct′ u′
     tiled-added = record { below = below-added; apart = apart-added; total = total-added }

@@ -47,7 +47,8 @@ module _ (m : List ℕ) (i j : ℕ) (b : Bool) (e : b ≡ eqb (maskBit m i j) 1)
   bit-zero : b ≡ false → maskBit m i j ≡ 0
   bit-zero f = let n = eqb-false (maskBit m i j) 1 (sym e ∙ f) in omega arith
 
-  pub value-set : b ≡ false → j < 64 → (v : ℕ) → set (set m (i * placeWords + maskWord) (bitOr (maskAt m i) ((1 * 2 ^ j) % 2 ^ 64))) (i * placeWords + valuesWord + j) v ≡ withValue m i j v
+  pub value-set : b ≡ false → j < 64 → (v : ℕ)
+      → set (set m (i * placeWords + maskWord) (bitOr (maskAt m i) ((1 * 2 ^ j) % 2 ^ 64))) (i * placeWords + valuesWord + j) v ≡ withValue m i j v
   unfolding withValue
   value-set f h v =
       let one : (1 * 2 ^ j) % 2 ^ 64 ≡ 2 ^ j = ap (λ x. x % 2 ^ 64) (one-mul (2 ^ j)) ∙ mod-eq-of-lt (pow-lt h) in

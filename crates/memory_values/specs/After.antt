@@ -21,7 +21,10 @@ use Rattle.rules.specs.Values.{offered}
 use Rattle.rules_laws.specs.Laws.Tests.{by-test, neither}
 use Rattle.rules_laws.specs.Laws.Members.{same-port}
 use Rattle.rules.specs.Limits.{maxRows, maxProvisionKeys, maxDependencies, maxRealmRows}
-use Rattle.memory.specs.Layout.{word, taken, startAt, depsAt, provsAt, realmsAt, rowWord, anchorWord, depPart, provPart, realmPart, memoryWords, placeWords, places, rowsStart, idWord, tagWord, parentWord, revisionWord, payloadWord, phaseWord, retiredWord, generationWord, rootWord, rootRevisionWord, rootArgumentWord, firstRowWord, dependenciesWord, provisionsWord, realmsWord, maskWord, valuesWord, realmRowsWord, placeEnd, occupancyWord}
+use Rattle.memory.specs.Layout.{word, taken, startAt, depsAt, provsAt, realmsAt, rowWord, anchorWord, depPart, provPart, realmPart, memoryWords, placeWords}
+use Rattle.memory.specs.Layout.{places, rowsStart, idWord, tagWord, parentWord, revisionWord, payloadWord, phaseWord, retiredWord, generationWord, rootWord}
+use Rattle.memory.specs.Layout.{rootRevisionWord, rootArgumentWord, firstRowWord, dependenciesWord, provisionsWord, realmsWord, maskWord, valuesWord}
+use Rattle.memory.specs.Layout.{realmRowsWord, placeEnd, occupancyWord}
 use Rattle.memory.specs.View.{wordsAt, decoded, lifeAt, valueAt, valued, pluginAt}
 use Rattle.memory.specs.Frames.{part-same, plugin-kept, withLife}
 use Rattle.memory.specs.Stores.{kept-frame}
@@ -67,7 +70,8 @@ module _ (m m′ : List ℕ) (i : ℕ) (h : i < places) (l : length m ≡ memory
   others-stay : (k : ℕ) → k < places → k ≢ i → pluginAt m′ k ≡ pluginAt m k
   unfolding pluginAt
   others-stay k u d =
-      let apart : (n : ℕ) → idWord ≤ n → n < placeEnd → word m′ (k * placeWords + n) ≡ word m (k * placeWords + n) = λ n a b. same (k * placeWords + n) (λ x y. d (omega arith)) in
+      let apart : (n : ℕ) → idWord ≤ n → n < placeEnd → word m′ (k * placeWords + n) ≡ word m (k * placeWords + n) =
+      λ n a b. same (k * placeWords + n) (λ x y. d (omega arith)) in
       plugin-kept m m′ k
       (kept-frame m m′ k u l l′
       (λ n a b. apart n a (omega arith))
@@ -88,17 +92,20 @@ module _ (m m′ : List ℕ) (i : ℕ) (h : i < places) (l : length m ≡ memory
   dep-part : depPart m′ i ≡ depPart m i
   dep-part =
       rw (start-stays i, deps-stay)
-      (part-same m m′ (rowWord (startAt m i)) (rowWord (startAt m i)) (depsAt m i * 2) (omega arith) (omega arith) (λ k u. row-stays (rowWord (startAt m i) + k) (omega arith)))
+      (part-same m m′ (rowWord (startAt m i)) (rowWord (startAt m i)) (depsAt m i * 2) (omega arith) (omega arith)
+      (λ k u. row-stays (rowWord (startAt m i) + k) (omega arith)))
 
   prov-part : provPart m′ i ≡ provPart m i
   prov-part =
       rw (start-stays i, deps-stay, provs-stay)
-      (part-same m m′ (anchorWord m i + 2) (anchorWord m i + 2) (provsAt m i * 2) (omega arith) (omega arith) (λ k u. row-stays (anchorWord m i + 2 + k) (omega arith)))
+      (part-same m m′ (anchorWord m i + 2) (anchorWord m i + 2) (provsAt m i * 2) (omega arith) (omega arith)
+      (λ k u. row-stays (anchorWord m i + 2 + k) (omega arith)))
 
   realm-part : realmPart m′ i ≡ realmPart m i
   realm-part =
       rw realms-stay
-      (part-same m m′ (i * placeWords + realmRowsWord) (i * placeWords + realmRowsWord) (realmsAt m i * 2) (omega arith) (omega arith) (λ k u. same (i * placeWords + realmRowsWord + k) (λ a b. omega arith)))
+      (part-same m m′ (i * placeWords + realmRowsWord) (i * placeWords + realmRowsWord) (realmsAt m i * 2) (omega arith) (omega arith)
+      (λ k u. same (i * placeWords + realmRowsWord + k) (λ a b. omega arith)))
 
   anchor-key : word m′ (anchorWord m′ i) ≡ word m (anchorWord m i)
   anchor-key = rw (start-stays i, deps-stay) (row-stays (anchorWord m i) (omega arith))
@@ -109,7 +116,17 @@ module _ (m m′ : List ℕ) (i : ℕ) (h : i < places) (l : length m ≡ memory
   plugin-stays : pluginAt m′ i ≡ withProvisions (valued m′ i 0 (pairs (provPart m i))) (pluginAt m i)
   unfolding pluginAt
   plugin-stays =
-      rw (same (i * placeWords + idWord) (λ a b. omega arith), same (i * placeWords + tagWord) (λ a b. omega arith), same (i * placeWords + parentWord) (λ a b. omega arith), anchor-key, anchor-realm, realm-part, dep-part, prov-part, life-stays i)
+      rw (
+        same (i * placeWords + idWord) (λ a b. omega arith),
+        same (i * placeWords + tagWord) (λ a b. omega arith),
+        same (i * placeWords + parentWord) (λ a b. omega arith),
+        anchor-key,
+        anchor-realm,
+        realm-part,
+        dep-part,
+        prov-part,
+        life-stays i,
+      )
 
   -- and its provisions, if each value is what a change of the former provisions says
   provisions-stay : (f : List Provision → List Provision) → valued m′ i 0 (pairs (provPart m i)) ≡ f (valued m i 0 (pairs (provPart m i)))
@@ -167,7 +184,8 @@ none-free m i j e = by-test (eqb (maskBit m i j) 1)
 -- A value is set. On any words, there are as many afterwards.
 pub set-length : (m : List ℕ) (i j v : ℕ) → length (withValue m i j v) ≡ length m
 unfolding withValue
-set-length m i j v = by-test (eqb (maskBit m i j) 1) (λ t. rw t) (λ f. rw f (length-set (masked m i j) (i * placeWords + valuesWord + j) v ∙ length-set m (i * placeWords + maskWord) (maskAt m i + 2 ^ j)))
+set-length m i j v = by-test (eqb (maskBit m i j) 1) (λ t. rw t)
+    (λ f. rw f (length-set (masked m i j) (i * placeWords + valuesWord + j) v ∙ length-set m (i * placeWords + maskWord) (maskAt m i + 2 ^ j)))
 
 module _ (m : List ℕ) (i j v : ℕ) (h : i < places) (size : length m ≡ memoryWords) (below : j < maxProvisionKeys) where
   set-size : length (withValue m i j v) ≡ memoryWords
@@ -194,7 +212,8 @@ module _ (m : List ℕ) (i j v : ℕ) (h : i < places) (size : length m ≡ memo
     pub new-mask : maskAt (withValue m i j v) i ≡ maskAt m i + 2 ^ j
     new-mask =
         rw as-set
-        (getD-set-other (masked m i j) (i * placeWords + valuesWord + j) (i * placeWords + maskWord) v 0 (λ e. omega arith) ∙ getD-set-same m (i * placeWords + maskWord) (maskAt m i + 2 ^ j) 0 (omega arith))
+        (getD-set-other (masked m i j) (i * placeWords + valuesWord + j) (i * placeWords + maskWord) v 0 (λ e. omega arith)
+        ∙ getD-set-same m (i * placeWords + maskWord) (maskAt m i + 2 ^ j) 0 (omega arith))
 
     new-value : word (withValue m i j v) (i * placeWords + valuesWord + j) ≡ v
     new-value = rw as-set (getD-set-same (masked m i j) (i * placeWords + valuesWord + j) v 0 (simp length-set (omega arith)))

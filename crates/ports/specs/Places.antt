@@ -4,7 +4,9 @@ use mathlib.Core.Path.{_≡_, refl, sym, ap}
 use mathlib.Core.Bool.{true, false}
 use mathlib.Core.List.{List, [], _∷_}
 use borrow.Author.Tests.{eq-eqb, ne-eqb}
-pub use Rattle.rules_laws.specs.Laws.Pairs.{pairs-at, pairs-behind, pairs-end, part-end, length-pairs, length-flat, odd-length, length-odd, length-even, even-length, flat-pairs, flat-pairs-even, pairs-flat, flat-append, pairs-take, pairs-drop, pairs-whole, pairs-get, flat-get, pairs-same-length, pairs-same}
+pub use Rattle.rules_laws.specs.Laws.Pairs.{pairs-at, pairs-behind, pairs-end, part-end, length-pairs, length-flat, odd-length, length-odd, length-even}
+pub use Rattle.rules_laws.specs.Laws.Pairs.{even-length, flat-pairs, flat-pairs-even, pairs-flat, flat-append, pairs-take, pairs-drop, pairs-whole, pairs-get}
+pub use Rattle.rules_laws.specs.Laws.Pairs.{flat-get, pairs-same-length, pairs-same}
 use Rattle.rules.specs.declared.Port.{Port}
 use Rattle.rules.specs.Holds.{samePort, isIn}
 use Rattle.rules.specs.Ports.{samePorts}

@@ -24,7 +24,8 @@ dependency-law z provisions anchor keys parents h = rw (take-all maxDependencyKe
 pub fitted-lists : (l : List Port) {n : ℕ} {array : List ℕ} → Lists listRoom n array l → n ≤ maxDependencies → record { count = n; ports = array } ≡ fitted l
 fitted-lists l r h = rw (le-leb (length l) maxDependencies (omega (arith, r .counted))) (λ k. record { count = r .counted k; ports = r .numbers k })
 
-pub fitted-longer : (l : List Port) {r : Dependencies} → maxDependencies < length l → r .count ≡ maxDependencies + 1 → r .ports ≡ filled listRoom [] → r ≡ fitted l
+pub fitted-longer : (l : List Port) {r : Dependencies} → maxDependencies < length l → r .count ≡ maxDependencies + 1 → r .ports ≡ filled listRoom []
+    → r ≡ fitted l
 fitted-longer l h e f = rw (lt-leb (length l) maxDependencies h) (λ k. record { count = e k; ports = f k })
 
 -- a list of at most 48 ports is there

@@ -15,7 +15,8 @@ use Rattle.ports_resolved.specs.Stored.{stored, Stores}
 
 module _ (f : ℕ → Port) (keys array : List ℕ) (i : ℕ) where
   pub stored-next : (q : Port) → i < length keys → i < maxDependencyKeys → q ≡ f (getD keys i 0)
-      → stored array i (map f (drop i (take maxDependencyKeys keys))) ≡ stored (set (set array (i * 2) (q .key)) (i * 2 + 1) (q .realm)) (i + 1) (map f (drop (i + 1) (take maxDependencyKeys keys)))
+      → stored array i (map f (drop i (take maxDependencyKeys keys)))
+      ≡ stored (set (set array (i * 2) (q .key)) (i * 2 + 1) (q .realm)) (i + 1) (map f (drop (i + 1) (take maxDependencyKeys keys)))
   unfolding stored
   stored-next q h l e =
       let g : f (getD (take maxDependencyKeys keys) i 0) ≡ q = ap f (getD-take maxDependencyKeys keys i 0 l) ∙ sym e in
@@ -28,7 +29,8 @@ module _ (f : ℕ → Port) (keys array : List ℕ) (i : ℕ) where
 
   -- Where no key is left, all are stored.
   pub stored-all : (start : List ℕ) (n : ℕ) → n ≡ length (take maxDependencyKeys keys) → length (take maxDependencyKeys keys) ≤ i
-      → stored start 0 (map f (take maxDependencyKeys keys)) ≡ stored array i (map f (drop i (take maxDependencyKeys keys))) → Stores (map f (take maxDependencyKeys keys)) start n array
+      → stored start 0 (map f (take maxDependencyKeys keys)) ≡ stored array i (map f (drop i (take maxDependencyKeys keys)))
+      → Stores (map f (take maxDependencyKeys keys)) start n array
   stored-all start n e h d = (omega (arith, length-map (take maxDependencyKeys keys) f), sym (d ∙ stored-end h))
 
 -- A candidate by its turn, with the realm that its key resolves to.

@@ -39,6 +39,7 @@ pub declared-lists : (other : ℕ) (rows : List Port) (keys : List ℕ) {n : ℕ
     → array ≡ stored (filled listRoom []) 0 (declaredOf other rows keys) → Lists listRoom n array (declaredOf other rows keys)
 declared-lists other rows keys e f =
     let ps = declaredOf other rows keys in
-    let h : (0 + length ps) * 2 ≤ listRoom = omega (arith, length-map (take maxDependencyKeys keys) (resolveIn other rows), length-take maxDependencyKeys keys) in
+    let h : (0 + length ps) * 2 ≤ listRoom =
+    omega (arith, length-map (take maxDependencyKeys keys) (resolveIn other rows), length-take maxDependencyKeys keys) in
     let none : Lists listRoom 0 (filled listRoom []) [] = record { counted = refl; numbers = refl } in
     record { counted = e; numbers = f ∙ stored-lists ps none h .numbers }

@@ -94,12 +94,14 @@ module _ (m : List ℕ) (t : Ticket) (a d : ℕ) (domain : d ≡ word m domainWo
         said : v ≡ verdictOf (lifeOf (pluginAt m i)) (t .generation)
         said = k ∙ ap (λ x. verdictOf x (t .generation)) (sym (loaded m (t .id) i life e l))
 
-        says : Says m (eqb (pluginAt m i .generation) (t .generation)) v (admit (view m) t a) (queued (pluginAt m i) (invocation (word m domainWord) a (pluginAt m i)))
+        says : Says m (eqb (pluginAt m i .generation) (t .generation)) v (admit (view m) t a)
+            (queued (pluginAt m i) (invocation (word m domainWord) a (pluginAt m i)))
         unfolding admit checked view verdictOf
         says =
             let p = pluginAt m i in
             rw (own, eq-eqb (t .kind) setup kind) (rw (at-known m (t .id) i e _, said)
-            (verdict-says m (queued p (invocation (word m domainWord) a p)) (p .retired) (isLoading (p .phase)) (eqb (p .generation) (t .generation)) (isUnissued (p .root))))
+            (verdict-says m (queued p (invocation (word m domainWord) a p)) (p .retired) (isLoading (p .phase)) (eqb (p .generation) (t .generation))
+            (isUnissued (p .root))))
 
         pub told-verdict : v ≢ 0 → Meets storedLife (admit (view m) t a) m (Refused v []) m
         told-verdict n = says .stops n

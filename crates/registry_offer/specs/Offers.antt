@@ -74,7 +74,8 @@ module _ (m : List ℕ) (id : ℕ) (q : Port) (v : ℕ) where
   unfolding offer
   offered-none e = refused Unknown (none-known m id e (offers q v))
 
-  module _ (i : ℕ) (e : findAt m id ≡ At i) (life : Life) (l : life ≡ lifeAt m (i % places)) (b : Bool) (k : b ≡ not (isLoading (life .phase) && not (life .retired))) where
+  module _ (i : ℕ) (e : findAt m id ≡ At i) (life : Life) (l : life ≡ lifeAt m (i % places)) (b : Bool)
+      (k : b ≡ not (isLoading (life .phase) && not (life .retired))) where
     offer-found : offer (view m) id q v ≡ offers q v (pluginAt m i)
     unfolding offer
     offer-found = at-known m id i e (offers q v)
@@ -95,7 +96,8 @@ module _ (m : List ℕ) (id : ℕ) (q : Port) (v : ℕ) where
       unfolding checked
       offered-undeclared n = refused Undeclared (offer-found ∙ rw (closed-is ∙ o, undeclared m i q (found-is ∙ n)))
 
-      module _ (j : ℕ) (t : f ≡ found.At j) (x : Optional) (y : optionOf x ≡ valueAt m (i % places) (j % maxProvisionKeys)) (c : Bool) (z : c ≡ isSome (optionOf x)) where
+      module _ (j : ℕ) (t : f ≡ found.At j) (x : Optional) (y : optionOf x ≡ valueAt m (i % places) (j % maxProvisionKeys)) (c : Bool)
+          (z : c ≡ isSome (optionOf x)) where
         given-is : isSome (valueIn q (pluginAt m i .provisions)) ≡ c
         given-is =
             let u = found-is ∙ t in

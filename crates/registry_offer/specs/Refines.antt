@@ -20,7 +20,8 @@ use Rattle.rules.specs.Values.{valueIn, offer}
 use Rattle.rules_laws.specs.Built.{Built}
 use Rattle.rules_laws.specs.Laws.Tests.{by-test, neither, checked-elim}
 use Rattle.memory.specs.Ways.{leftBy}
-use Rattle.memory.specs.Layout.{word, taken, idAt, depsAt, provsAt, provPart, memoryWords, placeWords, places, idWord, firstRowWord, dependenciesWord, provisionsWord, realmsWord, maskWord, valuesWord, realmRowsWord, domainWord, firstWord, nextWord}
+use Rattle.memory.specs.Layout.{word, taken, idAt, depsAt, provsAt, provPart, memoryWords, placeWords, places, idWord, firstRowWord, dependenciesWord}
+use Rattle.memory.specs.Layout.{provisionsWord, realmsWord, maskWord, valuesWord, realmRowsWord, domainWord, firstWord, nextWord}
 use Rattle.rules.specs.Limits.{maxProvisionKeys}
 use Rattle.memory.specs.View.{valueAt, pluginAt, placeAt, view}
 use Rattle.memory.specs.Writes.{findAt}
@@ -94,7 +95,13 @@ module _ (m : List ℕ) (i j v : ℕ) (d : Dense m) (h : i < places) (below : j 
     few-realms = λ k t. rw (same (k * placeWords + realmsWord) (λ a b. omega arith)) (d .few-realms k (was k t));
     tiled = record {
       below = λ k u t. omega (arith, start-set k, rows-set k, used-set, d .tiled .below k u (was k t));
-      apart = λ k n u g x s t o. omega (arith, start-set k, start-set n, rows-set k, d .tiled .apart k n u g x (was k s) (was n t) (omega (arith, start-set k, start-set n)));
+      apart = λ k n u g x s t o. omega (
+        arith,
+        start-set k,
+        start-set n,
+        rows-set k,
+        d .tiled .apart k n u g x (was k s) (was n t) (omega (arith, start-set k, start-set n)),
+      );
       total = refl;
     };
     room = omega (arith, used-set, d .room);

@@ -47,13 +47,15 @@ module _ (m : List ℕ) (id i : ℕ) (e : findAt m id ≡ At i) where
   life-answer f g h l k =
       ap (λ (x : Life). Accepted (g x)) (k ∙ sym (life-of m (i % places))) ∙ sym (ap Accepted (h (pluginAt m (i % places)))) ∙ answer f
 
-  pub phase-answer : (l : Life) (p : Phase) → l ≡ lifeAt m (i % places) → l .phase ≡ p → Accepted (phaseNumber p ∷ []) ≡ answerOf (askPlugin (view m) PhaseOf id)
+  pub phase-answer : (l : Life) (p : Phase) → l ≡ lifeAt m (i % places) → l .phase ≡ p
+      → Accepted (phaseNumber p ∷ []) ≡ answerOf (askPlugin (view m) PhaseOf id)
   phase-answer l p k h = rw h at (life-answer PhaseOf (λ x. phaseNumber (x .phase) ∷ []) (λ q. refl) l k)
 
   pub mark-answer : (l : Life) (b : Bool) → l ≡ lifeAt m (i % places) → l .retired ≡ b → Accepted (yesNo b ∷ []) ≡ answerOf (askPlugin (view m) RetiredMark id)
   mark-answer l b k h = rw h at (life-answer RetiredMark (λ x. yesNo (x .retired) ∷ []) (λ q. refl) l k)
 
-  pub parent-answer : (p q : parent.Parent) → parentId p ≡ parentAt m (i % places) → p ≡ q → Accepted (one (parentId q)) ≡ answerOf (askPlugin (view m) Parent id)
+  pub parent-answer : (p q : parent.Parent) → parentId p ≡ parentAt m (i % places) → p ≡ q
+      → Accepted (one (parentId q)) ≡ answerOf (askPlugin (view m) Parent id)
   unfolding pluginAt
   parent-answer p q h k = ap (λ (x : Option ℕ). Accepted (one x)) (sym (ap parentId k) ∙ h) ∙ answer Parent
 

@@ -89,7 +89,8 @@ module _ (m : List ℕ) (id i : ℕ) (e : findAt m id ≡ At i) (l : Life) (h : 
     unfolding rules.finish checked pluginAt
     finish-rests = at-known m id i e _ ∙ rw (← same) (rw f)
 
-    pub finish-told : (l′ : Life) → l′ ≡ finishedLife l p → (m′ : List ℕ) → m′ ≡ putLife m (i % places) l′ → (m″ : List ℕ) → m″ ≡ set m′ (i % places * placeWords + maskWord) 0
+    pub finish-told : (l′ : Life) → l′ ≡ finishedLife l p → (m′ : List ℕ) → m′ ≡ putLife m (i % places) l′ → (m″ : List ℕ)
+        → m″ ≡ set m′ (i % places * placeWords + maskWord) 0
         → (Accepted [] ≡ answerOf (rules.finish (view m) id)) × (m″ ≡ finishedTo m (rules.finish (view m) id))
     unfolding leftBy pluginAt
     finish-told l′ k m′ s m″ t =

@@ -13,7 +13,8 @@ use Rattle.rules.specs.Outcomes.{Outcome, refuses, stores, after}
 use Rattle.rules.specs.Phases as rules
 use Rattle.rules_laws.specs.Laws.Tests.{checked-elim}
 use Rattle.memory.specs.Ways.{leftBy}
-use Rattle.memory.specs.Layout.{word, taken, memoryWords, placeWords, idWord, firstRowWord, dependenciesWord, provisionsWord, realmsWord, maskWord, domainWord, firstWord, nextWord, occupancyWord}
+use Rattle.memory.specs.Layout.{word, taken, memoryWords, placeWords, idWord, firstRowWord, dependenciesWord, provisionsWord, realmsWord, maskWord, domainWord}
+use Rattle.memory.specs.Layout.{firstWord, nextWord, occupancyWord}
 use Rattle.memory.specs.View.{lifeAt, pluginAt, view}
 use Rattle.memory.specs.Writes.{findAt, putLife}
 use Rattle.memory.specs.Frames.{life-length, life-before}

@@ -13,7 +13,8 @@ use Rattle.rules.specs.declared.Port.{Port}
 use Rattle.rules.specs.Ports.{pairs, flat, badRealms, realmsOf}
 use Rattle.rules.specs.Dependencies.{dependencyList}
 use Rattle.rules.specs.Outcomes.{Refused, adds, answerOf}
-use Rattle.rules.specs.Registration.{Definition, parentOf, inheritedFrom, resolved, claimed, unoffered, dependenciesOf, newPlugin, claimChecks, roomChecks, register}
+use Rattle.rules.specs.Registration.{Definition, parentOf, inheritedFrom, resolved, claimed, unoffered, dependenciesOf, newPlugin, claimChecks, roomChecks}
+use Rattle.rules.specs.Registration.{register}
 use Rattle.rules_laws.specs.Laws.Tests.{by-test, neither}
 use Rattle.rules_laws.specs.Kept.New.{new-ports}
 use Rattle.memory.specs.Ways.{leftBy}
@@ -43,7 +44,8 @@ use Rattle.rules.specs.declared.Done.the-variants as done
 use Rattle.registry_register.specs.declared.checks.Early.{Early}
 use Rattle.registry_register.specs.declared.checks.Early.the-variants as early
 use Rattle.registry_register.specs.Verdicts.{verdict, under, placeAbove}
-use Rattle.registry_register.specs.Runs.{under-passed, under-refused, passes, RefusesWith, asks, claims, room, early-refuses, claims-refuse, late-refuses, all-pass}
+use Rattle.registry_register.specs.Runs.{under-passed, under-refused, passes, RefusesWith, asks, claims, room, early-refuses, claims-refuse, late-refuses}
+use Rattle.registry_register.specs.Runs.{all-pass}
 use Rattle.registry_register.specs.Parts.{dependenciesAt}
 use Rattle.registry_register.specs.Written.{definition, newEntry, writtenAt, addedTo, lateVerdict, settledAnswer, settledWords}
 use Rattle.rules.specs.declared.Number.{Number}
@@ -144,7 +146,8 @@ module _ (m : List ℕ) (parent : Parent) (anchor : Port) (zs ks vs : List ℕ) 
           unfolding dependenciesOf
           list =
               listed
-              ∙ ap fitted ((λ i. dependencyList (record { rows = good-reached zs good i; other = 0 }) (provisions i) anchor (take maxDependencyKeys ks) ((ap pairs (rows ∙ ap (dependenciesAt m) (sym place)) ∙ inherits) i))
+              ∙ ap fitted ((λ i. dependencyList (record { rows = good-reached zs good i; other = 0 }) (provisions i) anchor (take maxDependencyKeys ks)
+              ((ap pairs (rows ∙ ap (dependenciesAt m) (sym place)) ∙ inherits) i))
               ∙ dependency-law (realmsOf zs) (resolved d vs) anchor ks (inheritedFrom (parentOf r (parentId parent))) few-keys)
 
           late-is : lateVerdict m (l .count) cw ≡ verdict (room r d)
@@ -179,7 +182,8 @@ module _ (m : List ℕ) (parent : Parent) (anchor : Port) (zs ks vs : List ℕ) 
                 ≡ addedTo m (adds (newPlugin r d) (r .next ∷ []))
             unfolding leftBy newPlugin
             written = λ i.
-                writtenAt m (freeAt m) (newEntry m (parentId parent) payload (list-count i) (provision-count i) (sym (length-pairs zs) i)) (list-words i) (all-claims i) (realm-words i)
+                writtenAt m (freeAt m) (newEntry m (parentId parent) payload (list-count i) (provision-count i) (sym (length-pairs zs) i)) (list-words i)
+                (all-claims i) (realm-words i)
 
           pub settled-told : (x : Number) → numberAnswer x ≡ settledAnswer m (l .count) cw
               → (m′ : List ℕ) → m′ ≡ settledWords m (parentId parent) payload (l .count) dw cw zs

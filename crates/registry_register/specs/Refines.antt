@@ -97,7 +97,8 @@ module _ (m : List ℕ) (d : Definition) where
     abbrev o : Outcome
     o = adds (newPlugin r d) (r .next ∷ [])
 
-    written : (at : ℕ) → freeAt m ≡ At at → addedTo m o ≡ filledPlace m at (entryOf n (used m) (word m nextWord + 1)) (n .dependencies) (claimWords n) (n .realms)
+    written : (at : ℕ) → freeAt m ≡ At at
+        → addedTo m o ≡ filledPlace m at (entryOf n (used m) (word m nextWord + 1)) (n .dependencies) (claimWords n) (n .realms)
     unfolding leftBy newPlugin
     written at e = rw e λ i.
         filledPlace m at (entryOf n (used-is m (dense .size) i) (word m nextWord + 1)) (n .dependencies) (flat (d .anchor ∷ new-ports r d i)) (n .realms)

@@ -47,7 +47,8 @@ pub remove-found : (m : List ℕ) (id i : ℕ) → findAt m id ≡ At i → remo
 unfolding remove
 remove-found m id i e = at-known m id i e (removal m id)
 
-module _ (m : List ℕ) (id i : ℕ) (life : Life) (b : Bool) (e : findAt m id ≡ At i) (l : life ≡ lifeAt m (i % places)) (t : b ≡ (isIdle (life .phase) && life .retired)) where
+module _ (m : List ℕ) (id i : ℕ) (life : Life) (b : Bool) (e : findAt m id ≡ At i) (l : life ≡ lifeAt m (i % places))
+    (t : b ≡ (isIdle (life .phase) && life .retired)) where
   removable : (isIdle (pluginAt m i .phase) && pluginAt m i .retired) ≡ b
   unfolding pluginAt
   removable = sym (t ∙ ap (λ x. isIdle (x .phase) && x .retired) (l ∙ ap (lifeAt m) (at-place m id i e)))

@@ -69,7 +69,8 @@ module _ (m : List ℕ) (id v : ℕ) where
           → Meets replacedIn (replace (view m) id v) m (replacedAnswer (c .answer)) m′
       told-replaced f m′ a p =
           let t : eqb (lifeAt m i .revision) last ≡ false = rw loaded at (not-last (recordOf life) v f (rw s at a)) in
-          let k : c ≡ record { next = record { revision = lifeAt m i .revision + 1; payload = v }; answer = replaced.Former (lifeAt m i .payload) } = s ∙ rw (loaded, t) in
+          let k : c ≡ record { next = record { revision = lifeAt m i .revision + 1; payload = v }; answer = replaced.Former (lifeAt m i .payload) } = s
+          ∙ rw (loaded, t) in
           rw (replace-stores t) (
             ap (λ (x : Change). replacedAnswer (x .answer)) k,
             p ∙ (λ x. renewedAt m (at-place m id i e x) (k x .next .revision) (k x .next .payload))

@@ -35,10 +35,12 @@ module _ (m : List ℕ) (id i : ℕ) (o : Outcome) (life : Life) (e : findAt m i
   unfolding retire checked pluginAt
   told-retired t = told-refused o m Retired [] (g ∙ at-known m id i e _ ∙ rw (rw loaded at t))
 
-  pub told-marked : (l′ : Life) (m′ : List ℕ) → life .retired ≡ false → l′ ≡ markedLife life → m′ ≡ putLife m (i % places) l′ → Meets storedLife o m (Accepted []) m′
+  pub told-marked : (l′ : Life) (m′ : List ℕ) → life .retired ≡ false → l′ ≡ markedLife life → m′ ≡ putLife m (i % places) l′
+      → Meets storedLife o m (Accepted []) m′
   unfolding retire checked pluginAt
   told-marked l′ m′ f s p =
-      told-stored o m id i [] (markedLife (lifeAt m i)) m′ e (g ∙ at-known m id i e _ ∙ rw (rw loaded at f)) (p ∙ ap (putLife m (i % places)) (s ∙ ap markedLife loaded))
+      told-stored o m id i [] (markedLife (lifeAt m i)) m′ e (g ∙ at-known m id i e _ ∙ rw (rw loaded at f))
+      (p ∙ ap (putLife m (i % places)) (s ∙ ap markedLife loaded))
 
 -- by child identity, over the header's words as they were read
 module _ (m : List ℕ) (c : Identity) (d : ℕ) (domain : d ≡ word m domainWord) where

@@ -74,7 +74,8 @@ module _ (m : List ℕ) (id i : ℕ) (e : findAt m id ≡ At i) (l : Life) (h : 
       unfolding rules.begin checked pluginAt
       begin-last g = at-known m id i e _ ∙ rw (← same) (rw (n, f, eq-eqb (pluginAt m i .generation) last (of-generation ∙ g)))
 
-      module _ (g : l .generation .0 ≢ last) (ws : List ℕ) (d : ws ≡ depPart m (i % places)) (b : Bool) (u : b ≡ all (rules.available (view m)) (pairs ws)) where
+      module _ (g : l .generation .0 ≢ last) (ws : List ℕ) (d : ws ≡ depPart m (i % places)) (b : Bool)
+          (u : b ≡ all (rules.available (view m)) (pairs ws)) where
         not-last : eqb (pluginAt m i .generation) last ≡ false
         not-last = ne-eqb (pluginAt m i .generation) last (λ z. g (sym of-generation ∙ z))
 
@@ -85,7 +86,8 @@ module _ (m : List ℕ) (id i : ℕ) (e : findAt m id ≡ At i) (l : Life) (h : 
         unfolding rules.begin checked pluginAt
         begin-lacks z = at-known m id i e _ ∙ rw (← same) (rw (n, f, not-last, ready-for ∙ z))
 
-        pub begin-moves : b ≡ true → rules.begin (view m) id ≡ stores (withLife (pluginAt m i) (begunLife l p)) (word m domainWord ∷ id ∷ nextGeneration (l .generation) .0 ∷ 1 ∷ [])
+        pub begin-moves : b ≡ true → rules.begin (view m) id
+            ≡ stores (withLife (pluginAt m i) (begunLife l p)) (word m domainWord ∷ id ∷ nextGeneration (l .generation) .0 ∷ 1 ∷ [])
         unfolding rules.begin checked pluginAt view
         begin-moves y = at-known m id i e _ ∙ rw (← same) (rw (n, f, not-last, ready-for ∙ y, of-generation, ne-eqb (l .generation .0) last g))
 

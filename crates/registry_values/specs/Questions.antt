@@ -102,7 +102,8 @@ module _ (m : List ℕ) (q : Port) (x : Place) (h : x ≡ providerAt m q) where
     pub visible-waiting : b ≡ false → Accepted [] ≡ answerOf (visible (view m) q)
     visible-waiting f = sym (seen-is (At i) n ∙ rw (active-is ∙ f))
 
-    pub visible-value : b ≡ true → (v : Optional) → optionOf v ≡ valueIn q (pluginAt m (i % places) .provisions) → Accepted (one (optionOf v)) ≡ answerOf (visible (view m) q)
+    pub visible-value : b ≡ true → (v : Optional) → optionOf v ≡ valueIn q (pluginAt m (i % places) .provisions)
+        → Accepted (one (optionOf v)) ≡ answerOf (visible (view m) q)
     visible-value t v g =
         ap (λ (y : Option ℕ). Accepted (one y)) (g ∙ ap (λ j. valueIn q (pluginAt m j .provisions)) place-is)
         ∙ sym (seen-is (At i) n ∙ rw (active-is ∙ t))
@@ -137,7 +138,8 @@ module _ (m : List ℕ) (id i : ℕ) (e : findAt m id ≡ At i) where
   found-at : (f : Plugin → Outcome) → known (view m) id f ≡ f (pluginAt m (i % places))
   found-at f = at-known m id i e f ∙ ap (λ j. f (pluginAt m j)) (sym (at-place m id i e))
 
-  pub own-answer : (q : Port) (x y : Optional) → optionOf x ≡ valueIn q (pluginAt m (i % places) .provisions) → x ≡ y → Accepted (one (optionOf y)) ≡ answerOf (own (view m) id q)
+  pub own-answer : (q : Port) (x y : Optional) → optionOf x ≡ valueIn q (pluginAt m (i % places) .provisions) → x ≡ y
+      → Accepted (one (optionOf y)) ≡ answerOf (own (view m) id q)
   unfolding own
   own-answer q x y h n = ap (λ (z : Option ℕ). Accepted (one z)) (sym (ap optionOf n) ∙ h) ∙ sym (ap answerOf (found-at (owns q)))
 
@@ -149,7 +151,8 @@ module _ (m : List ℕ) (id i : ℕ) (e : findAt m id ≡ At i) where
       h ∙ ap (λ (x : Bool). Accepted (yesNo x ∷ [])) (k ∙ ap (λ (ps : List Port). not (oddLength l) && samePorts (pairs l) ps) s)
       ∙ sym (ap answerOf (found-at (fits l)))
 
-  pub declares-answer : (q : Port) (b : Bool) → b ≡ declared (pluginAt m (i % places)) q → (a : Answer) → a ≡ Accepted (yesNo b ∷ []) → a ≡ answerOf (declares (view m) id q)
+  pub declares-answer : (q : Port) (b : Bool) → b ≡ declared (pluginAt m (i % places)) q → (a : Answer) → a ≡ Accepted (yesNo b ∷ [])
+      → a ≡ answerOf (declares (view m) id q)
   unfolding declares declared
   declares-answer q b k a h = h ∙ ap (λ (x : Bool). Accepted (yesNo x ∷ [])) k ∙ sym (ap answerOf (found-at (tells q)))
 
@@ -171,7 +174,8 @@ module _ (m : List ℕ) (id i : ℕ) (e : findAt m id ≡ At i) where
           let k = i % places in
           let s : q ≡ getD (pairs (provPart m k)) j (port 0 0) = g ∙ ap (λ (l : List ℕ). getD (pairs l) j (port 0 0)) w in
           ap (λ (p : Port). Accepted (flat (p ∷ []))) s
-          ∙ sym (missing-is ∙ ap (λ (vs : List Provision). Accepted (firstMissing vs)) (provisions-at m k) ∙ ap Accepted (lack-answer m k (pairs (provPart m k)) j lacking))
+          ∙ sym (missing-is ∙ ap (λ (vs : List Provision). Accepted (firstMissing vs)) (provisions-at m k)
+          ∙ ap Accepted (lack-answer m k (pairs (provPart m k)) j lacking))
 
   -- Read.
   module _ (q : Port) (life : Life) (l : life ≡ lifeAt m (i % places)) (b : Bool) (k : b ≡ (isLoading (life .phase) || isActive (life .phase))) where

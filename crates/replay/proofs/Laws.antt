@@ -18,7 +18,8 @@ module _ (k : Kept) (byte : ℕ) where
   pub ends-line : byte ≡ 10 → byteFed k byte ≡ endLine k
   ends-line e = rw (eq-eqb byte 10 e)
 
-  pub grows : (byte ≡ 10 → ⊥) → (filled : ℕ) (line : List ℕ) → filled ≡ longerCount (k .filled) → line ≡ longerBytes (k .line) (k .filled) byte → kept (k .memory) (k .buffer) (k .slot) line filled ≡ byteFed k byte
+  pub grows : (byte ≡ 10 → ⊥) → (filled : ℕ) (line : List ℕ) → filled ≡ longerCount (k .filled) → line ≡ longerBytes (k .line) (k .filled) byte
+      → kept (k .memory) (k .buffer) (k .slot) line filled ≡ byteFed k byte
   grows h filled line e d = rw (ne-eqb byte 10 h, e, d)
 
 module _ (k : Kept) (part : List ℕ) (i : ℕ) where

@@ -65,7 +65,8 @@ abbrev pub lastId : Registry
 lastId = built (2 ^ 64 - 2) (registers none (port 0 (2 ^ 64 - 1)) [] [] [] ∷ [])
 
 abbrev pub exampleText : String
-exampleText = "domain=7 first=0 next=1 plugins=1 id=0 parent=none phase=0 retired=0 generation=0 revision=0 payload=40 root=0 queued=none anchor=9,0 realms=1 realm=2,5 deps=0 provs=1 prov=2,5,none"
+exampleText =
+    "domain=7 first=0 next=1 plugins=1 id=0 parent=none phase=0 retired=0 generation=0 revision=0 payload=40 root=0 queued=none anchor=9,0 realms=1 realm=2,5 deps=0 provs=1 prov=2,5,none"
 
 abbrev pub lastIdText : String
 lastIdText = "domain=7 first=18446744073709551614 next=18446744073709551615 plugins=1 id=18446744073709551614 parent=none phase=0 retired=0 generation=0 revision=0 payload=40 root=0 queued=none anchor=0,18446744073709551615 realms=0 deps=0 provs=0"

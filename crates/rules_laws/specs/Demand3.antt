@@ -19,7 +19,8 @@ use Rattle.rules.specs.Refusals.{Retired, InvalidState, Stale}
 use Rattle.rules.specs.Outcomes.{Answer, Refused, Accepted, Outcome, stores, answerOf, _⇒_, checked, found}
 use Rattle.rules.specs.Admission.{Invocation, five, receipt, isLive, call}
 use Rattle.rules.specs.Steps.{Op, Call, Run, run, runFresh, answerTo, goOn, goOnWith}
-use Rattle.rules_laws.specs.History.{Told, registered, removed, replaced, settled, retired, admitted, called, toldAtStart, story, stored, ends, Open, refusalFor, Demand3}
+use Rattle.rules_laws.specs.History.{Told, registered, removed, replaced, settled, retired, admitted, called, toldAtStart, story, stored, ends, Open}
+use Rattle.rules_laws.specs.History.{refusalFor, Demand3}
 use Rattle.rules_laws.specs.Laws.Tests.{by-test, both}
 use Rattle.rules_laws.specs.Demand3.Link.{isAdmission, live, Once, Agrees, Linked, Good}
 use Rattle.rules_laws.specs.Demand3.Lives.{same-true, same-refl, would-accept, lives, not-callable, silent}
@@ -90,7 +91,8 @@ never-empty : (l m : List Told) (k : Told) → l ++ k ∷ m ≡ [] → _≡_ {A 
 never-empty [] m k e = cc
 never-empty (x ∷ l) m k e = cc
 
-stored-quiet : (t : Invocation) (l m : List Told) → Once (l ++ admitted (five t) ∷ m) → all (λ k. not (ends t k)) l ≡ true → stored (l ++ admitted (five t) ∷ m) ≡ stored m
+stored-quiet : (t : Invocation) (l m : List Told) → Once (l ++ admitted (five t) ∷ m) → all (λ k. not (ends t k)) l ≡ true
+    → stored (l ++ admitted (five t) ∷ m) ≡ stored m
 stored-quiet t [] m o e = refl
 stored-quiet t (registered v ∷ l) m o e = let z = never-empty l m (admitted (five t)) o in omega arith
 stored-quiet t (removed ∷ l) m o e = stored-quiet t l m o e
@@ -109,7 +111,8 @@ once-tail retired h o = o
 once-tail (admitted vs) h o = o
 once-tail (called vs) h o = o
 
-open-live : (t : Invocation) (l m : List Told) → Once (l ++ admitted (five t) ∷ m) → all (λ k. not (ends t k)) l ≡ true → live t (l ++ admitted (five t) ∷ m) ≡ some (stored m)
+open-live : (t : Invocation) (l m : List Told) → Once (l ++ admitted (five t) ∷ m) → all (λ k. not (ends t k)) l ≡ true
+    → live t (l ++ admitted (five t) ∷ m) ≡ some (stored m)
 open-live t [] m o e = rw (same-refl (five t))
 open-live t (k ∷ l) m o e =
     let b = both (not (ends t k)) (all (λ k. not (ends t k)) l) e in

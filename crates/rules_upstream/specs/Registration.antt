@@ -59,7 +59,8 @@ abbrev pub wellFormed : Definition → Bool
 wellFormed d = not (badRealms (d .realms)) && not (ltb maxDependencyKeys (length (d .dependencies)) || ltb maxProvisionKeys (length (d .provisions)))
 
 abbrev pub roomFor : Registry → Definition → Bool
-roomFor r d = not (leb maxPlugins (count r)) && not (ltb maxDependencies (length (dependenciesOf r d))) && not (ltb maxRows (rowsInUse r + rowsOf (newPlugin r d)))
+roomFor r d = not (leb maxPlugins (count r)) && not (ltb maxDependencies (length (dependenciesOf r d)))
+    && not (ltb maxRows (rowsInUse r + rowsOf (newPlugin r d)))
 
 parent-free : (r : Registry) (u : Option ℕ)
     → (not (isSome u && isNone (parentOf r u)) && (not (holds (λ p. p .retired) (parentOf r u)) && not (holds (λ p. isUnloading (p .phase)) (parentOf r u))))

@@ -69,7 +69,8 @@ childIn rules.Cancelled = nobody
 
 abbrev pub slotWords : rules.Slot → List ℕ
 slotWords s =
-    s .domain ∷ s .parent ∷ hasWord (s .generation) ∷ generationWord (s .generation) ∷ decisionWord (s .decision) ∷ childIn (s .decision) .domain ∷ childIn (s .decision) .parent ∷ childIn (s .decision) .id ∷ []
+    s .domain ∷ s .parent ∷ hasWord (s .generation) ∷ generationWord (s .generation) ∷ decisionWord (s .decision) ∷ childIn (s .decision) .domain
+    ∷ childIn (s .decision) .parent ∷ childIn (s .decision) .id ∷ []
 
 unfoldable pub putSlot : List ℕ → rules.Slot → List ℕ
 putSlot m s = puts m 0 0 (slotWords s)
@@ -108,8 +109,20 @@ module _ (m : List ℕ) (l : length m ≡ 8) where
   pub stored-slot : (s : rules.Slot) → slotOf (slotAt (putSlot m s)) ≡ s
   unfolding slotAt putSlot
   stored-slot s =
-      let one : (n : ℕ) → n < 8 → word (puts m 0 0 (slotWords s)) (0 + (0 + n)) ≡ getD (slotWords s) n 0 = λ n h. puts-same (slotWords s) m 0 0 n h (omega arith) in
-      rw (one 0 (lit< tt), one 1 (lit< tt), one 2 (lit< tt), one 3 (lit< tt), one 4 (lit< tt), one 5 (lit< tt), one 6 (lit< tt), one 7 (lit< tt), generation-code (s .generation), decision-code (s .decision))
+      let one : (n : ℕ) → n < 8 → word (puts m 0 0 (slotWords s)) (0 + (0 + n)) ≡ getD (slotWords s) n 0 =
+      λ n h. puts-same (slotWords s) m 0 0 n h (omega arith) in
+      rw (
+        one 0 (lit< tt),
+        one 1 (lit< tt),
+        one 2 (lit< tt),
+        one 3 (lit< tt),
+        one 4 (lit< tt),
+        one 5 (lit< tt),
+        one 6 (lit< tt),
+        one 7 (lit< tt),
+        generation-code (s .generation),
+        decision-code (s .decision),
+      )
 
   -- The words after an operation hold the slot that comes back, be it decided or as it was.
   decided-held : (agrees : Bool) (v : rules.Decision) →

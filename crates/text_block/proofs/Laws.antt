@@ -29,7 +29,8 @@ abbrev pub provsFrom : List ℕ → ℕ → ℕ → List ℕ → List ℕ
 provsFrom m i j words = provisionLines (valued m i j (pairs (drop (j * 2) words)))
 
 module _ (m : List ℕ) (i : ℕ) where
-  pub name-bytes : {n : ℕ} {o : Option ℕ} → n ≡ idAt m i → o ≡ pluginAt m i .parent → (bytes "id=" ++ ended n 10) ++ (bytes "parent=" ++ orNone o) ≡ nameLines (pluginAt m i)
+  pub name-bytes : {n : ℕ} {o : Option ℕ} → n ≡ idAt m i → o ≡ pluginAt m i .parent
+      → (bytes "id=" ++ ended n 10) ++ (bytes "parent=" ++ orNone o) ≡ nameLines (pluginAt m i)
   unfolding nameLines pluginAt
   name-bytes e f = rw (e, f, or-none (parentAt m i))
 
@@ -55,7 +56,8 @@ module _ (m : List ℕ) (i : ℕ) where
   unfolding provisionLines
   no-provision j w h = sym (rw (pairs-end w (j * 2) (omega arith)))
 
-  pub provision-bytes : {w : List ℕ} → w ≡ provPart m i → (bytes "provs=" ++ ended (length w / 2) 10) ++ provsFrom m i 0 w ≡ provisionsLines (pluginAt m i .provisions)
+  pub provision-bytes : {w : List ℕ} → w ≡ provPart m i
+      → (bytes "provs=" ++ ended (length w / 2) 10) ++ provsFrom m i 0 w ≡ provisionsLines (pluginAt m i .provisions)
   unfolding pluginAt
   provision-bytes {w} e = rw (e, valued-length m i 0 (pairs (provPart m i)), length-pairs (provPart m i))
 

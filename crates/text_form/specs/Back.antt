@@ -26,7 +26,8 @@ unfolding valueFrom
 value-append n b [] = refl
 value-append n b (c ∷ l) = go (noDigit c || ltb last (with n c)) (value-append (with n c) b l)
   where
-    go : (t : Bool) → valueFrom (with n c) (l ++ b ∷ []) ≡ onward (valueFrom (with n c) l) b → pick t none (valueFrom (with n c) (l ++ b ∷ [])) ≡ onward (pick t none (valueFrom (with n c) l)) b
+    go : (t : Bool) → valueFrom (with n c) (l ++ b ∷ []) ≡ onward (valueFrom (with n c) l) b
+        → pick t none (valueFrom (with n c) (l ++ b ∷ [])) ≡ onward (pick t none (valueFrom (with n c) l)) b
     go true e = refl
     go false e = e
 
@@ -57,7 +58,10 @@ lead (suc k) n h p =
     ⊎-elim
     (λ (g : 10 ≤ n).
     let r = lead k (n / 10) (omega arith) (omega arith) in
-    rw (digits-more n g) (rw (List·getD-append (decimalOf (n / 10)) ((48 + n % 10) ∷ []) 0 0 (r .1)) (r .0), omega (arith, ap length (digits-more n g), digits-length n g)))
+    rw (digits-more n g) (
+      rw (List·getD-append (decimalOf (n / 10)) ((48 + n % 10) ∷ []) 0 0 (r .1)) (r .0),
+      omega (arith, ap length (digits-more n g), digits-length n g),
+    ))
     (λ (s : n < 10). rw (digits-one n s) (omega arith, omega arith))
     (below10 n)
 

@@ -18,7 +18,8 @@ module _ (s : List ℕ) (i n : ℕ) where
   unfolding valueFrom
   value-end h = rw (drop-of-length-le s h)
 
-  step : i < length s → valueFrom n (drop i s) ≡ pick (noDigit (getD s i 0) || ltb last (with n (getD s i 0))) none (valueFrom (with n (getD s i 0)) (drop (i + 1) s))
+  step : i < length s → valueFrom n (drop i s)
+      ≡ pick (noDigit (getD s i 0) || ltb last (with n (getD s i 0))) none (valueFrom (with n (getD s i 0)) (drop (i + 1) s))
   unfolding valueFrom
   step h = rw (add-one i, drop-cons s i 0 h)
 
@@ -31,7 +32,8 @@ module _ (s : List ℕ) (i n : ℕ) where
   pub value-over : i < length s → last < with n (getD s i 0) → valueFrom n (drop i s) ≡ none
   value-over h l = step h ∙ rw (lt-ltb last (with n (getD s i 0)) l, or-true)
 
-  pub value-next : i < length s → 48 ≤ getD s i 0 → getD s i 0 ≤ 57 → with n (getD s i 0) ≤ last → valueFrom n (drop i s) ≡ valueFrom (with n (getD s i 0)) (drop (i + 1) s)
+  pub value-next : i < length s → 48 ≤ getD s i 0 → getD s i 0 ≤ 57 → with n (getD s i 0) ≤ last
+      → valueFrom n (drop i s) ≡ valueFrom (with n (getD s i 0)) (drop (i + 1) s)
   value-next h l k f = step h ∙ rw (le-ltb (getD s i 0) 48 l, le-ltb 57 (getD s i 0) k, le-ltb last (with n (getD s i 0)) f)
 
 pub number-empty : (s : List ℕ) → length s ≡ 0 → numberOf s ≡ none

@@ -24,7 +24,8 @@ enough zero (suc k) n hj hk =
 enough (suc j) zero n hj hk =
     let z : n ≡ 0 = omega arith in
     rw z
-enough (suc j) (suc k) n hj hk = ⊎-elim (λ (g : 10 ≤ n). rw (le-ltb n 10 g, enough j k (n / 10) (omega arith) (omega arith))) (λ (l : n < 10). rw (lt-ltb n 10 l)) (below10 n)
+enough (suc j) (suc k) n hj hk = ⊎-elim (λ (g : 10 ≤ n). rw (le-ltb n 10 g, enough j k (n / 10) (omega arith) (omega arith)))
+    (λ (l : n < 10). rw (lt-ltb n 10 l)) (below10 n)
 
 pub digits-one : (n : ℕ) → n < 10 → decimalOf n ≡ (48 + n) ∷ []
 unfolding decimalOf digitsIn
@@ -97,7 +98,8 @@ module _ (n : ℕ) (l : List ℕ) where
   digit-stored i g e h =
       let j : length (decimalOf (n / 10)) ≡ i = omega (arith, digits-length n g) in
       let k : length (decimalOf (n / 10)) < length l = omega arith in
-      ap (λ (d : List ℕ). over d l) (digits-more n g) ∙ over-last (decimalOf (n / 10)) l (48 + n % 10) k ∙ ap (λ (p : ℕ). over (decimalOf (n / 10)) (set l p (48 + n % 10))) j
+      ap (λ (d : List ℕ). over d l) (digits-more n g) ∙ over-last (decimalOf (n / 10)) l (48 + n % 10) k
+      ∙ ap (λ (p : ℕ). over (decimalOf (n / 10)) (set l p (48 + n % 10))) j
 
   pub first-stored : n < 10 → 0 < length l → over (decimalOf n) l ≡ set l 0 (48 + n)
   first-stored h p = rw (digits-one n h) (sym (set-split l 0 (48 + n) p))
@@ -119,7 +121,8 @@ module _ (n : ℕ) (l : List ℕ) where
   written-part r after w = ap (λ (s : List ℕ). take r s) (w .bytes) ∙ take-at (shown n l) (drop (length (shown n l)) l) r (sym (w .count))
 
 -- The last two digits, from what is left of a division by 100.
-pub two-stored : (n : ℕ) (l : List ℕ) (i : ℕ) → 100 ≤ n → i + 1 ≡ length (decimalOf n) → i < length l → over (decimalOf n) l ≡ over (decimalOf (n / 100)) (set (set l i (48 + n % 100 % 10)) (i - 1) (48 + n % 100 / 10))
+pub two-stored : (n : ℕ) (l : List ℕ) (i : ℕ) → 100 ≤ n → i + 1 ≡ length (decimalOf n) → i < length l
+    → over (decimalOf n) l ≡ over (decimalOf (n / 100)) (set (set l i (48 + n % 100 % 10)) (i - 1) (48 + n % 100 / 10))
 two-stored n l i g e h =
     let d : n / 10 / 10 ≡ n / 100 = omega arith in
     let u : n % 10 ≡ n % 100 % 10 = omega arith in

@@ -19,7 +19,9 @@ use Rattle.text_form.specs.Forms.{FitAll}
 use Rattle.text_form.specs.Lines.{line, numberOrNone}
 use Rattle.text_laws.specs.Fit.{text-fits}
 use Rattle.text_laws.specs.Sizes.{Lists, any-text, text-most, rows-most, held-most}
-use Rattle.memory.specs.Layout.{word, taken, startAt, depsAt, provsAt, realmsAt, rowWord, anchorWord, part, provPart, realmPart, depPart, placeWords, maskWord, valuesWord, idWord, tagWord, parentWord, generationWord, revisionWord, payloadWord, rootWord, rootRevisionWord, rootArgumentWord, realmRowsWord}
+use Rattle.memory.specs.Layout.{word, taken, startAt, depsAt, provsAt, realmsAt, rowWord, anchorWord, part, provPart, realmPart, depPart, placeWords, maskWord}
+use Rattle.memory.specs.Layout.{valuesWord, idWord, tagWord, parentWord, generationWord, revisionWord, payloadWord, rootWord, rootRevisionWord}
+use Rattle.memory.specs.Layout.{rootArgumentWord, realmRowsWord}
 use Rattle.memory.specs.View.{parentOf, rootOf, lifeAt, decoded, valueAt, valued, pluginAt, placeAt, placesFrom, view}
 use Rattle.ports.specs.Places.{length-pairs}
 use Rattle.memory_lists.specs.Listed.{valued-length}
@@ -83,7 +85,8 @@ root-fits (suc (suc tag)) v a h k = tt
 module _ (m : List ℕ) (h : Small m) where
   value-fits : (i j : ℕ) → numberOrNone .Fits (valueAt m i j)
   unfolding valueAt
-  value-fits i j = option-fits (eqb (word m (i * placeWords + maskWord) / 2 ^ j % 2) 1) (word m (i * placeWords + valuesWord + j)) (h (i * placeWords + valuesWord + j))
+  value-fits i j = option-fits (eqb (word m (i * placeWords + maskWord) / 2 ^ j % 2) 1) (word m (i * placeWords + valuesWord + j))
+      (h (i * placeWords + valuesWord + j))
 
   provisions-fit : (i j : ℕ) (l : List ℕ) → Small l → FitAll (line "prov" keyRealmValue) (valued m i j (pairs l))
   provisions-fit i j [] s = tt
@@ -121,11 +124,15 @@ module _ (m : List ℕ) (i : ℕ) where
               (
                 h (i * placeWords + payloadWord),
                 (
-                  root-fits (word m (i * placeWords + rootWord)) (word m (i * placeWords + rootRevisionWord)) (word m (i * placeWords + rootArgumentWord)) (h (i * placeWords + rootRevisionWord)) (h (i * placeWords + rootArgumentWord)),
+                  root-fits (word m (i * placeWords + rootWord)) (word m (i * placeWords + rootRevisionWord)) (word m (i * placeWords + rootArgumentWord))
+                      (h (i * placeWords + rootRevisionWord)) (h (i * placeWords + rootArgumentWord)),
                   (
                     (h (anchorWord m i), h (anchorWord m i + 1)),
                     (
-                      ((omega (arith, few-realms), ports-fit "realm" (realmPart m i) (small-part m (i * placeWords + realmRowsWord) (realmsAt m i * 2) h)), refl),
+                      (
+                        (omega (arith, few-realms), ports-fit "realm" (realmPart m i) (small-part m (i * placeWords + realmRowsWord) (realmsAt m i * 2) h)),
+                        refl,
+                      ),
                       (
                         (omega (arith, few-deps), ports-fit "dep" (depPart m i) (small-part m (rowWord (startAt m i)) (depsAt m i * 2) h)),
                         (omega (arith, few-provs), provisions-fit m h i 0 (provPart m i) (small-part m (anchorWord m i + 2) (provsAt m i * 2) h)),

@@ -38,7 +38,8 @@ loop-again c =
     let at = c .before .before .before .before in
     let list = at .before .before .args .list .now in
     let i = at .loop .i in
-    at .loop .inv ∙ numbers-next (upTo (at .loop .text) (at .loop .at)) list i (omega arith) ∙ ap (λ (p : Page). numbersOn p (drop (i + 1) list)) (sym (c .number .ensures))
+    at .loop .inv ∙ numbers-next (upTo (at .loop .text) (at .loop .at)) list i (omega arith)
+    ∙ ap (λ (p : Page). numbersOn p (drop (i + 1) list)) (sym (c .number .ensures))
 
 returns : tie.Need-returns Inv-loop μ-loop
 returns c =

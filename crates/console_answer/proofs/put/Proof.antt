@@ -56,8 +56,12 @@ loop-again c =
     let st = at .before .before .before .before .before .before in
     let bytes = st .args .bytes .now in
     let n = at .loop .i in
-    let long = at .before .before .before .known .ensures in
-    (omega arith, simp length-set (at .loop .inv .1), ap (λ (l : List ℕ). set l (st .args .from + n) (getD bytes n 0)) (at .loop .inv .2) ∙ one-more (st .args .text .now) bytes (st .args .from) n (omega arith) (omega arith))
+    let long = at .before .before .before .known .ensures in (
+      omega arith,
+      simp length-set (at .loop .inv .1),
+      ap (λ (l : List ℕ). set l (st .args .from + n) (getD bytes n 0)) (at .loop .inv .2)
+          ∙ one-more (st .args .text .now) bytes (st .args .from) n (omega arith) (omega arith),
+    )
 
 add-result : tie.Need-add-result Inv-loop μ-loop
 add-result c = search needs

@@ -35,7 +35,8 @@ returns-2 c =
     let at = c .before .before .before in
     let asked = at .before in
     let first = asked .before .before .before in
-    accepted-yes-no _ _ _ _ _ _ true (first .before .before .before .if1 .left) (first .put .ensures) (asked .before .numbers-in .ensures) (sym (at .if2 .taken) ∙ asked .says-yes .ensures) (c .put2 .ensures)
+    accepted-yes-no _ _ _ _ _ _ true (first .before .before .before .if1 .left) (first .put .ensures) (asked .before .numbers-in .ensures)
+    (sym (at .if2 .taken) ∙ asked .says-yes .ensures) (c .put2 .ensures)
 
 slice-aggregate-put-3 : tie.Need-slice-aggregate-put-3
 slice-aggregate-put-3 c = search needs
@@ -48,7 +49,8 @@ returns-3 c =
     let at = c .before .before .before in
     let asked = at .before in
     let first = asked .before .before .before in
-    accepted-yes-no _ _ _ _ _ _ false (first .before .before .before .if1 .left) (first .put .ensures) (asked .before .numbers-in .ensures) (sym (at .if2 .left) ∙ asked .says-yes .ensures) (c .put3 .ensures)
+    accepted-yes-no _ _ _ _ _ _ false (first .before .before .before .if1 .left) (first .put .ensures) (asked .before .numbers-in .ensures)
+    (sym (at .if2 .left) ∙ asked .says-yes .ensures) (c .put3 .ensures)
 
 pub yes-no-spec : {M : Type 1} → statement M
 yes-no-spec =

@@ -28,14 +28,16 @@ returns c =
     let i = c .before .before .before in
     let w = i .before .before in
     let st = w .before .before .before in
-    list-here (st .args .bytes .now) (st .args .from) (w .next-word .result) (w .next-word .ensures .word) (st .args .name .now) (st .args .numbers .now) _ (c .numbers .result) (sym (i .is-word .ensures) ∙ c .before .before .if1 .taken) (c .numbers .ensures)
+    list-here (st .args .bytes .now) (st .args .from) (w .next-word .result) (w .next-word .ensures .word) (st .args .name .now)
+    (st .args .numbers .now) _ (c .numbers .result) (sym (i .is-word .ensures) ∙ c .before .before .if1 .taken) (c .numbers .ensures)
 
 returns-2 : tie.Need-returns-2
 returns-2 c =
     let i = c .before in
     let w = i .before .before in
     let st = w .before .before .before in
-    list-missing (st .args .bytes .now) (st .args .from) (w .next-word .result) (w .next-word .ensures .word) (st .args .name .now) (st .args .numbers .now) (sym (i .is-word .ensures) ∙ c .if1 .left)
+    list-missing (st .args .bytes .now) (st .args .from) (w .next-word .result) (w .next-word .ensures .word) (st .args .name .now) (st .args .numbers .now)
+    (sym (i .is-word .ensures) ∙ c .if1 .left)
 
 pub list-behind-spec : {M : Type 1} → statement M
 list-behind-spec =

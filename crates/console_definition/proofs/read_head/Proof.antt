@@ -22,7 +22,8 @@ returns c =
     let p2 = p3 .before in
     let p1 = p2 .before in
     let st = p1 .before .before in
-    head-of (st .args .bytes .now) (st .args .from) (p1 .read-number .result) (p2 .read-number2 .result) (p3 .read-number3 .result) (c .all .result) (p1 .read-number .ensures) (p2 .read-number2 .ensures) (p3 .read-number3 .ensures) (c .all .ensures)
+    head-of (st .args .bytes .now) (st .args .from) (p1 .read-number .result) (p2 .read-number2 .result) (p3 .read-number3 .result) (c .all .result)
+    (p1 .read-number .ensures) (p2 .read-number2 .ensures) (p3 .read-number3 .ensures) (c .all .ensures)
 
 pub read-head-spec : {M : Type 1} → statement M
 read-head-spec =

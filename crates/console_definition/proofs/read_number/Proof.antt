@@ -32,14 +32,16 @@ returns c =
     let d = c .before .before .before in
     let w = d .before .before in
     let st = w .before .before in
-    number-is (st .args .bytes .now) (st .args .from) (w .next-word .result) (w .next-word .ensures .word) (c .before .number .given .0 .0) (sym (d .read-decimal .ensures) ∙ ap readOf (c .before .number .given .1))
+    number-is (st .args .bytes .now) (st .args .from) (w .next-word .result) (w .next-word .ensures .word) (c .before .number .given .0 .0)
+    (sym (d .read-decimal .ensures) ∙ ap readOf (c .before .number .given .1))
 
 returns-2 : tie.Need-returns-2
 returns-2 c =
     let d = c .before .before in
     let w = d .before .before in
     let st = w .before .before in
-    number-not (st .args .bytes .now) (st .args .from) (w .next-word .result) (w .next-word .ensures .word) (sym (d .read-decimal .ensures) ∙ ap readOf (c .enum-told .given .1))
+    number-not (st .args .bytes .now) (st .args .from) (w .next-word .result) (w .next-word .ensures .word)
+    (sym (d .read-decimal .ensures) ∙ ap readOf (c .enum-told .given .1))
 
 pub read-number-spec : {M : Type 1} → statement M
 read-number-spec =

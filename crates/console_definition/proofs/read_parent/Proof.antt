@@ -55,7 +55,9 @@ returns-2 c =
     let i = d .before .before .before in
     let w = i .before .before .before in
     let st = w .before .before in
-    parent-of (st .args .bytes .now) (st .args .from) (w .next-word .result) (w .next-word .ensures .word) (sym (i .is-word .ensures) ∙ d .before .before .if1 .left) (c .before .number .given .0 .0) (sym (d .read-decimal .ensures) ∙ ap readOf (c .before .number .given .1))
+    parent-of (st .args .bytes .now) (st .args .from) (w .next-word .result) (w .next-word .ensures .word)
+    (sym (i .is-word .ensures) ∙ d .before .before .if1 .left) (c .before .number .given .0 .0)
+    (sym (d .read-decimal .ensures) ∙ ap readOf (c .before .number .given .1))
 
 returns-3 : tie.Need-returns-3
 returns-3 c =
@@ -63,7 +65,8 @@ returns-3 c =
     let i = d .before .before .before in
     let w = i .before .before .before in
     let st = w .before .before in
-    no-parent (st .args .bytes .now) (st .args .from) (w .next-word .result) (w .next-word .ensures .word) (sym (i .is-word .ensures) ∙ d .before .before .if1 .left) (sym (d .read-decimal .ensures) ∙ ap readOf (c .enum-told .given .1))
+    no-parent (st .args .bytes .now) (st .args .from) (w .next-word .result) (w .next-word .ensures .word)
+    (sym (i .is-word .ensures) ∙ d .before .before .if1 .left) (sym (d .read-decimal .ensures) ∙ ap readOf (c .enum-told .given .1))
 
 pub read-parent-spec : {M : Type 1} → statement M
 read-parent-spec =

@@ -38,7 +38,9 @@ returns c =
     let first = p1 .list-behind in
     let second = p2 .list-behind2 in
     let third = p3 .list-behind3 in
-    three-of (st .args .bytes .now) (st .args .from) (first .result) (second .result) (third .result) (st .args .realms .now) _ (st .args .deps .now) _ (st .args .provs .now) _ (first .ensures) (second .ensures) (third .ensures) (e .ends .result) (c .all .result) (e .ends .ensures) (c .all .ensures)
+    three-of (st .args .bytes .now) (st .args .from) (first .result) (second .result) (third .result)
+    (st .args .realms .now) _ (st .args .deps .now) _ (st .args .provs .now) _ (first .ensures) (second .ensures) (third .ensures) (e .ends .result)
+    (c .all .result) (e .ends .ensures) (c .all .ensures)
 
 pub three-lists-spec : {M : Type 1} → statement M
 three-lists-spec =

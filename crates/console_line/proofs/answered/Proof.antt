@@ -28,7 +28,8 @@ returns : tie.Need-returns
 returns c =
     let x = c .before .before .before .before .before .before .before .before .args in
     let w = c .before .before .before .before .before .before .next-word in
-    same-left _ _ _ _ _ _ _ (answered-is (upTo (x .text .now) 0) (x .m .now) (x .buffer .now) (slotOf (x .slot)) (x .bytes .now) (w .result) (w .ensures .word) _ (c .before .before .before .before .operation .ensures)) (c .operate .ensures)
+    same-left _ _ _ _ _ _ _ (answered-is (upTo (x .text .now) 0) (x .m .now) (x .buffer .now) (slotOf (x .slot)) (x .bytes .now) (w .result)
+    (w .ensures .word) _ (c .before .before .before .before .operation .ensures)) (c .operate .ensures)
 
 pub answered-spec : {M : Type 1} → statement M
 answered-spec =

@@ -18,7 +18,8 @@ returns : tie.Need-returns
 returns c =
     let n = c .before .before .before .before .numbers in
     let x = c .before .before .before .before .before .before .before .args in
-    same-done _ _ _ _ _ _ (ap (orBad (upTo (x .text .now) 0) (x .m .now) (x .buffer .now) (x .place) (x .count) (x .kind)) (no-numbers (x .bytes .now) (x .from) _ _ (n .result) (n .ensures) (c .before .before .if1 .taken))) (c .bad .ensures, refl, refl)
+    same-done _ _ _ _ _ _ (ap (orBad (upTo (x .text .now) 0) (x .m .now) (x .buffer .now) (x .place) (x .count) (x .kind))
+    (no-numbers (x .bytes .now) (x .from) _ _ (n .result) (n .ensures) (c .before .before .if1 .taken))) (c .bad .ensures, refl, refl)
 
 takes-requires : tie.Need-takes-requires
 takes-requires c κs = search needs
@@ -33,7 +34,8 @@ returns-2 c =
     let n = read .before .before .numbers in
     let x = read .before .before .before .before .before .args in
     let some = all-numbers (x .bytes .now) (x .from) _ _ (n .result) (n .ensures) (read .if1 .left) in
-    same-done _ _ _ _ _ _ (not-due (upTo (x .text .now) 0) (x .m .now) (x .buffer .now) (x .place) (x .count) (x .kind) _ _ some _ (n .ensures .numbers .part) _ (counted .takes .ensures) (c .before .before .if2 .taken)) (c .bad2 .ensures, refl, refl)
+    same-done _ _ _ _ _ _ (not-due (upTo (x .text .now) 0) (x .m .now) (x .buffer .now) (x .place) (x .count)
+    (x .kind) _ _ some _ (n .ensures .numbers .part) _ (counted .takes .ensures) (c .before .before .if2 .taken)) (c .bad2 .ensures, refl, refl)
 
 array-share-prefix-n : tie.Need-array-share-prefix-n
 array-share-prefix-n c = search needs
@@ -51,7 +53,9 @@ returns-3 c =
     let n = read .before .before .numbers in
     let x = read .before .before .before .before .before .args in
     let some = all-numbers (x .bytes .now) (x .from) _ _ (n .result) (n .ensures) (read .if1 .left) in
-    same-done _ _ _ _ _ _ (due (upTo (x .text .now) 0) (x .m .now) (x .buffer .now) (x .place) (x .count) (x .kind) _ _ some _ (n .ensures .numbers .part) _ (counted .takes .ensures) (c .before .before .before .before .before .if2 .left)) (c .numbers-line .ensures)
+    same-done _ _ _ _ _ _ (due (upTo (x .text .now) 0) (x .m .now) (x .buffer .now) (x .place) (x .count)
+    (x .kind) _ _ some _ (n .ensures .numbers .part) _ (counted .takes .ensures) (c .before .before .before .before .before .if2 .left))
+    (c .numbers-line .ensures)
 
 pub behind-line-spec : {M : Type 1} → statement M
 behind-line-spec =

@@ -23,7 +23,8 @@ returns c =
     let second = told .before .before .before in
     let first = second .before in
     let x = first .before .before .args in
-    list-done (upTo (x .text .now) 0) (x .m .now) (x .buffer .now) (x .held) (x .l .now) _ _ (first .nth .ensures) (second .nth2 .ensures) _ _ _ _ _ (told .listed .ensures) (c .said .ensures)
+    list-done (upTo (x .text .now) 0) (x .m .now) (x .buffer .now) (x .held) (x .l .now) _ _ (first .nth .ensures)
+    (second .nth2 .ensures) _ _ _ _ _ (told .listed .ensures) (c .said .ensures)
 
 pub list-line-spec : {M : Type 1} → statement M
 list-line-spec =

@@ -56,7 +56,8 @@ returns c =
     let at = said .before .before .before in
     let first = at .before .before .before in
     let x = first .before .before .args in
-    shown-done (upTo (x .text .now) 0) (x .m .now) (x .buffer .now) (x .place) (x .kind) (x .l .now) _ (first .nth .ensures) (at .enum-told .given .1) _ (said .shown .ensures) _ _ (c .end .ensures)
+    shown-done (upTo (x .text .now) 0) (x .m .now) (x .buffer .now) (x .place) (x .kind) (x .l .now) _ (first .nth .ensures)
+    (at .enum-told .given .1) _ (said .shown .ensures) _ _ (c .end .ensures)
 
 returns-2 : tie.Need-returns-2
 returns-2 c =
@@ -65,27 +66,31 @@ returns-2 c =
     let second = at .before .before in
     let first = second .before in
     let x = first .before .before .args in
-    buffered-done (upTo (x .text .now) 0) (x .m .now) (x .buffer .now) (x .place) (x .kind) (x .l .now) _ _ (first .nth .ensures) (second .nth2 .ensures) (at .enum-told2 .given .1) _ (said .buffered .ensures) _ _ (c .end2 .ensures)
+    buffered-done (upTo (x .text .now) 0) (x .m .now) (x .buffer .now) (x .place) (x .kind) (x .l .now) _ _ (first .nth .ensures) (second .nth2 .ensures)
+    (at .enum-told2 .given .1) _ (said .buffered .ensures) _ _ (c .end2 .ensures)
 
 returns-3 : tie.Need-returns-3
 returns-3 c =
     let at = c .before .before .before .before .before in
     let x = at .before .before .before .before .before .args in
-    same-done _ _ _ _ _ _ (ap (λ (k : Kind). numbersLine (upTo (x .text .now) 0) (x .m .now) (x .buffer .now) (x .place) k (x .l .now)) (at .kind .given .1)) (c .list-line .ensures)
+    same-done _ _ _ _ _ _ (ap (λ (k : Kind). numbersLine (upTo (x .text .now) 0) (x .m .now) (x .buffer .now) (x .place) k (x .l .now)) (at .kind .given .1))
+    (c .list-line .ensures)
 
 returns-4 : tie.Need-returns-4
 returns-4 c =
     let at = c .before .before .before .before in
     let x = at .before .before .before .before .before .args in
     let o = c .asked-line .ensures in
-    same-done _ _ _ _ _ _ (ap (λ (k : Kind). numbersLine (upTo (x .text .now) 0) (x .m .now) (x .buffer .now) (x .place) k (x .l .now)) (at .kind2 .given .1)) (o .0, o .1, refl)
+    same-done _ _ _ _ _ _ (ap (λ (k : Kind). numbersLine (upTo (x .text .now) 0) (x .m .now) (x .buffer .now) (x .place) k (x .l .now)) (at .kind2 .given .1))
+    (o .0, o .1, refl)
 
 returns-5 : tie.Need-returns-5
 returns-5 c =
     let at = c .before .before .before in
     let first = at .before .before .before in
     let x = first .before .before .args in
-    text-done (upTo (x .text .now) 0) (x .m .now) (x .buffer .now) (x .place) (x .kind) (x .l .now) _ (first .nth .ensures) (at .enum-told3 .given .1) _ _ (c .text-line .ensures)
+    text-done (upTo (x .text .now) 0) (x .m .now) (x .buffer .now) (x .place) (x .kind) (x .l .now) _ (first .nth .ensures)
+    (at .enum-told3 .given .1) _ _ (c .text-line .ensures)
 
 pub numbers-line-spec : {M : Type 1} → statement M
 numbers-line-spec =

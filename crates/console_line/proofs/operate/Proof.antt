@@ -40,7 +40,8 @@ returns c =
     let row = at .before .before in
     let x = row .before .before .args in
     let o = c .slot-line .ensures in
-    same-left _ _ _ _ _ _ _ (operate-is (upTo (x .text .now) 0) (x .m .now) (x .buffer .now) (slotOf (x .slot)) (x .bytes .now) (x .place) (x .from) _ _ (row .row-at .ensures) (at .enum-told .given .1)) (o .0, refl, refl, o .1)
+    same-left _ _ _ _ _ _ _ (operate-is (upTo (x .text .now) 0) (x .m .now) (x .buffer .now) (slotOf (x .slot)) (x .bytes .now) (x .place)
+    (x .from) _ _ (row .row-at .ensures) (at .enum-told .given .1)) (o .0, refl, refl, o .1)
 
 returns-2 : tie.Need-returns-2
 returns-2 c =
@@ -48,7 +49,8 @@ returns-2 c =
     let row = at .before .before in
     let x = row .before .before .args in
     let o = c .register-line .ensures in
-    same-left _ _ _ _ _ _ _ (operate-is (upTo (x .text .now) 0) (x .m .now) (x .buffer .now) (slotOf (x .slot)) (x .bytes .now) (x .place) (x .from) _ _ (row .row-at .ensures) (at .enum-told2 .given .1)) (o .0, o .1, refl, refl)
+    same-left _ _ _ _ _ _ _ (operate-is (upTo (x .text .now) 0) (x .m .now) (x .buffer .now) (slotOf (x .slot)) (x .bytes .now) (x .place)
+    (x .from) _ _ (row .row-at .ensures) (at .enum-told2 .given .1)) (o .0, o .1, refl, refl)
 
 returns-3 : tie.Need-returns-3
 returns-3 c =
@@ -56,7 +58,8 @@ returns-3 c =
     let row = at .before .before in
     let x = row .before .before .args in
     let o = c .behind-line .ensures in
-    same-left _ _ _ _ _ _ _ (operate-is (upTo (x .text .now) 0) (x .m .now) (x .buffer .now) (slotOf (x .slot)) (x .bytes .now) (x .place) (x .from) _ _ (row .row-at .ensures) (at .row .given .1)) (o .0, o .1, o .2, refl)
+    same-left _ _ _ _ _ _ _ (operate-is (upTo (x .text .now) 0) (x .m .now) (x .buffer .now) (slotOf (x .slot)) (x .bytes .now) (x .place)
+    (x .from) _ _ (row .row-at .ensures) (at .row .given .1)) (o .0, o .1, o .2, refl)
 
 returns-4 : tie.Need-returns-4
 returns-4 c =
@@ -64,7 +67,8 @@ returns-4 c =
     let row = at .before .before in
     let x = row .before .before .args in
     let o = c .bad .ensures in
-    same-left _ _ _ _ _ _ _ (operate-is (upTo (x .text .now) 0) (x .m .now) (x .buffer .now) (slotOf (x .slot)) (x .bytes .now) (x .place) (x .from) _ _ (row .row-at .ensures) (at .enum-told3 .given .1)) (o, refl, refl, refl)
+    same-left _ _ _ _ _ _ _ (operate-is (upTo (x .text .now) 0) (x .m .now) (x .buffer .now) (slotOf (x .slot)) (x .bytes .now) (x .place)
+    (x .from) _ _ (row .row-at .ensures) (at .enum-told3 .given .1)) (o, refl, refl, refl)
 
 pub operate-spec : {M : Type 1} → statement M
 operate-spec =

@@ -17,8 +17,11 @@ said-requires c κs = search needs
 returns : tie.Need-returns
 returns c =
     let x = c .before .before .before .before .before .before .before .args in
-    let o = c .before .before .before .registered .ensures in
-    (asked-said (upTo (x .text .now) 0) (x .m .now) Numbers (registration (definitionIn (x .bytes .now) (x .from))) _ _ _ (o .0 .0) (o .0 .1) (c .said .ensures), o .1)
+    let o = c .before .before .before .registered .ensures in (
+      asked-said (upTo (x .text .now) 0) (x .m .now) Numbers (registration (definitionIn (x .bytes .now) (x .from))) _ _ _ (o .0 .0) (o .0 .1)
+          (c .said .ensures),
+      o .1,
+    )
 
 pub register-line-spec : {M : Type 1} → statement M
 register-line-spec =

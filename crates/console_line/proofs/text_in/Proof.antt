@@ -36,7 +36,8 @@ returns-2 : tie.Need-returns-2
 returns-2 c =
     let w = c .before .before .before .before .before .before .before .before .before .before .vaskelbi-write-text in
     let x = c .before .before .before .before .before .before .before .before .before .before .before .before .before .before .args in
-    text-put (upTo (x .text .now) 0) (x .m .now) (x .room .now) _ _ _ (w .ensures) _ (c .before .before .before .before .before .said .ensures) (c .before .before .before .before .if1 .left) _ _ (c .before .front .ensures) (c .put .ensures)
+    text-put (upTo (x .text .now) 0) (x .m .now) (x .room .now) _ _ _ (w .ensures) _ (c .before .before .before .before .before .said .ensures)
+    (c .before .before .before .before .if1 .left) _ _ (c .before .front .ensures) (c .put .ensures)
 
 pub text-in-spec : {M : Type 1} → statement M
 text-in-spec =

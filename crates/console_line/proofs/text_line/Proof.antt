@@ -16,7 +16,8 @@ text-in-requires c κs = search needs
 returns : tie.Need-returns
 returns c =
     let x = c .before .before .before .before .before .args in
-    c .before .text-in .ensures ∙ ap (textOn (upTo (x .text .now) 0) (x .m .now)) (sym (all-lent textRoom (x .size) (c .before .before .before .before .if1 .taken)))
+    c .before .text-in .ensures ∙ ap (textOn (upTo (x .text .now) 0) (x .m .now))
+    (sym (all-lent textRoom (x .size) (c .before .before .before .before .if1 .taken)))
 
 array-borrow-prefix-room : tie.Need-array-borrow-prefix-room
 array-borrow-prefix-room c = search needs

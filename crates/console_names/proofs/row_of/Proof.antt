@@ -18,11 +18,21 @@ kind-of-requires c κs = search needs
 
 returns-3 : tie.Need-returns-3
 unfolding rowOf
-returns-3 c = rw (ne-eqb _ _ (c .before .before .before .if1 .left), ne-eqb _ _ (c .before .before .if2 .left), eq-eqb _ _ (c .if3 .taken), c .before .kind-of .ensures)
+returns-3 c = rw (
+  ne-eqb _ _ (c .before .before .before .if1 .left),
+  ne-eqb _ _ (c .before .before .if2 .left),
+  eq-eqb _ _ (c .if3 .taken),
+  c .before .kind-of .ensures,
+)
 
 returns-4 : tie.Need-returns-4
 unfolding rowOf
-returns-4 c = rw (ne-eqb _ _ (c .before .before .before .if1 .left), ne-eqb _ _ (c .before .before .if2 .left), ne-eqb _ _ (c .if3 .left), c .before .kind-of .ensures)
+returns-4 c = rw (
+  ne-eqb _ _ (c .before .before .before .if1 .left),
+  ne-eqb _ _ (c .before .before .if2 .left),
+  ne-eqb _ _ (c .if3 .left),
+  c .before .kind-of .ensures,
+)
 
 pub row-of-spec : {M : Type 1} → statement M
 row-of-spec = tie.close (tie.spec returns returns-2 kind-of-requires returns-3 returns-4)

@@ -47,7 +47,8 @@ returns-2 c =
     let at = c .before .before .before .before .before .before in
     let st = at .before .before .before in
     let w = c .before .before .before .before .next-word in
-    let e = this-name (st .args .word .now) (st .args .names .now) (at .loop .at) (w .result) (w .ensures .word) (omega arith) (w .ensures .within) (sym (c .before .is-word .ensures) ∙ c .if2 .taken) in
+    let e = this-name (st .args .word .now) (st .args .names .now) (at .loop .at) (w .result) (w .ensures .word) (omega arith) (w .ensures .within)
+    (sym (c .before .is-word .ensures) ∙ c .if2 .taken) in
     omega arith
 
 add-i : tie.Need-add-i Inv-loop μ-loop
@@ -67,7 +68,8 @@ loop-again c =
     let st = at .before .before .before in
     let w = c .before .before .before .before .next-word in
     let e = not-before (st .args .names .now) (at .loop .at) (w .result) (w .ensures .word) (omega arith) in
-    let d = other-name (st .args .word .now) (st .args .names .now) (at .loop .at) (w .result) (w .ensures .word) (omega arith) (w .ensures .within) (sym (c .before .is-word .ensures) ∙ c .if2 .left) in
+    let d = other-name (st .args .word .now) (st .args .names .now) (at .loop .at) (w .result) (w .ensures .word) (omega arith) (w .ensures .within)
+    (sym (c .before .is-word .ensures) ∙ c .if2 .left) in
     (omega arith, w .ensures .within, omega arith)
 
 returns-3 : tie.Need-returns-3 Inv-loop μ-loop

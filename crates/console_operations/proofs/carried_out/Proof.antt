@@ -43,7 +43,8 @@ returns c =
     let at = c .before .before .before .before in
     let first = at .before .before .before .before .before in
     let x = first .before .before .args in
-    same (x .m .now) (x .out .now) _ _ _ _ _ (matches-asked (x .place) (x .l .now) _ _ (at .match .keys1) (first .nth .ensures) (c .before .before .rest .ensures)) (c .vaskelbi-matches .ensures, refl)
+    same (x .m .now) (x .out .now) _ _ _ _ _ (matches-asked (x .place) (x .l .now) _ _ (at .match .keys1) (first .nth .ensures)
+    (c .before .before .rest .ensures)) (c .vaskelbi-matches .ensures, refl)
 
 returns-2 : tie.Need-returns-2
 unfolding placeAmong
@@ -51,7 +52,8 @@ returns-2 c =
     let at = c .before .before .before in
     let first = at .before .before .before .before .before in
     let x = first .before .before .args in
-    same (x .m .now) (x .out .now) _ _ _ _ _ (resolve-asked (x .place) (x .l .now) _ _ (at .match .keys2) (first .nth .ensures) (c .before .before .rest2 .ensures)) (c .vaskelbi-resolve .ensures, refl)
+    same (x .m .now) (x .out .now) _ _ _ _ _ (resolve-asked (x .place) (x .l .now) _ _ (at .match .keys2) (first .nth .ensures)
+    (c .before .before .rest2 .ensures)) (c .vaskelbi-resolve .ensures, refl)
 
 returns-3 : tie.Need-returns-3
 unfolding placeAmong
@@ -63,7 +65,8 @@ returns-3 c =
     let second = third .before in
     let first = second .before in
     let x = first .before .before .args in
-    same (x .m .now) (x .out .now) _ _ _ _ _ (no-more (x .place) (x .l .now) _ _ _ _ _ (first .nth .ensures) (second .nth2 .ensures) (third .nth3 .ensures) (fourth .nth4 .ensures) (fifth .nth5 .ensures) (at .match .rest)) (c .step .ensures)
+    same (x .m .now) (x .out .now) _ _ _ _ _ (no-more (x .place) (x .l .now) _ _ _ _ _ (first .nth .ensures) (second .nth2 .ensures) (third .nth3 .ensures)
+    (fourth .nth4 .ensures) (fifth .nth5 .ensures) (at .match .rest)) (c .step .ensures)
 
 pub carried-out-spec : {M : Type 1} → statement M
 carried-out-spec =

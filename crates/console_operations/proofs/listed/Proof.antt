@@ -27,17 +27,20 @@ vaskelbi-list-realms-requires c κs = search needs
 returns : tie.Need-returns
 returns c =
     let x = c .before .before .before .before .before .args in
-    same-list (x .m .now) _ _ (x .id) (x .from) (x .buffer .now) (x .out .now) _ _ _ (ap whichOf (c .before .before .before .enum-told .given .1)) (c .vaskelbi-list-dependencies .ensures)
+    same-list (x .m .now) _ _ (x .id) (x .from) (x .buffer .now) (x .out .now) _ _ _ (ap whichOf (c .before .before .before .enum-told .given .1))
+    (c .vaskelbi-list-dependencies .ensures)
 
 returns-2 : tie.Need-returns-2
 returns-2 c =
     let x = c .before .before .before .before .before .args in
-    same-list (x .m .now) _ _ (x .id) (x .from) (x .buffer .now) (x .out .now) _ _ _ (ap whichOf (c .before .before .before .enum-told2 .given .1)) (c .vaskelbi-list-provisions .ensures)
+    same-list (x .m .now) _ _ (x .id) (x .from) (x .buffer .now) (x .out .now) _ _ _ (ap whichOf (c .before .before .before .enum-told2 .given .1))
+    (c .vaskelbi-list-provisions .ensures)
 
 returns-3 : tie.Need-returns-3
 returns-3 c =
     let x = c .before .before .before .before .before .args in
-    same-list (x .m .now) _ _ (x .id) (x .from) (x .buffer .now) (x .out .now) _ _ _ (ap whichOf (c .before .before .before .enum-told3 .given .1)) (c .vaskelbi-list-realms .ensures)
+    same-list (x .m .now) _ _ (x .id) (x .from) (x .buffer .now) (x .out .now) _ _ _ (ap whichOf (c .before .before .before .enum-told3 .given .1))
+    (c .vaskelbi-list-realms .ensures)
 
 pub listed-spec : {M : Type 1} → statement M
 listed-spec =

@@ -95,19 +95,25 @@ returns-8 : tie.Need-returns-8
 unfolding operationAt
 returns-8 c =
     let x = c .before .before .before .before .args in
-    question-at (x .place) (three (x .a) (x .b) (x .c)) (x .m .now) (x .out .now) _ _ _ (c .before .before .before .match .keys8) (one-told (x .m .now) (x .out .now) _ _ (Ask (AskRegistry RowsInUse)) _ (c .before .before .vaskelbi-rows .ensures) (c .one .ensures .0) (c .one .ensures .1))
+    question-at (x .place) (three (x .a) (x .b) (x .c)) (x .m .now) (x .out .now) _ _ _ (c .before .before .before .match .keys8)
+    (one-told (x .m .now) (x .out .now) _ _ (Ask (AskRegistry RowsInUse)) _ (c .before .before .vaskelbi-rows .ensures) (c .one .ensures .0)
+    (c .one .ensures .1))
 
 returns-9 : tie.Need-returns-9
 unfolding operationAt
 returns-9 c =
     let x = c .before .before .before .before .args in
-    question-at (x .place) (three (x .a) (x .b) (x .c)) (x .m .now) (x .out .now) _ _ _ (c .before .before .before .match .keys9) (one-told (x .m .now) (x .out .now) _ _ (Ask (AskRegistry Registered)) _ (c .before .before .vaskelbi-count .ensures) (c .one2 .ensures .0) (c .one2 .ensures .1))
+    question-at (x .place) (three (x .a) (x .b) (x .c)) (x .m .now) (x .out .now) _ _ _ (c .before .before .before .match .keys9)
+    (one-told (x .m .now) (x .out .now) _ _ (Ask (AskRegistry Registered)) _ (c .before .before .vaskelbi-count .ensures) (c .one2 .ensures .0)
+    (c .one2 .ensures .1))
 
 returns-10 : tie.Need-returns-10
 unfolding operationAt
 returns-10 c =
     let x = c .before .before .before .before .args in
-    question-at (x .place) (three (x .a) (x .b) (x .c)) (x .m .now) (x .out .now) _ _ _ (c .before .before .before .match .keys10) (one-told (x .m .now) (x .out .now) _ _ (Ask (AskRegistry NextId)) _ (c .before .before .vaskelbi-next .ensures) (c .one3 .ensures .0) (c .one3 .ensures .1))
+    question-at (x .place) (three (x .a) (x .b) (x .c)) (x .m .now) (x .out .now) _ _ _ (c .before .before .before .match .keys10)
+    (one-told (x .m .now) (x .out .now) _ _ (Ask (AskRegistry NextId)) _ (c .before .before .vaskelbi-next .ensures) (c .one3 .ensures .0)
+    (c .one3 .ensures .1))
 
 returns-11 : tie.Need-returns-11
 unfolding placeAmong

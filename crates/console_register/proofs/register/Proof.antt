@@ -26,17 +26,23 @@ enum-told-2 c = search needs
 returns : tie.Need-returns
 returns c =
     let x = c .before .before .before .before .before .before .before .before .before .args in
-    same (x .m .now) (x .out .now) _ _ _ _ _ (ap (λ (u : Parent). underParent u (port (x .key) (x .realm)) (x .realms .now) (x .deps .now) (x .provs .now) (x .payload)) (c .before .before .before .before .under .given .1)) (c .vaskelbi-register-child .ensures .0, c .vaskelbi-register-child .ensures .1)
+    same (x .m .now) (x .out .now) _ _ _ _ _ (ap
+    (λ (u : Parent). underParent u (port (x .key) (x .realm)) (x .realms .now) (x .deps .now) (x .provs .now) (x .payload))
+    (c .before .before .before .before .under .given .1)) (c .vaskelbi-register-child .ensures .0, c .vaskelbi-register-child .ensures .1)
 
 returns-2 : tie.Need-returns-2
 returns-2 c =
     let x = c .before .before .before .before .before .before .before .before .args in
-    same (x .m .now) (x .out .now) _ _ _ _ _ (ap (λ (u : Parent). underParent u (port (x .key) (x .realm)) (x .realms .now) (x .deps .now) (x .provs .now) (x .payload)) (c .before .before .before .enum-told .given .1)) (c .vaskelbi-register .ensures .0, c .vaskelbi-register .ensures .1)
+    same (x .m .now) (x .out .now) _ _ _ _ _ (ap
+    (λ (u : Parent). underParent u (port (x .key) (x .realm)) (x .realms .now) (x .deps .now) (x .provs .now) (x .payload))
+    (c .before .before .before .enum-told .given .1)) (c .vaskelbi-register .ensures .0, c .vaskelbi-register .ensures .1)
 
 returns-3 : tie.Need-returns-3
 returns-3 c =
     let x = c .before .before .before .before .before .args in
-    same (x .m .now) (x .out .now) _ _ _ _ _ (ap (λ (u : Parent). underParent u (port (x .key) (x .realm)) (x .realms .now) (x .deps .now) (x .provs .now) (x .payload)) (c .enum-told2 .given .1)) ((refl, refl), refl)
+    same (x .m .now) (x .out .now) _ _ _ _ _ (ap
+    (λ (u : Parent). underParent u (port (x .key) (x .realm)) (x .realms .now) (x .deps .now) (x .provs .now) (x .payload)) (c .enum-told2 .given .1))
+    ((refl, refl), refl)
 
 pub register-spec : {M : Type 1} → statement M
 register-spec =

@@ -19,7 +19,9 @@ with-lists-requires c κs = search needs
 returns : tie.Need-returns
 returns c =
     let x = c .before .before .before .before .before .before .args in
-    same (x .m .now) (x .out .now) _ _ _ _ _ (ap registration (parts (x .bytes .now) (x .from) _ _ (c .before .before .before .before .read-parent .ensures) (c .before .before .before .read-head .ensures))) (c .with-lists .ensures)
+    same (x .m .now) (x .out .now) _ _ _ _ _ (ap registration
+    (parts (x .bytes .now) (x .from) _ _ (c .before .before .before .before .read-parent .ensures) (c .before .before .before .read-head .ensures)))
+    (c .with-lists .ensures)
 
 pub registered-spec : {M : Type 1} → statement M
 registered-spec =

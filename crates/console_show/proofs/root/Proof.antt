@@ -26,7 +26,8 @@ returns c =
     let say = at .before in
     let ask = say .before .before .before in
     let st = ask .before .before in
-    none-queued (st .args .m .now) (st .args .id) (st .pre) _ _ _ _ _ refl (ask .vaskelbi-root .ensures) (say .answer .ensures) _ (at .if1 .taken) (c .put .ensures)
+    none-queued (st .args .m .now) (st .args .id) (st .pre) _ _ _ _ _ refl (ask .vaskelbi-root .ensures) (say .answer .ensures) _ (at .if1 .taken)
+    (c .put .ensures)
 
 returns-2 : tie.Need-returns-2
 returns-2 c =

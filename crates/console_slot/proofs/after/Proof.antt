@@ -28,12 +28,14 @@ shown-requires c κs = search needs
 returns : tie.Need-returns
 returns c =
     let x = c .before .before .before .before .before .args in
-    same-after _ _ _ _ _ (ap (λ (t : Decides). decidedOr (upTo (x .text .now) 0) (slotOf (x .slot)) (decidesOf t)) (c .before .before .before .enum-told .given .1)) (c .put .ensures, refl)
+    same-after _ _ _ _ _ (ap (λ (t : Decides). decidedOr (upTo (x .text .now) 0) (slotOf (x .slot)) (decidesOf t))
+    (c .before .before .before .enum-told .given .1)) (c .put .ensures, refl)
 
 returns-2 : tie.Need-returns-2
 returns-2 c =
     let x = c .before .before .before .before .before .before .args in
-    same-after _ _ _ _ _ (ap (λ (t : Decides). decidedOr (upTo (x .text .now) 0) (slotOf (x .slot)) (decidesOf t)) (c .before .before .before .before .decides .given .1)) (c .shown .ensures, refl)
+    same-after _ _ _ _ _ (ap (λ (t : Decides). decidedOr (upTo (x .text .now) 0) (slotOf (x .slot)) (decidesOf t))
+    (c .before .before .before .before .decides .given .1)) (c .shown .ensures, refl)
 
 pub after-spec : {M : Type 1} → statement M
 after-spec =

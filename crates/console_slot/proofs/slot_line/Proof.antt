@@ -21,7 +21,8 @@ returns c =
     let x = c .before .before .before .before .before .before .before .before .args in
     let w = c .before .before .before .before .before .before .next-word in
     let n = c .before .before .before .before .numbers in
-    same-after _ _ _ _ _ (bad-line (upTo (x .text .now) 0) (slotOf (x .slot)) (x .bytes .now) (x .from) (w .result) (w .ensures .word) (no-numbers (x .bytes .now) (w .result .stop) _ _ (n .result) (n .ensures) (c .before .before .if1 .taken))) (c .after .ensures)
+    same-after _ _ _ _ _ (bad-line (upTo (x .text .now) 0) (slotOf (x .slot)) (x .bytes .now) (x .from) (w .result) (w .ensures .word)
+    (no-numbers (x .bytes .now) (w .result .stop) _ _ (n .result) (n .ensures) (c .before .before .if1 .taken))) (c .after .ensures)
 
 sub-decided-by : tie.Need-sub-decided-by
 sub-decided-by c = search needs
@@ -49,7 +50,9 @@ returns-2 c =
     let x = c .before .before .before .before .before .before .before .before .before .before .before .args in
     let w = c .before .before .before .before .before .before .before .before .before .next-word in
     let n = c .before .before .before .before .before .before .before .numbers in
-    same-after _ _ _ _ _ (named-line (upTo (x .text .now) 0) (slotOf (x .slot)) (x .bytes .now) (x .from) (w .result) (w .ensures .word) _ (all-numbers (x .bytes .now) (w .result .stop) _ _ (n .result) (n .ensures) (c .before .before .before .before .before .if1 .left)) _ (c .before .before .decided-by .ensures)) (c .after2 .ensures)
+    same-after _ _ _ _ _ (named-line (upTo (x .text .now) 0) (slotOf (x .slot)) (x .bytes .now) (x .from) (w .result)
+    (w .ensures .word) _ (all-numbers (x .bytes .now) (w .result .stop) _ _ (n .result) (n .ensures)
+    (c .before .before .before .before .before .if1 .left)) _ (c .before .before .decided-by .ensures)) (c .after2 .ensures)
 
 pub slot-line-spec : {M : Type 1} → statement M
 slot-line-spec =

@@ -36,14 +36,16 @@ returns-2 c =
     let w2 = c .before .before in
     let w = w2 .before .before .before in
     let st = w .before .before .before in
-    ap some (c .cancel .ensures) ∙ is-cancel (slotOf (st .args .slot)) (st .args .name .now) (sym (w .is-word .ensures) ∙ w2 .before .before .if1 .left) (sym (w2 .is-word2 .ensures) ∙ c .before .if2 .taken)
+    ap some (c .cancel .ensures) ∙ is-cancel (slotOf (st .args .slot)) (st .args .name .now) (sym (w .is-word .ensures) ∙ w2 .before .before .if1 .left)
+    (sym (w2 .is-word2 .ensures) ∙ c .before .if2 .taken)
 
 returns-3 : tie.Need-returns-3
 returns-3 c =
     let w2 = c .before in
     let w = w2 .before .before .before in
     let st = w .before .before .before in
-    neither (slotOf (st .args .slot)) (st .args .name .now) (sym (w .is-word .ensures) ∙ w2 .before .before .if1 .left) (sym (w2 .is-word2 .ensures) ∙ c .if2 .left)
+    neither (slotOf (st .args .slot)) (st .args .name .now) (sym (w .is-word .ensures) ∙ w2 .before .before .if1 .left)
+    (sym (w2 .is-word2 .ensures) ∙ c .if2 .left)
 
 pub with-none-spec : {M : Type 1} → statement M
 with-none-spec =

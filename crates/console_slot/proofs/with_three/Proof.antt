@@ -23,7 +23,8 @@ returns : tie.Need-returns
 returns c =
     let w = c .before .before .before in
     let st = w .before .before .before in
-    c .new-slot .ensures ∙ ap newDecides (c .before .pending .ensures) ∙ is-pending (slotOf (st .args .slot)) (st .args .name .now) (identityOf (st .args .child)) (sym (w .is-word .ensures) ∙ c .before .before .if1 .taken)
+    c .new-slot .ensures ∙ ap newDecides (c .before .pending .ensures)
+    ∙ is-pending (slotOf (st .args .slot)) (st .args .name .now) (identityOf (st .args .child)) (sym (w .is-word .ensures) ∙ c .before .before .if1 .taken)
 
 slice-aggregate-is-word-2 : tie.Need-slice-aggregate-is-word-2
 slice-aggregate-is-word-2 c = search needs
@@ -42,7 +43,9 @@ returns-2 c =
     let w2 = c .before .before .before in
     let w = w2 .before .before .before in
     let st = w .before .before .before in
-    c .new-slot2 .ensures ∙ ap newDecides (c .before .assigned .ensures) ∙ is-assigned (slotOf (st .args .slot)) (st .args .name .now) (identityOf (st .args .child)) (sym (w .is-word .ensures) ∙ w2 .before .before .if1 .left) (sym (w2 .is-word2 .ensures) ∙ c .before .before .if2 .taken)
+    c .new-slot2 .ensures ∙ ap newDecides (c .before .assigned .ensures)
+    ∙ is-assigned (slotOf (st .args .slot)) (st .args .name .now) (identityOf (st .args .child))
+    (sym (w .is-word .ensures) ∙ w2 .before .before .if1 .left) (sym (w2 .is-word2 .ensures) ∙ c .before .before .if2 .taken)
 
 slice-aggregate-is-word-3 : tie.Need-slice-aggregate-is-word-3
 slice-aggregate-is-word-3 c = search needs
@@ -59,7 +62,9 @@ returns-3 c =
     let w2 = w3 .before .before .before in
     let w = w2 .before .before .before in
     let st = w .before .before .before in
-    ap some (c .assign .ensures) ∙ is-assign (slotOf (st .args .slot)) (st .args .name .now) (identityOf (st .args .child)) (sym (w .is-word .ensures) ∙ w2 .before .before .if1 .left) (sym (w2 .is-word2 .ensures) ∙ w3 .before .before .if2 .left) (sym (w3 .is-word3 .ensures) ∙ c .before .if3 .taken)
+    ap some (c .assign .ensures) ∙ is-assign (slotOf (st .args .slot)) (st .args .name .now) (identityOf (st .args .child))
+    (sym (w .is-word .ensures) ∙ w2 .before .before .if1 .left) (sym (w2 .is-word2 .ensures) ∙ w3 .before .before .if2 .left)
+    (sym (w3 .is-word3 .ensures) ∙ c .before .if3 .taken)
 
 returns-4 : tie.Need-returns-4
 returns-4 c =
@@ -67,7 +72,8 @@ returns-4 c =
     let w2 = w3 .before .before .before in
     let w = w2 .before .before .before in
     let st = w .before .before .before in
-    no-name (slotOf (st .args .slot)) (st .args .name .now) (identityOf (st .args .child)) (sym (w .is-word .ensures) ∙ w2 .before .before .if1 .left) (sym (w2 .is-word2 .ensures) ∙ w3 .before .before .if2 .left) (sym (w3 .is-word3 .ensures) ∙ c .if3 .left)
+    no-name (slotOf (st .args .slot)) (st .args .name .now) (identityOf (st .args .child)) (sym (w .is-word .ensures) ∙ w2 .before .before .if1 .left)
+    (sym (w2 .is-word2 .ensures) ∙ w3 .before .before .if2 .left) (sym (w3 .is-word3 .ensures) ∙ c .if3 .left)
 
 pub with-three-spec : {M : Type 1} → statement M
 with-three-spec =

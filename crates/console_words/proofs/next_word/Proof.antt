@@ -17,7 +17,8 @@ past-word-requires c κs = search needs
 returns-2 : tie.Need-returns-2
 returns-2 c =
     let st = c .before .before .before .before in
-    one-word (st .args .line .now) (st .args .from) (c .before .past-spaces .result) (c .past-word .result) (omega arith) (c .before .past-spaces .ensures .0) (c .past-word .ensures .0) (c .past-word .ensures .1)
+    one-word (st .args .line .now) (st .args .from) (c .before .past-spaces .result) (c .past-word .result) (omega arith) (c .before .past-spaces .ensures .0)
+    (c .past-word .ensures .0) (c .past-word .ensures .1)
 
 pub next-word-spec : {M : Type 1} → statement M
 next-word-spec = tie.close (tie.spec returns past-spaces-requires past-word-requires returns-2)

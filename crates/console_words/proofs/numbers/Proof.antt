@@ -11,7 +11,9 @@ use Rattle.console_words.proofs.numbers.Statement.{statement}
 use Rattle.console_words.proofs.numbers.Tie as tie
 
 abbrev Inv-loop : tie.InvT-loop
-Inv-loop line from out₀ at₀ count₀ out at count = (count ≤ 2048) × (length out ≡ 2048) × (drop count out ≡ drop count out₀) × (runFrom 2048 line from ≡ ahead (take count out) (runFrom (2048 - count) line at))
+Inv-loop line from out₀ at₀ count₀ out at count =
+    (count ≤ 2048) × (length out ≡ 2048) × (drop count out ≡ drop count out₀)
+    × (runFrom 2048 line from ≡ ahead (take count out) (runFrom (2048 - count) line at))
 
 abbrev μ-loop : tie.MeasureT-loop
 μ-loop line from out₀ at₀ count₀ out at count = 2048 - count
@@ -50,7 +52,8 @@ returns c =
     let w = c .before .before .before .before .next-word in
     let l = at .loop in
     gathered (st .args .line .now) (st .args .out .now) (l .out) (st .args .from) (l .count) (l .inv .0) (l .inv .1) (l .inv .2) (w .result .start)
-    (l .inv .3 ∙ run-stop (st .args .line .now) (take (l .count) (l .out)) (l .at) (l .count) (w .result) (w .ensures .word) (omega arith) (sym (c .before .before .read-decimal .ensures) ∙ ap readOf (c .enum-told .given .1)))
+    (l .inv .3 ∙ run-stop (st .args .line .now) (take (l .count) (l .out)) (l .at) (l .count) (w .result) (w .ensures .word) (omega arith)
+    (sym (c .before .before .read-decimal .ensures) ∙ ap readOf (c .enum-told .given .1)))
 
 mul-out : tie.Need-mul-out Inv-loop μ-loop
 mul-out c = search needs
@@ -72,8 +75,13 @@ loop-again c =
     let l = at .loop in
     let n = c .before .number .given .0 .0 in
     let p = stored (st .args .line .now) (st .args .out .now) (l .out) (st .args .from) (l .count) (l .inv .0) (l .inv .1) (l .inv .2) n (omega arith) in
-    let e = sym (c .before .before .before .read-decimal .ensures) ∙ ap readOf (c .before .number .given .1) in
-    (omega arith, p .0, p .1, l .inv .3 ∙ run-next (st .args .line .now) (take (l .count) (l .out)) (l .at) (l .count) (w .result) (w .ensures .word) (omega arith) n e ∙ rw (p .2))
+    let e = sym (c .before .before .before .read-decimal .ensures) ∙ ap readOf (c .before .number .given .1) in (
+      omega arith,
+      p .0,
+      p .1,
+      l .inv .3 ∙ run-next (st .args .line .now) (take (l .count) (l .out)) (l .at) (l .count) (w .result) (w .ensures .word)
+          (omega arith) n e ∙ rw (p .2),
+    )
 
 returns-2 : tie.Need-returns-2 Inv-loop μ-loop
 returns-2 c =

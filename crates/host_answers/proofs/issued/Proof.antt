@@ -25,13 +25,25 @@ one-requires-2 : tie.Need-one-requires-2
 one-requires-2 c κs = search needs
 
 returns : tie.Need-returns
-returns c = (c .one .ensures .0, c .one .ensures .1 ∙ sym (ap (λ x. counted (rootNumbers x) (c .before .before .before .before .args .out .now)) (c .before .before .enum-told .given .1)))
+returns c = (
+  c .one .ensures .0,
+  c .one .ensures .1
+      ∙ sym (ap (λ x. counted (rootNumbers x) (c .before .before .before .before .args .out .now)) (c .before .before .enum-told .given .1)),
+)
 
 returns-2 : tie.Need-returns-2
-returns-2 c = (c .three .ensures .0, c .three .ensures .1 ∙ sym (ap (λ x. counted (rootNumbers x) (c .before .before .before .before .before .args .out .now)) (c .before .before .before .root .given .1)))
+returns-2 c = (
+  c .three .ensures .0,
+  c .three .ensures .1
+      ∙ sym (ap (λ x. counted (rootNumbers x) (c .before .before .before .before .before .args .out .now)) (c .before .before .before .root .given .1)),
+)
 
 returns-3 : tie.Need-returns-3
-returns-3 c = (c .one2 .ensures .0, c .one2 .ensures .1 ∙ sym (ap (λ x. counted (rootNumbers x) (c .before .before .before .before .args .out .now)) (c .before .before .enum-told2 .given .1)))
+returns-3 c = (
+  c .one2 .ensures .0,
+  c .one2 .ensures .1
+      ∙ sym (ap (λ x. counted (rootNumbers x) (c .before .before .before .before .args .out .now)) (c .before .before .enum-told2 .given .1)),
+)
 
 pub issued-spec : {M : Type 1} → statement M
 issued-spec =

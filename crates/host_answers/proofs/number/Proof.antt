@@ -17,7 +17,8 @@ enum-known-a-2 c = search needs
 
 returns : tie.Need-returns
 unfolding statusOf wordsOf
-returns c = told _ _ (c .before .before .before .before .before .args .out .now) _ _ (ap numberAnswer (c .before .before .before .a .given .1)) (c .one .ensures .0) (c .one .ensures .1)
+returns c = told _ _ (c .before .before .before .before .before .args .out .now) _ _ (ap numberAnswer (c .before .before .before .a .given .1))
+    (c .one .ensures .0) (c .one .ensures .1)
 
 returns-2 : tie.Need-returns-2
 unfolding statusOf wordsOf

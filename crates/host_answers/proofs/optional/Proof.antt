@@ -20,11 +20,13 @@ none-requires c κs = search needs
 
 returns : tie.Need-returns
 unfolding statusOf wordsOf
-returns c = told _ _ (c .before .before .before .before .before .args .out .now) _ _ (ap optionAnswer (c .before .before .before .a .given .1)) (c .one .ensures .0) (c .one .ensures .1)
+returns c = told _ _ (c .before .before .before .before .before .args .out .now) _ _ (ap optionAnswer (c .before .before .before .a .given .1))
+    (c .one .ensures .0) (c .one .ensures .1)
 
 returns-2 : tie.Need-returns-2
 unfolding statusOf wordsOf
-returns-2 c = told _ _ (c .before .before .before .before .args .out .now) _ _ (ap optionAnswer (c .before .before .enum-told .given .1)) (c .none .ensures .0) (c .none .ensures .1)
+returns-2 c = told _ _ (c .before .before .before .before .args .out .now) _ _ (ap optionAnswer (c .before .before .enum-told .given .1))
+    (c .none .ensures .0) (c .none .ensures .1)
 
 pub optional-spec : {M : Type 1} → statement M
 optional-spec =

@@ -23,11 +23,13 @@ enum-known-a-2 c = search needs
 
 returns : tie.Need-returns
 unfolding statusOf wordsOf
-returns c = told _ _ (c .before .before .before .before .before .args .out .now) _ _ (ap perhapsAnswer (c .before .before .before .a .given .1)) (c .one .ensures .0) (c .one .ensures .1)
+returns c = told _ _ (c .before .before .before .before .before .args .out .now) _ _ (ap perhapsAnswer (c .before .before .before .a .given .1))
+    (c .one .ensures .0) (c .one .ensures .1)
 
 returns-2 : tie.Need-returns-2
 unfolding statusOf wordsOf
-returns-2 c = told _ _ (c .before .before .before .before .args .out .now) _ _ (ap perhapsAnswer (c .before .before .enum-told .given .1)) (c .none .ensures .0) (c .none .ensures .1)
+returns-2 c = told _ _ (c .before .before .before .before .args .out .now) _ _ (ap perhapsAnswer (c .before .before .enum-told .given .1))
+    (c .none .ensures .0) (c .none .ensures .1)
 
 returns-3 : tie.Need-returns-3
 unfolding statusOf wordsOf

@@ -20,7 +20,8 @@ one-requires-2 c κs = search needs
 
 returns : tie.Need-returns
 unfolding statusOf wordsOf
-returns c = told _ _ (c .before .before .before .before .before .args .out .now) _ _ (ap replacedAnswer (c .before .before .before .a .given .1)) (c .one .ensures .0) (c .one .ensures .1)
+returns c = told _ _ (c .before .before .before .before .before .args .out .now) _ _ (ap replacedAnswer (c .before .before .before .a .given .1))
+    (c .one .ensures .0) (c .one .ensures .1)
 
 returns-2 : tie.Need-returns-2
 unfolding statusOf wordsOf

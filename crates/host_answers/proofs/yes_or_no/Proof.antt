@@ -18,7 +18,8 @@ returns c = told _ _ (c .before .before .before .args .out .now) _ _ (ap admitsA
 
 returns-2 : tie.Need-returns-2
 unfolding statusOf wordsOf
-returns-2 c = told _ _ (c .before .before .before .args .out .now) _ _ (ap admitsAnswer (c .before .before .if1 .left)) (c .one2 .ensures .0) (c .one2 .ensures .1)
+returns-2 c = told _ _ (c .before .before .before .args .out .now) _ _ (ap admitsAnswer (c .before .before .if1 .left)) (c .one2 .ensures .0)
+    (c .one2 .ensures .1)
 
 pub yes-or-no-spec : {M : Type 1} → statement M
 yes-or-no-spec = tie.close (tie.spec one-requires one-requires-2 returns returns-2)

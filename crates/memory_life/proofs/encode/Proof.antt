@@ -21,7 +21,12 @@ root-argument-requires c κs = search needs
 
 returns : tie.Need-returns
 unfolding encoded
-returns c = simp (c .before .before .before .before .number .ensures, c .before .before .root-tag .ensures, c .before .root-revision .ensures, c .root-argument .ensures)
+returns c = simp (
+  c .before .before .before .before .number .ensures,
+  c .before .before .root-tag .ensures,
+  c .before .root-revision .ensures,
+  c .root-argument .ensures,
+)
 
 pub encode-spec : {M : Type 1} → statement M
 encode-spec =

@@ -42,7 +42,8 @@ new-requires c κs = search needs
 returns : tie.Need-returns
 returns c =
     let a = c .before .before .before .before .before .args in
-    anchor-words (a .m .now) (a .place % places) _ _ _ (c .before .before .before .before .start .ensures) (c .before .before .before .dependencies .ensures) (c .new .ensures)
+    anchor-words (a .m .now) (a .place % places) _ _ _ (c .before .before .before .before .start .ensures) (c .before .before .before .dependencies .ensures)
+    (c .new .ensures)
 
 pub anchor-spec : {M : Type 1} → statement M
 anchor-spec =

@@ -32,7 +32,8 @@ some-words-requires : tie.Need-some-words-requires
 some-words-requires c κs = search needs
 
 returns : tie.Need-returns
-returns c = prov-words _ _ _ _ _ (c .before .before .before .before .start .ensures) (c .before .before .before .dependencies .ensures) _ (c .before .before .provisions .ensures) (c .some-words .ensures)
+returns c = prov-words _ _ _ _ _ (c .before .before .before .before .start .ensures)
+    (c .before .before .before .dependencies .ensures) _ (c .before .before .provisions .ensures) (c .some-words .ensures)
 
 pub provision-words-spec : {M : Type 1} → statement M
 provision-words-spec =

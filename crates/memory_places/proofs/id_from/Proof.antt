@@ -35,7 +35,8 @@ loop-less c = search needs
 loop-again : tie.Need-loop-again Inv-loop μ-loop
 loop-again c =
     id-lower _ _ _ _ (c .before .before .before .before .before .loop-test .taken) (c .before .before .before .before .before .before .loop .inv) _ _
-    (sym (c .before .before .before .before .is-taken .ensures) ∙ c .before .before .before .if1 .taken) (c .before .before .id .ensures) (omega (arith, c .before .if2 .taken)) (c .lower .ensures)
+    (sym (c .before .before .before .before .is-taken .ensures) ∙ c .before .before .before .if1 .taken) (c .before .before .id .ensures)
+    (omega (arith, c .before .if2 .taken)) (c .lower .ensures)
 
 loop-less-2 : tie.Need-loop-less-2 Inv-loop μ-loop
 loop-less-2 c = search needs

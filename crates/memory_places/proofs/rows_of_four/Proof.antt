@@ -38,7 +38,9 @@ add-result-3 c = search needs
 returns : tie.Need-returns
 returns c = (
   omega arith,
-  rows-four _ _ _ (c .before .before .before .before .pre .0) (c .before .before .before .before .pre .1) _ _ _ _ (c .before .before .before .rows-at .ensures .1) (c .before .before .rows-at2 .ensures .1) (c .before .rows-at3 .ensures .1) (c .rows-at4 .ensures .1),
+  rows-four _ _ _ (c .before .before .before .before .pre .0)
+      (c .before .before .before .before .pre .1) _ _ _ _ (c .before .before .before .rows-at .ensures .1) (c .before .before .rows-at2 .ensures .1)
+      (c .before .rows-at3 .ensures .1) (c .rows-at4 .ensures .1),
 )
 
 pub rows-of-four-spec : {M : Type 1} → statement M

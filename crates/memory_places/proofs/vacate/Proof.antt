@@ -9,7 +9,8 @@ use borrow.Author.Needs.{needs}
 use Rattle.memory_places.proofs.vacate.Statement.{statement}
 use Rattle.memory_places.proofs.vacate.Tie as tie
 
-there : (c : tie.After-occupied) → taken (c .before .before .before .before .before .args .m .now) (c .before .before .before .before .before .args .place) ≡ true
+there : (c : tie.After-occupied) → taken (c .before .before .before .before .before .args .m .now) (c .before .before .before .before .before .args .place)
+    ≡ true
 there c = sym (c .before .before .before .is-taken .ensures) ∙ c .before .before .if1 .taken
 
 is-taken-requires : tie.Need-is-taken-requires

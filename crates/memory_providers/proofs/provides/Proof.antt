@@ -20,7 +20,8 @@ returns-2 : tie.Need-returns-2
 returns-2 c =
     let n = c .before .before .before in
     let e = n .before in
-    provides-anchor _ _ _ _ _ (e .before .before .provision-words .ensures) (e .before .has-port .ensures) _ (n .anchor .ensures) (e .if1 .left) (c .before .if2 .taken)
+    provides-anchor _ _ _ _ _ (e .before .before .provision-words .ensures) (e .before .has-port .ensures) _ (n .anchor .ensures) (e .if1 .left)
+    (c .before .if2 .taken)
 
 returns-3 : tie.Need-returns-3
 returns-3 c =

@@ -49,7 +49,8 @@ returns c =
     let p = c .before .before .before .before .before .before in
     let s = p .before .before .before .before .before .before .before in
     let a = s .before .before .before .before .before .args in
-    free-steps (a .m .now) _ _ _ (a .place % places) _ _ _ _ _ (omega arith) (sym (s .before .before .before .is-taken .ensures) ∙ s .before .before .if1 .taken)
+    free-steps (a .m .now) _ _ _ (a .place % places) _ _ _ _ _ (omega arith)
+    (sym (s .before .before .before .is-taken .ensures) ∙ s .before .before .if1 .taken)
     (p .before .before .before .before .before .before .before .start .ensures)
     (p .before .before .before .before .before .dependencies .ensures)
     (p .before .before .before .provisions .ensures)

@@ -68,7 +68,8 @@ loop-again c =
     let l = a .list .now in
     let s = pairs-at l (i * 2) (omega arith) in
     let e : i * 2 + 2 ≡ (i + 1) * 2 = omega arith in
-    at .loop .inv ∙ port-miss s i q (⊎-elim (λ w e f. w .2 .left f) (λ w e f. w .left e) (c .if1 .came)) ∙ ap (λ (n : ℕ). portFrom (i + 1) q (pairs (drop n l))) e
+    at .loop .inv ∙ port-miss s i q (⊎-elim (λ w e f. w .2 .left f) (λ w e f. w .left e) (c .if1 .came))
+    ∙ ap (λ (n : ℕ). portFrom (i + 1) q (pairs (drop n l))) e
 
 returns-2 : tie.Need-returns-2 Inv-loop μ-loop
 unfolding portFrom

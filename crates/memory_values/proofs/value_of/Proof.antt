@@ -24,7 +24,8 @@ returns : tie.Need-returns
 returns c =
     let f = c .before .before in
     let a = f .before .before .args in
-    no-value (a .m .now) (a .place % places) (port (a .key) (a .realm)) _ (f .before .provision-words .ensures) _ (f .place-of .ensures) (c .enum-told .given .1)
+    no-value (a .m .now) (a .place % places) (port (a .key) (a .realm)) _ (f .before .provision-words .ensures) _ (f .place-of .ensures)
+    (c .enum-told .given .1)
 
 value-at-requires : tie.Need-value-at-requires
 value-at-requires c κs = search needs

@@ -72,7 +72,8 @@ behind c =
 returns : tie.Need-returns Inv-loop μ-loop
 returns c =
     let at = c .before .before .before .before .before .before in
-    let s = pairs-behind (at .before .before .args .ports .now) (at .loop .i) (at .loop .inv .0) (c .before .before .before .before .before .loop-test .taken) in
+    let s = pairs-behind (at .before .before .args .ports .now) (at .loop .i) (at .loop .inv .0)
+    (c .before .before .before .before .before .loop-test .taken) in
     sym (at .loop .inv .1 ∙ repeats-hit s (sym (behind (c .before)) ∙ c .if1 .taken))
 
 add-i : tie.Need-add-i Inv-loop μ-loop
@@ -84,7 +85,8 @@ loop-less c = search needs
 loop-again : tie.Need-loop-again Inv-loop μ-loop
 loop-again c =
     let at = c .before .before .before .before .before .before in
-    let s = pairs-behind (at .before .before .args .ports .now) (at .loop .i) (at .loop .inv .0) (c .before .before .before .before .before .loop-test .taken) in
+    let s = pairs-behind (at .before .before .args .ports .now) (at .loop .i) (at .loop .inv .0)
+    (c .before .before .before .before .before .loop-test .taken) in
     (omega arith, at .loop .inv .1 ∙ repeats-miss s (sym (behind (c .before)) ∙ c .if1 .left))
 
 returns-2 : tie.Need-returns-2 Inv-loop μ-loop

@@ -113,8 +113,12 @@ next-holds c =
     let f = resolveIn (a .other) (reached (pairs (a .realms .now))) in
     let keys = take maxDependencyKeys (a .keys .now) in
     let r = declared-lists (a .other) (reached (pairs (a .realms .now))) (a .keys .now) (c .declared .ensures .0) (c .declared .ensures .1) in
-    let h : c .declared .result ≤ maxDependencies = omega (arith, r .counted, length-map keys f, length-take maxDependencyKeys (a .keys .now)) in
-    (h, lists-own r, ap (λ (l : List Port). inherit (ownPorts (pairs (a .provisions .now)) (a .anchor)) (candidates (reachedWith (a .other) (a .realms .now)) (pairs (a .parents .now))) l) (sym (listed r)))
+    let h : c .declared .result ≤ maxDependencies = omega (arith, r .counted, length-map keys f, length-take maxDependencyKeys (a .keys .now)) in (
+      h,
+      lists-own r,
+      ap (λ (l : List Port). inherit (ownPorts (pairs (a .provisions .now)) (a .anchor))
+          (candidates (reachedWith (a .other) (a .realms .now)) (pairs (a .parents .now))) l) (sym (listed r)),
+    )
 
 mul-at : tie.Need-mul-at Inv-loop μ-loop Inv-next μ-next
 mul-at c = search needs
@@ -271,7 +275,8 @@ returns-2 c =
     let a = at .before .before .before .before .before .before .before .args in
     let v = at .next .inv in
     let l = soFar (at .next .n) (at .next .list) in
-    let e = v .2 ∙ ap (λ (cs : List Port). inherit (ownPorts (pairs (a .provisions .now)) (a .anchor)) cs l) (candidates-end (a .other) (a .realms .now) (a .parents .now) (at .next .c) (c .next-test .left)) in
+    let e = v .2 ∙ ap (λ (cs : List Port). inherit (ownPorts (pairs (a .provisions .now)) (a .anchor)) cs l)
+    (candidates-end (a .other) (a .realms .now) (a .parents .now) (at .next .c) (c .next-test .left)) in
     fitted-lists l (v .1) (v .0) ∙ ap fitted (sym e)
 
 pub dependency-list-spec : {M : Type 1} → statement M

@@ -45,8 +45,12 @@ loop-again c =
     let ports = al .before .args .ports .now in
     let out = al .before .args .out .now in
     let i = al .loop .i in
-    let e = numbers ports in
-    (omega arith, simp length-set (al .loop .inv .1), ap (λ (l : List ℕ). set l i (getD ports i 0)) (al .loop .inv .2) ∙ turn ports out i (omega arith) (omega arith))
+    let e = numbers ports in (
+      omega arith,
+      simp length-set (al .loop .inv .1),
+      ap (λ (l : List ℕ). set l i (getD ports i 0)) (al .loop .inv .2)
+          ∙ turn ports out i (omega arith) (omega arith),
+    )
 
 same-length : tie.Need-same-length Inv-loop μ-loop
 same-length c = search needs

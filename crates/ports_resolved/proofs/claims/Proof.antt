@@ -20,7 +20,8 @@ use Rattle.ports_resolved.proofs.claims.Tie as tie
 
 abbrev Inv-loop : tie.InvT-loop
 Inv-loop other realms keys ports₀ i₀ ports i =
-    (i ≤ maxProvisionKeys) × (i ≤ length keys) × Lists claimRoom (i + 1) ports (pairs (take 2 ports₀) ++ map (resolveIn other (reached (pairs realms))) (take i keys))
+    (i ≤ maxProvisionKeys) × (i ≤ length keys)
+    × Lists claimRoom (i + 1) ports (pairs (take 2 ports₀) ++ map (resolveIn other (reached (pairs realms))) (take i keys))
 
 abbrev μ-loop : tie.MeasureT-loop
 μ-loop other realms keys ports₀ i₀ ports i = length keys - i
@@ -86,8 +87,12 @@ loop-again c =
     let at = c .before .before .before .before .before in
     let a = at .before .before .before .args in
     let f = resolveIn (a .other) (reached (pairs (a .realms .now))) in
-    let e = resolve-with (reached (pairs (a .realms .now))) _ _ _ _ (c .resolve .ensures) (c .before .new .ensures) in
-    (omega arith, omega arith, lists-key f (a .anchor ∷ []) (a .keys .now) (at .loop .i) (at .loop .inv .2) (omega arith) e (omega arith) (omega arith) (omega arith))
+    let e = resolve-with (reached (pairs (a .realms .now))) _ _ _ _ (c .resolve .ensures) (c .before .new .ensures) in (
+      omega arith,
+      omega arith,
+      lists-key f (a .anchor ∷ []) (a .keys .now) (at .loop .i) (at .loop .inv .2) (omega arith) e (omega arith) (omega arith)
+          (omega arith),
+    )
 
 add-count : tie.Need-add-count Inv-loop μ-loop
 add-count c = search needs
@@ -96,7 +101,8 @@ returns-2 : tie.Need-returns-2 Inv-loop μ-loop
 returns-2 c =
     let at = c .before in
     let keys = at .before .before .before .args .keys .now in
-    let t : take (at .loop .i) keys ≡ take maxProvisionKeys keys = take-all (at .loop .i) keys (omega arith) ∙ sym (take-all maxProvisionKeys keys (omega arith)) in
+    let t : take (at .loop .i) keys ≡ take maxProvisionKeys keys = take-all (at .loop .i) keys (omega arith)
+    ∙ sym (take-all maxProvisionKeys keys (omega arith)) in
     let r = rw t at (at .loop .inv .2) in
     λ k. record { count = r .counted k; ports = r .numbers k }
 

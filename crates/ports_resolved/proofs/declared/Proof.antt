@@ -18,7 +18,8 @@ use Rattle.ports_resolved.proofs.declared.Tie as tie
 abbrev Inv-loop : tie.InvT-loop
 Inv-loop other realms keys ports₀ i₀ ports i =
     (i ≤ maxDependencyKeys) × (i ≤ length keys)
-    × (stored ports₀ 0 (declaredOf other (reached (pairs realms)) keys) ≡ stored ports i (map (resolveIn other (reached (pairs realms))) (drop i (take maxDependencyKeys keys))))
+    × (stored ports₀ 0 (declaredOf other (reached (pairs realms)) keys)
+    ≡ stored ports i (map (resolveIn other (reached (pairs realms))) (drop i (take maxDependencyKeys keys))))
 
 abbrev μ-loop : tie.MeasureT-loop
 μ-loop other realms keys ports₀ i₀ ports i = length keys - i
@@ -30,7 +31,9 @@ returns : tie.Need-returns Inv-loop μ-loop
 returns c =
     let at = c .before .before in
     let a = at .before .before .before .args in
-    stored-all (resolveIn (a .other) (reached (pairs (a .realms .now)))) (a .keys .now) (at .loop .list) (at .loop .i) _ _ (omega (arith, length-take maxDependencyKeys (a .keys .now))) (omega (arith, length-take maxDependencyKeys (a .keys .now))) (at .loop .inv .2)
+    stored-all (resolveIn (a .other) (reached (pairs (a .realms .now)))) (a .keys .now) (at .loop .list)
+    (at .loop .i) _ _ (omega (arith, length-take maxDependencyKeys (a .keys .now))) (omega (arith, length-take maxDependencyKeys (a .keys .now)))
+    (at .loop .inv .2)
 
 mul-new : tie.Need-mul-new Inv-loop μ-loop
 mul-new c = search needs
@@ -83,7 +86,9 @@ returns-2 : tie.Need-returns-2 Inv-loop μ-loop
 returns-2 c =
     let at = c .before in
     let a = at .before .before .before .args in
-    stored-all (resolveIn (a .other) (reached (pairs (a .realms .now)))) (a .keys .now) (at .loop .list) (at .loop .i) _ _ (omega (arith, length-take maxDependencyKeys (a .keys .now))) (omega (arith, length-take maxDependencyKeys (a .keys .now))) (at .loop .inv .2)
+    stored-all (resolveIn (a .other) (reached (pairs (a .realms .now)))) (a .keys .now) (at .loop .list)
+    (at .loop .i) _ _ (omega (arith, length-take maxDependencyKeys (a .keys .now))) (omega (arith, length-take maxDependencyKeys (a .keys .now)))
+    (at .loop .inv .2)
 
 pub declared-spec : {M : Type 1} → statement M
 declared-spec =

@@ -33,7 +33,8 @@ returns-3 c =
     let f = c .before .before in
     let k = f .before .before in
     let s = k .before in
-    told-refused _ _ Unknown [] (admit-none _ _ _ _ (s .before .domain .ensures) (s .if1 .left) (k .if2 .left) (sym (f .find .ensures) ∙ c .enum-told .given .1))
+    told-refused _ _ Unknown [] (admit-none _ _ _ _ (s .before .domain .ensures) (s .if1 .left) (k .if2 .left)
+    (sym (f .find .ensures) ∙ c .enum-told .given .1))
 
 load-requires : tie.Need-load-requires
 load-requires c κs = search needs
@@ -49,7 +50,8 @@ returns-4 c =
     let f = a .before .before in
     let k = f .before .before in
     let s = k .before in
-    told-verdict _ _ _ _ (s .before .domain .ensures) (s .if1 .left) (k .if2 .left) _ _ _ (sym (f .find .ensures) ∙ a .at .given .1) (l .load .ensures) (v .verdict .ensures) (c .if3 .taken)
+    told-verdict _ _ _ _ (s .before .domain .ensures) (s .if1 .left) (k .if2 .left) _ _ _ (sym (f .find .ensures) ∙ a .at .given .1) (l .load .ensures)
+    (v .verdict .ensures) (c .if3 .taken)
 
 with-root-requires : tie.Need-with-root-requires
 with-root-requires c κs = search needs
@@ -66,7 +68,8 @@ returns-5 c =
     let f = a .before .before in
     let k = f .before .before in
     let s = k .before in
-    told-admitted _ _ _ _ (s .before .domain .ensures) (s .if1 .left) (k .if2 .left) _ _ _ (sym (f .find .ensures) ∙ a .at .given .1) (l .load .ensures) (v .verdict .ensures) _ _ (w .if3 .left) (c .before .with-root .ensures) (c .store .ensures)
+    told-admitted _ _ _ _ (s .before .domain .ensures) (s .if1 .left) (k .if2 .left) _ _ _ (sym (f .find .ensures) ∙ a .at .given .1) (l .load .ensures)
+    (v .verdict .ensures) _ _ (w .if3 .left) (c .before .with-root .ensures) (c .store .ensures)
 
 pub admit-spec : {M : Type 1} → statement M
 admit-spec =

@@ -46,7 +46,8 @@ returns-4 c =
     let f = a .before .before in
     let k = f .before in
     let s = k .before in
-    admits-as _ _ _ (admit-accepts _ _ _ _ (s .before .domain .ensures) (s .if1 .left) (k .if2 .left) _ _ _ (sym (f .find .ensures) ∙ a .at .given .1) (l .load .ensures) (c .verdict .ensures))
+    admits-as _ _ _ (admit-accepts _ _ _ _ (s .before .domain .ensures) (s .if1 .left) (k .if2 .left) _ _ _ (sym (f .find .ensures) ∙ a .at .given .1)
+    (l .load .ensures) (c .verdict .ensures))
 
 pub admits-spec : {M : Type 1} → statement M
 admits-spec =

@@ -38,7 +38,8 @@ returns-3 c =
     let a = l .before .before .before in
     let f = a .before .before in
     let s = f .before .before in
-    told-refused _ _ Retired [] (call-retired _ _ _ (s .before .domain .ensures) (s .if1 .left) _ _ (sym (f .find .ensures) ∙ a .at .given .1) (l .load .ensures) (c .if2 .taken))
+    told-refused _ _ Retired [] (call-retired _ _ _ (s .before .domain .ensures) (s .if1 .left) _ _ (sym (f .find .ensures) ∙ a .at .given .1)
+    (l .load .ensures) (c .if2 .taken))
 
 is-live-requires : tie.Need-is-live-requires
 is-live-requires c κs = search needs
@@ -57,7 +58,8 @@ returns-4 c =
     let a = l .before .before .before in
     let f = a .before .before in
     let s = f .before .before in
-    told-called _ _ _ (s .before .domain .ensures) (s .if1 .left) _ _ (sym (f .find .ensures) ∙ a .at .given .1) (l .load .ensures) _ (b .before .if2 .left) (b .is-live .ensures) _ _ (w .if3 .taken) (c .before .with-root .ensures) (c .store .ensures)
+    told-called _ _ _ (s .before .domain .ensures) (s .if1 .left) _ _ (sym (f .find .ensures) ∙ a .at .given .1) (l .load .ensures) _ (b .before .if2 .left)
+    (b .is-live .ensures) _ _ (w .if3 .taken) (c .before .with-root .ensures) (c .store .ensures)
 
 returns-5 : tie.Need-returns-5
 returns-5 c =
@@ -66,7 +68,8 @@ returns-5 c =
     let a = l .before .before .before in
     let f = a .before .before in
     let s = f .before .before in
-    told-refused _ _ Stale [] (call-stale _ _ _ (s .before .domain .ensures) (s .if1 .left) _ _ (sym (f .find .ensures) ∙ a .at .given .1) (l .load .ensures) _ (b .before .if2 .left) (b .is-live .ensures) (c .if3 .left))
+    told-refused _ _ Stale [] (call-stale _ _ _ (s .before .domain .ensures) (s .if1 .left) _ _ (sym (f .find .ensures) ∙ a .at .given .1)
+    (l .load .ensures) _ (b .before .if2 .left) (b .is-live .ensures) (c .if3 .left))
 
 pub call-spec : {M : Type 1} → statement M
 call-spec =

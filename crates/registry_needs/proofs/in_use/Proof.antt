@@ -36,7 +36,8 @@ returns c =
     let p = a .place % places in
     let i = l .loop .i in
     let h = t .before .before .loop-test .taken in
-    sym (l .loop .inv .1 ∙ any-here (userAt (a .m .now) p) (a .m .now) i h _ (sym (t .before .is-taken .ensures) ∙ t .if1 .taken) (own-place (a .m .now) p i h _ (c .before .is-user .ensures)) (c .if2 .taken))
+    sym (l .loop .inv .1 ∙ any-here (userAt (a .m .now) p) (a .m .now) i h _ (sym (t .before .is-taken .ensures) ∙ t .if1 .taken)
+    (own-place (a .m .now) p i h _ (c .before .is-user .ensures)) (c .if2 .taken))
 
 add-i : tie.Need-add-i Inv-loop μ-loop
 add-i c = search needs
@@ -55,7 +56,9 @@ loop-again c =
     let t = sym (c .before .is-taken .ensures) in (
       omega arith,
       l .loop .inv .1
-          ∙ ⊎-elim {C = anyFrom (userAt m p) (places - i) m i ≡ anyFrom (userAt m p) (places - (i + 1)) m (i + 1)} (λ w. any-not (userAt m p) m i h _ (t ∙ w .0 .taken) (own-place m p i h _ (w .1 .ensures)) (w .2 .left)) (λ w. any-free (userAt m p) m i h (t ∙ w .left)) (c .if1 .came),
+          ∙ ⊎-elim {C = anyFrom (userAt m p) (places - i) m i ≡ anyFrom (userAt m p) (places - (i + 1)) m (i + 1)}
+          (λ w. any-not (userAt m p) m i h _ (t ∙ w .0 .taken) (own-place m p i h _ (w .1 .ensures)) (w .2 .left))
+          (λ w. any-free (userAt m p) m i h (t ∙ w .left)) (c .if1 .came),
     )
 
 returns-2 : tie.Need-returns-2 Inv-loop μ-loop

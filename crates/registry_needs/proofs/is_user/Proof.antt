@@ -22,7 +22,8 @@ returns : tie.Need-returns
 returns c =
     let r = c .before .before in
     let a = r .before .before .before .args in
-    user-runs (a .m .now) (a .user % places) (a .place % places) _ (r .before .before .load .ensures) _ (r .before .is-running .ensures) (r .if1 .taken) _ (c .before .dependency-words .ensures) _ (c .provides-one .ensures)
+    user-runs (a .m .now) (a .user % places) (a .place % places) _ (r .before .before .load .ensures) _ (r .before .is-running .ensures)
+    (r .if1 .taken) _ (c .before .dependency-words .ensures) _ (c .provides-one .ensures)
 
 returns-2 : tie.Need-returns-2
 returns-2 c =

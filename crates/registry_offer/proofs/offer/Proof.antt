@@ -71,7 +71,8 @@ returns-4 c =
     let l = b .before in
     let a = l .before .before .before in
     offered-twice _ _ _ _ _ (sym (a .before .before .find .ensures) ∙ a .at .given .1) _ (l .load .ensures) _ (b .is-closed .ensures) (o .if1 .left)
-    _ (w .provision-words .ensures) _ (f .place-of .ensures) _ (j .j .given .1) (v .value-at .result) (v .value-at .ensures) _ (g .is-given .ensures) (c .if2 .taken)
+    _ (w .provision-words .ensures) _ (f .place-of .ensures) _ (j .j .given .1) (v .value-at .result) (v .value-at .ensures) _ (g .is-given .ensures)
+    (c .if2 .taken)
 
 set-value-requires : tie.Need-set-value-requires
 set-value-requires c κs = search needs
@@ -89,7 +90,8 @@ returns-5 c =
     let l = b .before in
     let a = l .before .before .before in
     offered-now _ _ _ _ _ (sym (a .before .before .find .ensures) ∙ a .at .given .1) _ (l .load .ensures) _ (b .is-closed .ensures) (o .if1 .left)
-    _ (w .provision-words .ensures) _ (f .place-of .ensures) _ (j .j .given .1) (v .value-at .result) (v .value-at .ensures) _ (g .is-given .ensures) (n .if2 .left) _ (c .set-value .ensures)
+    _ (w .provision-words .ensures) _ (f .place-of .ensures) _ (j .j .given .1) (v .value-at .result) (v .value-at .ensures) _ (g .is-given .ensures)
+    (n .if2 .left) _ (c .set-value .ensures)
 
 pub offer-spec : {M : Type 1} → statement M
 offer-spec =

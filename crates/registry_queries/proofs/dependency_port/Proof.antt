@@ -39,8 +39,10 @@ port-at-requires c κs = search needs
 
 returns-3 : tie.Need-returns-3
 returns-3 c =
-    let e = sym (c .before .before .before .before .before .before .before .before .before .find .ensures) ∙ c .before .before .before .before .before .before .before .at .given .1 in
-    port-answer _ _ _ e _ _ (c .before .before .before .before .before .dependency-words .ensures) _ _ (sym (c .before .before .before .before .first-port .ensures) ∙ c .before .before .i .given .1) (c .port-at .ensures)
+    let e = sym (c .before .before .before .before .before .before .before .before .before .find .ensures)
+    ∙ c .before .before .before .before .before .before .before .at .given .1 in
+    port-answer _ _ _ e _ _ (c .before .before .before .before .before .dependency-words .ensures)
+    _ _ (sym (c .before .before .before .before .first-port .ensures) ∙ c .before .before .i .given .1) (c .port-at .ensures)
 
 pub dependency-port-spec : {M : Type 1} → statement M
 dependency-port-spec =

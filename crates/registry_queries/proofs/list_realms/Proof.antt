@@ -31,7 +31,8 @@ returns-2 : tie.Need-returns-2
 returns-2 c =
     let l = c .before .before in
     let a = l .before .before .before .before in
-    list-answer _ _ _ (sym (a .before .before .find .ensures) ∙ a .at .given .1) RealmRows _ _ _ _ _ (l .before .before .realm-words .ensures) (l .list-ports .ensures)
+    list-answer _ _ _ (sym (a .before .before .find .ensures) ∙ a .at .given .1) RealmRows _ _ _ _ _ (l .before .before .realm-words .ensures)
+    (l .list-ports .ensures)
 
 pub list-realms-spec : {M : Type 1} → statement M
 list-realms-spec =

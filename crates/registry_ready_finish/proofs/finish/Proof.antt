@@ -40,7 +40,8 @@ returns-2 c =
     let l = n .before in
     let a = l .before .before .before in
     let e = sym (a .before .before .find .ensures) ∙ a .at .given .1 in
-    finished-refused _ _ InvalidState (finish-stuck _ _ _ e _ (l .load .ensures) (cell-empty (rules.cell (l .load .result .phase) rules.Finish) _ (n .next .ensures) (c .enum-told2 .given .1)))
+    finished-refused _ _ InvalidState (finish-stuck _ _ _ e _ (l .load .ensures)
+    (cell-empty (rules.cell (l .load .result .phase) rules.Finish) _ (n .next .ensures) (c .enum-told2 .given .1)))
 
 finished-requires : tie.Need-finished-requires
 finished-requires c κs = search needs

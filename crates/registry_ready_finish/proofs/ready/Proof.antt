@@ -51,7 +51,8 @@ returns-3 c =
     let l = r .before in
     let a = l .before .before .before in
     let e = sym (a .before .before .find .ensures) ∙ a .at .given .1 in
-    told-refused _ _ InvalidState [] (ready-stuck _ _ _ e _ (l .load .ensures) (r .if1 .left) (cell-empty (rules.cell (l .load .result .phase) rules.Ready) _ (n .next .ensures) (c .enum-told2 .given .1)))
+    told-refused _ _ InvalidState [] (ready-stuck _ _ _ e _ (l .load .ensures) (r .if1 .left)
+    (cell-empty (rules.cell (l .load .result .phase) rules.Ready) _ (n .next .ensures) (c .enum-told2 .given .1)))
 
 is-spent-requires : tie.Need-is-spent-requires
 is-spent-requires c κs = search needs
@@ -85,7 +86,8 @@ returns-4 c =
     let e = sym (a .before .before .find .ensures) ∙ a .at .given .1 in
     let f = cell-to (rules.cell (l .load .result .phase) rules.Ready) _ _ (n .next .ensures) (k .next2 .given .1) in
     let x = lacks-none _ _ _ (w .first-lacking .ensures) (t .enum-told4 .given .1) in
-    told-stored _ _ _ _ [] _ _ e (ready-moves _ _ _ e _ (l .load .ensures) (r .if1 .left) _ f _ (sp .is-spent .ensures) (y .if2 .taken) x) (c .store .ensures ∙ ap (putLife _ _) (c .before .with-phase .ensures))
+    told-stored _ _ _ _ [] _ _ e (ready-moves _ _ _ e _ (l .load .ensures) (r .if1 .left) _ f _ (sp .is-spent .ensures) (y .if2 .taken) x)
+    (c .store .ensures ∙ ap (putLife _ _) (c .before .with-phase .ensures))
 
 returns-5 : tie.Need-returns-5
 returns-5 c =

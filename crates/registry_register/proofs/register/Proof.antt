@@ -17,7 +17,8 @@ returns : tie.Need-returns
 returns c =
     let v = c .before .before .before in
     let a = v .before .before .before .before .before .args in
-    early-told (a .m .now) (a .parent) (a .anchor) (a .realms .now) (a .dependencies .now) (a .provisions .now) (a .payload) _ (v .early-verdict .ensures) _ (c .before .n .given .1)
+    early-told (a .m .now) (a .parent) (a .anchor) (a .realms .now) (a .dependencies .now) (a .provisions .now)
+    (a .payload) _ (v .early-verdict .ensures) _ (c .before .n .given .1)
 
 claims-requires : tie.Need-claims-requires
 claims-requires c κs = search needs
@@ -39,7 +40,9 @@ returns-2 c =
     let q = p .before .before in
     let v = q .before .before in
     let a = v .before .before .before .before .before .args in
-    claims-told (a .m .now) (a .parent) (a .anchor) (a .realms .now) (a .dependencies .now) (a .provisions .now) (a .payload) _ (v .early-verdict .ensures) _ (q .place .given .1) _ (p .claims .ensures) _ (f .first-rows .ensures) _ (t .claim-verdict .ensures) _ (c .before .n2 .given .1)
+    claims-told (a .m .now) (a .parent) (a .anchor) (a .realms .now) (a .dependencies .now) (a .provisions .now)
+    (a .payload) _ (v .early-verdict .ensures) _ (q .place .given .1) _ (p .claims .ensures) _ (f .first-rows .ensures) _ (t .claim-verdict .ensures)
+    _ (c .before .n2 .given .1)
 
 enum-told : tie.Need-enum-told
 enum-told c = search needs
@@ -71,7 +74,10 @@ returns-3 c =
     let q = p .before .before in
     let v = q .before .before in
     let a = v .before .before .before .before .before .args in
-    settled-told (a .m .now) (a .parent) (a .anchor) (a .realms .now) (a .dependencies .now) (a .provisions .now) (a .payload) _ (v .early-verdict .ensures) _ (q .place .given .1) _ (p .claims .ensures) _ (f .first-rows .ensures) _ (t .claim-verdict .ensures) (s .before .enum-told .given .1) _ (s .some-words .ensures) _ (i .inherited .ensures) _ (l .dependency-list .ensures) _ (w .first-rows2 .ensures) (c .settle .result) (c .settle .ensures .0) _ (c .settle .ensures .1)
+    settled-told (a .m .now) (a .parent) (a .anchor) (a .realms .now) (a .dependencies .now) (a .provisions .now)
+    (a .payload) _ (v .early-verdict .ensures) _ (q .place .given .1) _ (p .claims .ensures) _ (f .first-rows .ensures) _ (t .claim-verdict .ensures)
+    (s .before .enum-told .given .1) _ (s .some-words .ensures) _ (i .inherited .ensures) _ (l .dependency-list .ensures) _ (w .first-rows2 .ensures)
+    (c .settle .result) (c .settle .ensures .0) _ (c .settle .ensures .1)
 
 pub register-spec : {M : Type 1} → statement M
 register-spec =

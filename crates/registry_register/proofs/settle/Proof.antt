@@ -20,7 +20,8 @@ returns c =
     let v = c .before .before .before in
     let u = v .before .before in
     let a = u .before .before .before .before .before .args in
-    settle-refuses (a .m .now) (parentId (a .parent)) (a .payload) (a .count) (a .dependencies .now) (a .claims .now) (a .realms .now) _ (u .rows-in-use .ensures) _ (v .late-verdict .ensures) _ (c .before .n .given .1)
+    settle-refuses (a .m .now) (parentId (a .parent)) (a .payload) (a .count) (a .dependencies .now) (a .claims .now)
+    (a .realms .now) _ (u .rows-in-use .ensures) _ (v .late-verdict .ensures) _ (c .before .n .given .1)
 
 enum-told : tie.Need-enum-told
 enum-told c = search needs
@@ -41,7 +42,9 @@ returns-2 c =
     let v = t .before .before in
     let u = v .before .before in
     let a = u .before .before .before .before .before .args in
-    absurd (some-free (a .m .now) (parentId (a .parent)) (a .payload) (a .count) (a .dependencies .now) (a .claims .now) (a .realms .now) _ (u .rows-in-use .ensures) _ (v .late-verdict .ensures) (t .enum-told .given .1) (sym (f .lowest-free .ensures) ∙ c .enum-told2 .given .1))
+    absurd (some-free (a .m .now) (parentId (a .parent)) (a .payload) (a .count) (a .dependencies .now) (a .claims .now)
+    (a .realms .now) _ (u .rows-in-use .ensures) _ (v .late-verdict .ensures) (t .enum-told .given .1)
+    (sym (f .lowest-free .ensures) ∙ c .enum-told2 .given .1))
 
 behind-anchor-requires : tie.Need-behind-anchor-requires
 behind-anchor-requires c κs = search needs
@@ -51,8 +54,11 @@ entry-requires c κs =
     let t = c .before .before .before .before .before .before .before in
     let v = t .before .before in
     let u = v .before .before in
-    let a = u .before .before .before .before .before .args in
-    (id-left (a .m .now) (parentId (a .parent)) (a .payload) (a .count) (a .dependencies .now) (a .claims .now) (a .realms .now) _ (u .rows-in-use .ensures) _ (v .late-verdict .ensures) (t .enum-told .given .1), u .rows-in-use .ensures)
+    let a = u .before .before .before .before .before .args in (
+      id-left (a .m .now) (parentId (a .parent)) (a .payload) (a .count) (a .dependencies .now) (a .claims .now)
+          (a .realms .now) _ (u .rows-in-use .ensures) _ (v .late-verdict .ensures) (t .enum-told .given .1),
+      u .rows-in-use .ensures,
+    )
 
 fill-place-requires : tie.Need-fill-place-requires
 fill-place-requires c κs = search needs
@@ -67,7 +73,10 @@ returns-3 c =
     let v = t .before .before in
     let u = v .before .before in
     let a = u .before .before .before .before .before .args in
-    settle-writes (a .m .now) (parentId (a .parent)) (a .payload) (a .count) (a .dependencies .now) (a .claims .now) (a .realms .now) _ (u .rows-in-use .ensures) _ (v .late-verdict .ensures) (t .enum-told .given .1) _ (sym (f .lowest-free .ensures) ∙ p .at .given .1) _ (b .behind-anchor .ensures) _ (n .entry .ensures) _ (c .fill-place .ensures)
+    settle-writes (a .m .now) (parentId (a .parent)) (a .payload) (a .count) (a .dependencies .now) (a .claims .now)
+    (a .realms .now) _ (u .rows-in-use .ensures) _ (v .late-verdict .ensures)
+    (t .enum-told .given .1) _ (sym (f .lowest-free .ensures) ∙ p .at .given .1) _ (b .behind-anchor .ensures) _ (n .entry .ensures)
+    _ (c .fill-place .ensures)
 
 pub settle-spec : {M : Type 1} → statement M
 settle-spec =

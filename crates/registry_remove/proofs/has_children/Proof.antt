@@ -35,7 +35,8 @@ returns c =
     let l = t .before .before .before in
     let a = l .before .args in
     let h = t .before .before .loop-test .taken in
-    sym (l .loop .inv .1 ∙ any-here (isChildOf (a .id)) (a .m .now) (l .loop .i) h _ (sym (c .before .is-taken .ensures) ∙ c .if2 .taken) (named (a .m .now) (a .id) (l .loop .i) h _ (t .before .is-child-of .ensures)) (t .if1 .taken))
+    sym (l .loop .inv .1 ∙ any-here (isChildOf (a .id)) (a .m .now) (l .loop .i) h _ (sym (c .before .is-taken .ensures) ∙ c .if2 .taken)
+    (named (a .m .now) (a .id) (l .loop .i) h _ (t .before .is-child-of .ensures)) (t .if1 .taken))
 
 add-i : tie.Need-add-i Inv-loop μ-loop
 add-i c = search needs
@@ -52,7 +53,8 @@ loop-again c =
     let n = named m id i h _ (c .before .is-child-of .ensures) in (
       omega arith,
       c .before .before .before .loop .inv .1
-          ∙ ⊎-elim {C = anyFrom (isChildOf id) (places - i) m i ≡ anyFrom (isChildOf id) (places - (i + 1)) m (i + 1)} (λ w. any-free (isChildOf id) m i h (sym (w .1 .ensures) ∙ w .2 .left)) (λ w. any-never (isChildOf id) m i h _ n (w .left)) (c .if1 .came),
+          ∙ ⊎-elim {C = anyFrom (isChildOf id) (places - i) m i ≡ anyFrom (isChildOf id) (places - (i + 1)) m (i + 1)}
+          (λ w. any-free (isChildOf id) m i h (sym (w .1 .ensures) ∙ w .2 .left)) (λ w. any-never (isChildOf id) m i h _ n (w .left)) (c .if1 .came),
     )
 
 returns-2 : tie.Need-returns-2 Inv-loop μ-loop

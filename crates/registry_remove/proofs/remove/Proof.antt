@@ -33,7 +33,8 @@ returns-2 c =
     let r = t .before in
     let a = r .before .before .before .before in
     let e = sym (a .before .before .find .ensures) ∙ a .at .given .1 in
-    freed-refused _ _ HasChildren (remove-parent _ _ _ _ _ e (r .before .load .ensures) (r .is-removable .ensures) _ (t .if1 .taken) (c .before .has-children .ensures) (c .if2 .taken))
+    freed-refused _ _ HasChildren (remove-parent _ _ _ _ _ e (r .before .load .ensures) (r .is-removable .ensures) _ (t .if1 .taken)
+    (c .before .has-children .ensures) (c .if2 .taken))
 
 free-place-requires : tie.Need-free-place-requires
 free-place-requires c κs = search needs
@@ -45,7 +46,8 @@ returns-3 c =
     let r = t .before in
     let a = r .before .before .before .before in
     let e = sym (a .before .before .find .ensures) ∙ a .at .given .1 in
-    freed-done _ _ _ _ _ e (r .before .load .ensures) (r .is-removable .ensures) _ (t .if1 .taken) (w .before .has-children .ensures) _ (w .if2 .left) (c .free-place .ensures)
+    freed-done _ _ _ _ _ e (r .before .load .ensures) (r .is-removable .ensures) _ (t .if1 .taken) (w .before .has-children .ensures) _ (w .if2 .left)
+    (c .free-place .ensures)
 
 returns-4 : tie.Need-returns-4
 returns-4 c =

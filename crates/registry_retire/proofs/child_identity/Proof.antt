@@ -32,12 +32,14 @@ enum-told-2 c = search needs
 returns-2 : tie.Need-returns-2
 returns-2 c =
     let q = c .before .before .before .before in
-    identity-child _ _ _ _ (sym (q .before .before .before .before .find .ensures) ∙ q .before .before .at .given .1) (q .parent-of .ensures) _ _ (c .before .before .parent .given .1) (c .domain .ensures)
+    identity-child _ _ _ _ (sym (q .before .before .before .before .find .ensures) ∙ q .before .before .at .given .1)
+    (q .parent-of .ensures) _ _ (c .before .before .parent .given .1) (c .domain .ensures)
 
 returns-3 : tie.Need-returns-3
 returns-3 c =
     let q = c .before .before in
-    identity-orphan _ _ _ _ (sym (q .before .before .before .before .find .ensures) ∙ q .before .before .at .given .1) (q .parent-of .ensures) (c .enum-told2 .given .1)
+    identity-orphan _ _ _ _ (sym (q .before .before .before .before .find .ensures) ∙ q .before .before .at .given .1) (q .parent-of .ensures)
+    (c .enum-told2 .given .1)
 
 pub child-identity-spec : {M : Type 1} → statement M
 child-identity-spec =

@@ -30,7 +30,8 @@ returns-3 : tie.Need-returns-3
 returns-3 c =
     let p = c .before .before .before in
     let s = p .before .before .before in
-    told-refused _ _ Unknown [] (child-above _ _ _ (s .before .domain .ensures) _ (s .if1 .left) (p .before .first-id .ensures) _ (p .if2 .left) (c .before .next-id .ensures) (omega arith))
+    told-refused _ _ Unknown [] (child-above _ _ _ (s .before .domain .ensures) _ (s .if1 .left) (p .before .first-id .ensures) _ (p .if2 .left)
+    (c .before .next-id .ensures) (omega arith))
 
 find-requires : tie.Need-find-requires
 find-requires c κs = search needs
@@ -47,7 +48,8 @@ returns-4 c =
     let n = f .before .before in
     let p = n .before .before .before in
     let s = p .before .before .before in
-    told-same _ _ [] (child-gone _ _ _ (s .before .domain .ensures) _ (s .if1 .left) (p .before .first-id .ensures) _ (p .if2 .left) (n .before .next-id .ensures) (n .if3 .left) (sym (f .find .ensures) ∙ c .enum-told .given .1))
+    told-same _ _ [] (child-gone _ _ _ (s .before .domain .ensures) _ (s .if1 .left) (p .before .first-id .ensures) _ (p .if2 .left)
+    (n .before .next-id .ensures) (n .if3 .left) (sym (f .find .ensures) ∙ c .enum-told .given .1))
 
 is-child-of-requires : tie.Need-is-child-of-requires
 is-child-of-requires c κs = search needs
@@ -64,7 +66,8 @@ returns-5 c =
     let p = n .before .before .before in
     let s = p .before .before .before in
     let e = sym (f .find .ensures) ∙ a .child .given .1 in
-    told-retired _ _ _ _ _ e (child-own _ _ _ (s .before .domain .ensures) _ (s .if1 .left) (p .before .first-id .ensures) _ (p .if2 .left) (n .before .next-id .ensures) (n .if3 .left) _ _ e (t .before .is-child-of .ensures) (t .if4 .taken)) (c .before .load .ensures) (c .if5 .taken)
+    told-retired _ _ _ _ _ e (child-own _ _ _ (s .before .domain .ensures) _ (s .if1 .left) (p .before .first-id .ensures) _ (p .if2 .left)
+    (n .before .next-id .ensures) (n .if3 .left) _ _ e (t .before .is-child-of .ensures) (t .if4 .taken)) (c .before .load .ensures) (c .if5 .taken)
 
 marked-requires : tie.Need-marked-requires
 marked-requires c κs = search needs
@@ -82,7 +85,9 @@ returns-6 c =
     let p = n .before .before .before in
     let s = p .before .before .before in
     let e = sym (f .find .ensures) ∙ a .child .given .1 in
-    told-marked _ _ _ _ _ e (child-own _ _ _ (s .before .domain .ensures) _ (s .if1 .left) (p .before .first-id .ensures) _ (p .if2 .left) (n .before .next-id .ensures) (n .if3 .left) _ _ e (t .before .is-child-of .ensures) (t .if4 .taken)) (w .before .load .ensures) _ _ (w .if5 .left) (c .before .marked .ensures) (c .store .ensures)
+    told-marked _ _ _ _ _ e (child-own _ _ _ (s .before .domain .ensures) _ (s .if1 .left) (p .before .first-id .ensures) _ (p .if2 .left)
+    (n .before .next-id .ensures) (n .if3 .left) _ _ e (t .before .is-child-of .ensures) (t .if4 .taken)) (w .before .load .ensures) _ _ (w .if5 .left)
+    (c .before .marked .ensures) (c .store .ensures)
 
 returns-7 : tie.Need-returns-7
 returns-7 c =
@@ -92,7 +97,8 @@ returns-7 c =
     let p = n .before .before .before in
     let s = p .before .before .before in
     let e = sym (f .find .ensures) ∙ a .child .given .1 in
-    told-refused _ _ InvalidState [] (child-other _ _ _ (s .before .domain .ensures) _ (s .if1 .left) (p .before .first-id .ensures) _ (p .if2 .left) (n .before .next-id .ensures) (n .if3 .left) _ _ e (c .before .is-child-of .ensures) (c .if4 .left))
+    told-refused _ _ InvalidState [] (child-other _ _ _ (s .before .domain .ensures) _ (s .if1 .left) (p .before .first-id .ensures) _ (p .if2 .left)
+    (n .before .next-id .ensures) (n .if3 .left) _ _ e (c .before .is-child-of .ensures) (c .if4 .left))
 
 pub retire-child-spec : {M : Type 1} → statement M
 retire-child-spec =

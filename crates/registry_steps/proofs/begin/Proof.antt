@@ -50,7 +50,8 @@ returns-3 c =
     let l = r .before in
     let a = l .before .before .before in
     let e = sym (a .before .before .find .ensures) ∙ a .at .given .1 in
-    told-refused _ _ InvalidState [] (begin-stuck _ _ _ e _ (l .load .ensures) (r .if1 .left) (cell-empty (rules.cell (l .load .result .phase) rules.Begin) _ (n .next .ensures) (c .enum-told2 .given .1)))
+    told-refused _ _ InvalidState [] (begin-stuck _ _ _ e _ (l .load .ensures) (r .if1 .left)
+    (cell-empty (rules.cell (l .load .result .phase) rules.Begin) _ (n .next .ensures) (c .enum-told2 .given .1)))
 
 returns-4 : tie.Need-returns-4
 returns-4 c =
@@ -93,7 +94,8 @@ returns-5 c =
     let a = l .before .before .before in
     let e = sym (a .before .before .find .ensures) ∙ a .at .given .1 in
     let f = cell-to (rules.cell (l .load .result .phase) rules.Begin) _ _ (n .next .ensures) (k .next2 .given .1) in
-    begin-told _ _ _ e _ (l .load .ensures) (r .if1 .left) _ f (g .if2 .left) _ (d .dependency-words .ensures) _ (v .all-available .ensures) (y .if3 .taken) _ (o .domain .ensures) _ (w .begun .ensures) _ (c .store .ensures)
+    begin-told _ _ _ e _ (l .load .ensures) (r .if1 .left) _ f (g .if2 .left) _ (d .dependency-words .ensures) _ (v .all-available .ensures)
+    (y .if3 .taken) _ (o .domain .ensures) _ (w .begun .ensures) _ (c .store .ensures)
 
 returns-6 : tie.Need-returns-6
 returns-6 c =
@@ -107,7 +109,8 @@ returns-6 c =
     let a = l .before .before .before in
     let e = sym (a .before .before .find .ensures) ∙ a .at .given .1 in
     let f = cell-to (rules.cell (l .load .result .phase) rules.Begin) _ _ (n .next .ensures) (k .next2 .given .1) in
-    told-refused _ _ Unavailable [] (begin-lacks _ _ _ e _ (l .load .ensures) (r .if1 .left) _ f (g .if2 .left) _ (d .dependency-words .ensures) _ (v .all-available .ensures) (c .if3 .left))
+    told-refused _ _ Unavailable [] (begin-lacks _ _ _ e _ (l .load .ensures) (r .if1 .left) _ f
+    (g .if2 .left) _ (d .dependency-words .ensures) _ (v .all-available .ensures) (c .if3 .left))
 
 pub begin-spec : {M : Type 1} → statement M
 begin-spec =

@@ -43,7 +43,8 @@ returns-2 c =
     let l = n .before in
     let a = l .before .before .before in
     let e = sym (a .before .before .find .ensures) ∙ a .at .given .1 in
-    told-refused _ _ InvalidState [] (fail-stuck _ _ _ e _ (l .load .ensures) (cell-empty (rules.cell (l .load .result .phase) rules.Fail) _ (n .next .ensures) (c .enum-told2 .given .1)))
+    told-refused _ _ InvalidState [] (fail-stuck _ _ _ e _ (l .load .ensures)
+    (cell-empty (rules.cell (l .load .result .phase) rules.Fail) _ (n .next .ensures) (c .enum-told2 .given .1)))
 
 with-phase-requires : tie.Need-with-phase-requires
 with-phase-requires c κs = search needs

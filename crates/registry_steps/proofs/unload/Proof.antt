@@ -43,7 +43,8 @@ returns-2 c =
     let l = n .before in
     let a = l .before .before .before in
     let e = sym (a .before .before .find .ensures) ∙ a .at .given .1 in
-    told-refused _ _ InvalidState [] (unload-stuck _ _ _ e _ (l .load .ensures) (cell-empty (rules.cell (l .load .result .phase) rules.Unload) _ (n .next .ensures) (c .enum-told2 .given .1)))
+    told-refused _ _ InvalidState [] (unload-stuck _ _ _ e _ (l .load .ensures)
+    (cell-empty (rules.cell (l .load .result .phase) rules.Unload) _ (n .next .ensures) (c .enum-told2 .given .1)))
 
 in-use-requires : tie.Need-in-use-requires
 in-use-requires c κs = search needs
@@ -75,7 +76,8 @@ returns-4 c =
     let a = l .before .before .before in
     let e = sym (a .before .before .find .ensures) ∙ a .at .given .1 in
     let f = cell-to (rules.cell (l .load .result .phase) rules.Unload) _ _ (n .next .ensures) (k .next2 .given .1) in
-    told-stored _ _ _ _ [] _ _ e (unload-moves _ _ _ e _ (l .load .ensures) _ f _ (u .in-use .ensures) (w .if1 .left)) (c .store .ensures ∙ ap (putLife _ _) (c .before .with-phase .ensures))
+    told-stored _ _ _ _ [] _ _ e (unload-moves _ _ _ e _ (l .load .ensures) _ f _ (u .in-use .ensures) (w .if1 .left))
+    (c .store .ensures ∙ ap (putLife _ _) (c .before .with-phase .ensures))
 
 pub unload-spec : {M : Type 1} → statement M
 unload-spec =

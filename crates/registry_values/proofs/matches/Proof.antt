@@ -31,7 +31,8 @@ returns-2 c =
     let s = c .before in
     let w = s .before in
     let a = w .before .before in
-    matching-answer _ _ _ (sym (a .before .before .find .ensures) ∙ a .at .given .1) _ _ (w .provision-words .ensures) _ (s .same-ports .ensures) _ (c .told .ensures)
+    matching-answer _ _ _ (sym (a .before .before .find .ensures) ∙ a .at .given .1) _ _ (w .provision-words .ensures) _ (s .same-ports .ensures)
+    _ (c .told .ensures)
 
 pub matches-spec : {M : Type 1} → statement M
 matches-spec =

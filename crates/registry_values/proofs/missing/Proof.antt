@@ -44,7 +44,8 @@ returns-3 c =
     let j = w .before .before in
     let f = j .before .before in
     let a = f .before .before in
-    missing-port _ _ _ (sym (a .before .before .find .ensures) ∙ a .at .given .1) _ (f .first-lacking .ensures) _ (j .j .given .1) _ (w .provision-words .ensures) _ (c .port-at .ensures)
+    missing-port _ _ _ (sym (a .before .before .find .ensures) ∙ a .at .given .1) _ (f .first-lacking .ensures) _ (j .j .given .1)
+    _ (w .provision-words .ensures) _ (c .port-at .ensures)
 
 pub missing-spec : {M : Type 1} → statement M
 missing-spec =

@@ -62,7 +62,8 @@ returns-3 c =
     let l = b .before in
     let a = l .before .before in
     read-given _ _ _ (sym (a .before .before .find .ensures) ∙ a .at .given .1) _ _ (l .load .ensures) _ (b .is-running .ensures) (o .if1 .taken)
-    _ (h .before .dependency-words .ensures) _ (h .has-port .ensures) (p .before .if2 .taken) _ (p .provider .ensures) _ (f .from .given .1) _ (c .given .ensures)
+    _ (h .before .dependency-words .ensures) _ (h .has-port .ensures)
+    (p .before .if2 .taken) _ (p .provider .ensures) _ (f .from .given .1) _ (c .given .ensures)
 
 returns-4 : tie.Need-returns-4
 returns-4 c =

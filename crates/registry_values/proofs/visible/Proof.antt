@@ -30,7 +30,8 @@ returns-2 c =
     let b = c .before .before in
     let l = b .before in
     let a = l .before .before in
-    visible-value _ _ _ (a .before .before .provider .ensures) _ (a .from .given .1) _ (l .load .ensures) _ (b .is-active .ensures) (c .before .if1 .taken) (c .value-of .result) (c .value-of .ensures)
+    visible-value _ _ _ (a .before .before .provider .ensures) _ (a .from .given .1) _ (l .load .ensures) _ (b .is-active .ensures) (c .before .if1 .taken)
+    (c .value-of .result) (c .value-of .ensures)
 
 returns-3 : tie.Need-returns-3
 returns-3 c =

@@ -11,7 +11,9 @@ use Rattle.replay.proofs.feed.Statement.{statement}
 use Rattle.replay.proofs.feed.Tie as tie
 
 abbrev Inv-loop : tie.InvT-loop
-Inv-loop m₀ buffer₀ line₀ part now₀ i₀ m buffer line now i = (i ≤ length part) × (fed (kept m₀ buffer₀ (slotOf (now₀ .slot)) line₀ (now₀ .filled)) part ≡ fed (kept m buffer (slotOf (now .slot)) line (now .filled)) (drop i part))
+Inv-loop m₀ buffer₀ line₀ part now₀ i₀ m buffer line now i =
+    (i ≤ length part) × (fed (kept m₀ buffer₀ (slotOf (now₀ .slot)) line₀ (now₀ .filled)) part
+    ≡ fed (kept m buffer (slotOf (now .slot)) line (now .filled)) (drop i part))
 
 abbrev μ-loop : tie.MeasureT-loop
 μ-loop m₀ buffer₀ line₀ part now₀ i₀ m buffer line now i = length part - i
@@ -36,8 +38,11 @@ loop-again c =
     let at = c .before .before .before .before .before .before in
     let x = at .before .before .args in
     let l = at .loop in
-    let k = kept (l .m) (l .buffer) (slotOf (l .now .slot)) (l .line) (l .now .filled) in
-    (omega arith, l .inv .1 ∙ fed-next k (x .part .now) (l .i) (omega arith) ∙ ap (λ (q : Kept). fed q (drop (l .i + 1) (x .part .now))) (sym (c .next-byte .ensures)))
+    let k = kept (l .m) (l .buffer) (slotOf (l .now .slot)) (l .line) (l .now .filled) in (
+      omega arith,
+      l .inv .1 ∙ fed-next k (x .part .now) (l .i) (omega arith)
+          ∙ ap (λ (q : Kept). fed q (drop (l .i + 1) (x .part .now))) (sym (c .next-byte .ensures)),
+    )
 
 returns : tie.Need-returns Inv-loop μ-loop
 returns c =

@@ -13,7 +13,8 @@ written-requires c κs = search needs
 returns : tie.Need-returns
 returns c =
     let x = c .before .before .before .before .before .args in
-    c .written .ensures ∙ sym (ends-line (kept (x .m .now) (x .buffer .now) (slotOf (x .state .slot)) (x .line .now) (x .state .filled)) (x .byte) (c .before .before .before .before .if1 .taken))
+    c .written .ensures ∙ sym (ends-line (kept (x .m .now) (x .buffer .now) (slotOf (x .state .slot)) (x .line .now) (x .state .filled)) (x .byte)
+    (c .before .before .before .before .if1 .taken))
 
 longer-requires : tie.Need-longer-requires
 longer-requires c κs = search needs
@@ -21,7 +22,8 @@ longer-requires c κs = search needs
 returns-2 : tie.Need-returns-2
 returns-2 c =
     let x = c .before .before .before .before .args in
-    grows (kept (x .m .now) (x .buffer .now) (slotOf (x .state .slot)) (x .line .now) (x .state .filled)) (x .byte) (c .before .before .before .if1 .left) _ _ (c .longer .ensures .0) (c .longer .ensures .1)
+    grows (kept (x .m .now) (x .buffer .now) (slotOf (x .state .slot)) (x .line .now) (x .state .filled)) (x .byte)
+    (c .before .before .before .if1 .left) _ _ (c .longer .ensures .0) (c .longer .ensures .1)
 
 pub next-byte-spec : {M : Type 1} → statement M
 next-byte-spec = tie.close (tie.spec written-requires returns longer-requires returns-2)

@@ -11,7 +11,8 @@ use Rattle.rules.specs.Lists.{Dependencies, Provisions, RealmRows}
 use Rattle.rules.specs.Queries.{Parent, Anchor, PhaseOf, RetiredMark, Generation, Revision, Payload, RootOf}
 use Rattle.rules.specs.Queries.{Domain, FirstId}
 use Rattle.rules.specs.Steps.{Begin, Ready, Fail, Unload, Finish, Replace, Admit, Call, Ask, Retire, RetireChild, Remove, Offer, Write}
-use Rattle.rules.specs.Questions.{ResolveKey, DependencyPort, Fits, Admits, ChildIdentity, Read, Visible, Own, FirstMissing, Matching, Declares, Listed, AskPlugin, AskRegistry, IdFrom, Text}
+use Rattle.rules.specs.Questions.{ResolveKey, DependencyPort, Fits, Admits, ChildIdentity, Read, Visible, Own, FirstMissing, Matching, Declares, Listed}
+use Rattle.rules.specs.Questions.{AskPlugin, AskRegistry, IdFrom, Text}
 use Rattle.rules.specs.Examples.{registers, plain, ticket, invocation}
 use Rattle.rules.specs.Reached.Transcripts.{Line, _↝_, ok, refused, child, keys}
 

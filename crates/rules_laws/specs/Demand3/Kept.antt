@@ -16,14 +16,17 @@ use Rattle.rules.specs.Replacement.{replace}
 use Rattle.rules.specs.Admission.{Ticket, Invocation, five, isLive, admit, call}
 use Rattle.rules.specs.Retirement.{Identity, retire, retireFound, retireChild, remove}
 use Rattle.rules.specs.Values.{offer}
-use Rattle.rules.specs.Steps.{Op, Event, step, Register, Begin, Ready, Fail, Unload, Finish, Replace, Admit, Call, Ask, Retire, RetireChild, Remove, Offer, Write}
+use Rattle.rules.specs.Steps.{Op, Event, step, Register, Begin, Ready, Fail, Unload, Finish, Replace, Admit, Call, Ask, Retire, RetireChild, Remove, Offer}
+use Rattle.rules.specs.Steps.{Write}
 use Rattle.rules_laws.specs.History.{registered, removed, replaced, settled, retired, admitted, called, told}
 use Rattle.rules_laws.specs.Laws.Tests.{both, neither, Passed, checked-elim, found-elim}
 use Rattle.rules_laws.specs.Laws.Quiet.{Quiet, writing-quiet}
 use Rattle.rules_laws.specs.Laws.Lookups.{lookup-id}
 use Rattle.rules_laws.specs.Laws.Table.{begins, readies, fails, unloads, finishes, is-idle, is-loading}
-use Rattle.rules_laws.specs.Demand3.Link.{callable, Linked, Good, tells-one, tells-none, refused, quiet, wrote, answered-absent, stored-one, added-one, removed-one}
-use Rattle.rules_laws.specs.Demand3.Lives.{is-unissued, would-accept, not-loading, not-callable, silent, resting, settling, retiring, replacing, admitting, calling}
+use Rattle.rules_laws.specs.Demand3.Link.{callable, Linked, Good, tells-one, tells-none, refused, quiet, wrote, answered-absent, stored-one, added-one}
+use Rattle.rules_laws.specs.Demand3.Link.{removed-one}
+use Rattle.rules_laws.specs.Demand3.Lives.{is-unissued, would-accept, not-loading, not-callable, silent, resting, settling, retiring, replacing}
+use Rattle.rules_laws.specs.Demand3.Lives.{admitting, calling}
 
 module _ (s : Registry) (es : List Event) (r : Registry) (w : Linked s es r) where
   knows : (o : Op) (id : ℕ) (f : Plugin → Outcome) → ((p : Plugin) → lookup r id ≡ some p → Good s es r o (f p)) → Good s es r o (known r id f)
@@ -93,7 +96,8 @@ module _ (s : Registry) (es : List Event) (r : Registry) (w : Linked s es r) whe
   admit-kept : (k : Ticket) (b : ℕ) → Good s es r (Admit k b) (admit r k b)
   unfolding admit
   admit-kept k b = passes _ _ _ λ c. knows _ _ _ λ p e. passes _ _ _ λ f.
-      stored-one s es r w _ _ (p .id) p _ _ (tells-one s _ _ (p .id) (admitted _) refl) (subst (λ x. lookup r x ≡ some p) (sym (lookup-id r (k .id) p e)) e) refl λ t h i a.
+      stored-one s es r w _ _ (p .id) p _ _ (tells-one s _ _ (p .id) (admitted _) refl)
+      (subst (λ x. lookup r x ≡ some p) (sym (lookup-id r (k .id) p e)) e) refl λ t h i a.
       admitting (s .domain) t h p a (r .domain) b (w .domain) (is-loading (p .phase) (not-false _ (neither _ _ (f .1 .0) .0)))
       (f .0) (is-unissued (p .root) (not-false _ (f .1 .1 .0))) i
 

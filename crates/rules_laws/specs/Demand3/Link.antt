@@ -13,12 +13,15 @@ use Rattle.rules.specs.Basics.{pick, sameNumbers}
 use Rattle.rules.specs.declared.Root.the-variants.{Queued}
 use Rattle.rules.specs.Holds.{Plugin, Registry, lookup, count}
 use Rattle.rules.specs.Refusals.{Refusal, number}
-use Rattle.rules.specs.Outcomes.{Answer, Refused, Accepted, Reply, refusing, accepting, Outcome, tells, refuses, answers, writes, stores, adds, removes, answerOf, after, lentAfter}
+use Rattle.rules.specs.Outcomes.{Answer, Refused, Accepted, Reply, refusing, accepting, Outcome, tells, refuses, answers, writes, stores, adds, removes}
+use Rattle.rules.specs.Outcomes.{answerOf, after, lentAfter}
 use Rattle.rules.specs.Admission.{Invocation, five, isLive}
 use Rattle.rules.specs.Steps.{Op, Event, lent}
-use Rattle.rules_laws.specs.History.{Told, registered, removed, replaced, settled, retired, admitted, called, of, told, noted, story, stored, isRegistered, isRetired, ends}
+use Rattle.rules_laws.specs.History.{Told, registered, removed, replaced, settled, retired, admitted, called, of, told, noted, story, stored}
+use Rattle.rules_laws.specs.History.{isRegistered, isRetired, ends}
 use Rattle.rules_laws.specs.Laws.Tests.{by-test}
-use Rattle.rules_laws.specs.Laws.Lookups.{stored-same, stored-other, freed-same, freed-other, added-same, added-other, length-stored, length-freed, length-added}
+use Rattle.rules_laws.specs.Laws.Lookups.{stored-same, stored-other, freed-same, freed-other, added-same, added-other, length-stored, length-freed}
+use Rattle.rules_laws.specs.Laws.Lookups.{length-added}
 use Rattle.rules.specs.Limits.{maxPlugins}
 
 abbrev pub isAdmission : Invocation → Told → Bool

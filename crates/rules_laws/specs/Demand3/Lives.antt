@@ -79,7 +79,16 @@ facts d p t e =
 pub factual : (d : ℕ) (p : Plugin) (t : Invocation) → Facts d p t → callable d p t ≡ true
 unfolding callable isLive
 factual d p t f =
-    rw (f .loading, f .queued, f .retired, eq-eqb _ _ (f .generation), eq-eqb _ _ (f .revision), eq-eqb _ _ (f .domain), eq-eqb (t .revision) (t .revision) refl, eq-eqb (t .argument) (t .argument) refl)
+    rw (
+      f .loading,
+      f .queued,
+      f .retired,
+      eq-eqb _ _ (f .generation),
+      eq-eqb _ _ (f .revision),
+      eq-eqb _ _ (f .domain),
+      eq-eqb (t .revision) (t .revision) refl,
+      eq-eqb (t .argument) (t .argument) refl,
+    )
 
 pub not-loading : (d : ℕ) (p : Plugin) (t : Invocation) → isLoading (p .phase) ≡ false → callable d p t ≡ false
 unfolding callable isLive

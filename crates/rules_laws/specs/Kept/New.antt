@@ -88,7 +88,8 @@ module _ (r : Registry) (d : Definition) where
         room = leb-false _ _ (limits .1 .0);
         rows = ltb-false maxRows _ (limits .1 .1 .1 .0);
         parent = parent-found r (d .parent) (c .1 .1 .0);
-        shaped = new-shaped (c .0) (neither (ltb maxDependencyKeys (length (d .dependencies))) (ltb maxProvisionKeys (length (d .provisions))) (c .1 .0) .1) (ports .0) (limits .1 .1 .0);
+        shaped = new-shaped (c .0) (neither (ltb maxDependencyKeys (length (d .dependencies))) (ltb maxProvisionKeys (length (d .provisions))) (c .1 .0) .1)
+            (ports .0) (limits .1 .1 .0);
         lively = new-lively;
         rests = refl;
         untaken = λ k h. any-false (λ q. isSome (provider r q)) (claimed d) k (ports .1 .0)

@@ -29,7 +29,8 @@ use Rattle.rules_laws.specs.Laws.Lookups.{lookup-id}
 use Rattle.rules_laws.specs.Laws.Table as table
 use Rattle.rules_laws.specs.Laws.Table.{readies, fails, unloads, finishes, is-loading}
 use Rattle.rules_laws.specs.Built.{Lively}
-use Rattle.rules_laws.specs.Kept.Plugins.{Alike, alike, lively-begun, lively-ready, lively-failed, lively-unloaded, lively-finished, lively-noted, lively-rooted, lively-offered}
+use Rattle.rules_laws.specs.Kept.Plugins.{Alike, alike, lively-begun, lively-ready, lively-failed, lively-unloaded, lively-finished, lively-noted}
+use Rattle.rules_laws.specs.Kept.Plugins.{lively-rooted, lively-offered}
 use Rattle.rules_laws.specs.Kept.Moves.{Turn, Join, Leave}
 use Rattle.rules_laws.specs.Kept.Reach.{nothing, members, reach, Within}
 use Rattle.rules_laws.specs.Kept.New.{new-joins}
@@ -151,13 +152,15 @@ module _ (r : Registry) where
   unfolding replace
   replace-lawful id v = handing _ v _ (knows _ _ _ λ p e. passes _ _ _ λ c.
       let n = eqb-false (p .revision) last (c .0) in
-      rests _ _ _ p _ e refl (alike p refl) (λ l. lively-noted p l (p .revision + 1) v (p .retired) (omega arith) (omega (arith, n, l .revision))) refl (λ _. refl) refl)
+      rests _ _ _ p _ e refl (alike p refl) (λ l. lively-noted p l (p .revision + 1) v (p .retired) (omega arith) (omega (arith, n, l .revision))) refl
+      (λ _. refl) refl)
 
   admit-lawful : (t : Ticket) (a : ℕ) → Lawful r (Admit t a) (admit r t a)
   unfolding admit
   admit-lawful t a = passes _ _ _ λ c. knows _ _ _ λ p e. passes _ _ _ λ f.
       let h = is-loading (p .phase) (not-false _ (neither _ _ (f .1 .0) .0)) in
-      rests _ _ _ p _ e refl (alike p refl) (λ l. lively-rooted p l (Queued (p .revision) a) h (λ v b i. let j : p .revision ≡ v = cc in omega arith)) refl (λ _. refl) refl
+      rests _ _ _ p _ e refl (alike p refl) (λ l. lively-rooted p l (Queued (p .revision) a) h (λ v b i. let j : p .revision ≡ v = cc in omega arith)) refl
+      (λ _. refl) refl
 
   call-lawful : (t : Invocation) → Lawful r (Call t) (call r t)
   unfolding call
@@ -167,7 +170,8 @@ module _ (r : Registry) where
 
   retires : (o : Op) (id : ℕ) (p : Plugin) → lookup r id ≡ some p → Dated (act o) p (withRetired true p) → Within (reach o) p (withRetired true p)
       → Lawful r o (stores (withRetired true p) [])
-  retires o id p e n w = rests o [] id p _ e n (alike p refl) (λ l. lively-noted p l (p .revision) (p .payload) true (le-refl _) (l .revision)) w (λ _. refl) refl
+  retires o id p e n w = rests o [] id p _ e n (alike p refl) (λ l. lively-noted p l (p .revision) (p .payload) true (le-refl _) (l .revision)) w
+      (λ _. refl) refl
 
   retire-lawful : (id : ℕ) → Lawful r (Retire id) (retire r id)
   unfolding retire

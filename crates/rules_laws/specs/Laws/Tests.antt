@@ -23,7 +23,8 @@ checked-elim P (c ∷ cs) o f g = go (c .test) refl (λ h. checked-elim P cs o f
     go true e k = f (c .refusal)
     go false e k = k (λ h. g (e, h))
 
-pub found-elim : (P : Outcome → Type 0) (q : Option Plugin) (f : Plugin → Outcome) → P (refuses Unknown []) → ((p : Plugin) → q ≡ some p → P (f p)) → P (found q f)
+pub found-elim : (P : Outcome → Type 0) (q : Option Plugin) (f : Plugin → Outcome) → P (refuses Unknown []) → ((p : Plugin) → q ≡ some p → P (f p))
+    → P (found q f)
 unfolding found
 found-elim P none f a b = a
 found-elim P (some p) f a b = b p refl

@@ -18,7 +18,9 @@ decided-requires : tie.Need-decided-requires
 decided-requires c κs = search needs
 
 returns : tie.Need-returns
-returns c = decides _ _ _ _ _ (c .before .assign .ensures ∙ ap (λ (x : Slot). rules.assign (slotOf x) (identityOf (c .before .before .before .before .before .args .child))) (c .before .before .before .load .ensures)) (c .decided .ensures)
+returns c = decides _ _ _ _ _ (c .before .assign .ensures
+    ∙ ap (λ (x : Slot). rules.assign (slotOf x) (identityOf (c .before .before .before .before .before .args .child)))
+    (c .before .before .before .load .ensures)) (c .decided .ensures)
 
 pub assign-spec : {M : Type 1} → statement M
 assign-spec = tie.close (tie.spec load-requires assign-requires decided-requires returns)

@@ -18,7 +18,8 @@ decided-requires : tie.Need-decided-requires
 decided-requires c κs = search needs
 
 returns : tie.Need-returns
-returns c = decides _ _ _ _ _ (c .before .cancel .ensures ∙ ap (λ (x : Slot). rules.cancel (slotOf x)) (c .before .before .before .load .ensures)) (c .decided .ensures)
+returns c = decides _ _ _ _ _ (c .before .cancel .ensures ∙ ap (λ (x : Slot). rules.cancel (slotOf x)) (c .before .before .before .load .ensures))
+    (c .decided .ensures)
 
 pub cancel-spec : {M : Type 1} → statement M
 cancel-spec = tie.close (tie.spec load-requires cancel-requires decided-requires returns)

@@ -18,7 +18,8 @@ decided-requires : tie.Need-decided-requires
 decided-requires c κs = search needs
 
 returns : tie.Need-returns
-returns c = decides _ _ _ _ _ (c .before .reject .ensures ∙ ap (λ (x : Slot). rules.reject (slotOf x)) (c .before .before .before .load .ensures)) (c .decided .ensures)
+returns c = decides _ _ _ _ _ (c .before .reject .ensures ∙ ap (λ (x : Slot). rules.reject (slotOf x)) (c .before .before .before .load .ensures))
+    (c .decided .ensures)
 
 pub reject-spec : {M : Type 1} → statement M
 reject-spec = tie.close (tie.spec load-requires reject-requires decided-requires returns)

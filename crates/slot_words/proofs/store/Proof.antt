@@ -41,7 +41,8 @@ element-write-s-8 : tie.Need-element-write-s-8
 element-write-s-8 c = search needs
 
 returns : tie.Need-returns
-returns c = words-stored _ _ _ _ _ _ (c .before .before .before .has-word .ensures) (c .before .before .generation-word .ensures) (c .before .decision-word .ensures) (c .child-of .ensures)
+returns c = words-stored _ _ _ _ _ _ (c .before .before .before .has-word .ensures) (c .before .before .generation-word .ensures)
+    (c .before .decision-word .ensures) (c .child-of .ensures)
 
 pub store-spec : {M : Type 1} → statement M
 store-spec =

@@ -28,10 +28,14 @@ same-length c = search needs
 
 returns : tie.Need-returns
 returns c =
-    let a = c .before .before .before .before .before .before .before .before .before .before .before .before .before .before .before .before .before .before .args in
+    let a = c .before .before .before .before .before .before .before .before .before .before .before .before .before .before .before .before .before .before
+    .args in
     let lists = laid-then (c .before .before .before .before .before .before .list-lines .ensures) (c .before .before .provision-lines .ensures) in
     let life = laid-then (c .before .before .before .before .before .before .before .before .before .before .life-lines .ensures) lists in
-    laid-as (block-bytes (a .m .now) (a .place % places) (c .before .before .before .before .before .before .before .before .before .before .before .load .ensures)) (laid-then (c .before .before .before .before .before .before .before .before .before .before .before .before .before .before .before .name-lines .ensures) life)
+    laid-as (block-bytes (a .m .now) (a .place % places)
+    (c .before .before .before .before .before .before .before .before .before .before .before .load .ensures))
+    (laid-then (c .before .before .before .before .before .before .before .before .before .before .before .before .before .before .before .name-lines
+    .ensures) life)
 
 pub block-spec : {M : Type 1} → statement M
 block-spec = tie.close (tie.spec name-lines-requires load-requires life-lines-requires list-lines-requires provision-lines-requires same-length returns)

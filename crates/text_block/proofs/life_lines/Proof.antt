@@ -40,9 +40,12 @@ unfolding lifeLines
 returns c =
     let queue = laid-then (c .before .before .before .before .before .before .number-line3 .ensures) (c .before .before .root-lines .ensures) in
     let payload = laid-then (c .before .before .before .before .before .before .before .before .before .before .before .number-line2 .ensures) queue in
-    let revision = laid-then (c .before .before .before .before .before .before .before .before .before .before .before .before .before .before .before .before .number-line .ensures) payload in
-    let generation = laid-then (c .before .before .before .before .before .before .before .before .before .before .before .before .before .before .before .before .before .before .before .before .before .retired-line .ensures) revision in
-    laid-then (c .before .before .before .before .before .before .before .before .before .before .before .before .before .before .before .before .before .before .before .before .before .before .before .before .before .phase-line .ensures) generation
+    let revision = laid-then (c .before .before .before .before .before .before .before .before .before .before .before .before .before .before .before
+    .before .number-line .ensures) payload in
+    let generation = laid-then (c .before .before .before .before .before .before .before .before .before .before .before .before .before .before .before
+    .before .before .before .before .before .before .retired-line .ensures) revision in
+    laid-then (c .before .before .before .before .before .before .before .before .before .before .before .before .before .before .before .before .before
+    .before .before .before .before .before .before .before .before .phase-line .ensures) generation
 
 pub life-lines-spec : {M : Type 1} → statement M
 life-lines-spec =

@@ -46,11 +46,17 @@ same-length c = search needs
 
 returns : tie.Need-returns
 returns c =
-    let a = c .before .before .before .before .before .before .before .before .before .before .before .before .before .before .before .before .before .before .before .before .before .args in
-    let deps = laid-then (c .before .before .before .before .before .before .before .before .before .ports-lines .ensures) (c .before .before .ports-lines2 .ensures) in
+    let a = c .before .before .before .before .before .before .before .before .before .before .before .before .before .before .before .before .before .before
+    .before .before .before .args in
+    let deps = laid-then (c .before .before .before .before .before .before .before .before .before .ports-lines .ensures)
+    (c .before .before .ports-lines2 .ensures) in
     laid-as
-    (list-bytes (a .m .now) (a .place % places) (c .before .before .before .before .before .before .before .before .before .before .before .before .before .before .before .before .before .before .before .anchor .ensures) (c .before .before .before .before .before .before .before .before .before .before .realm-words .ensures) (c .before .before .before .dependency-words .ensures))
-    (laid-then (c .before .before .before .before .before .before .before .before .before .before .before .before .before .before .before .before .pair-line .ensures) deps)
+    (list-bytes (a .m .now) (a .place % places)
+    (c .before .before .before .before .before .before .before .before .before .before .before .before .before .before .before .before .before .before
+    .before .anchor .ensures) (c .before .before .before .before .before .before .before .before .before .before .realm-words .ensures)
+    (c .before .before .before .dependency-words .ensures))
+    (laid-then (c .before .before .before .before .before .before .before .before .before .before .before .before .before .before .before .before .pair-line
+    .ensures) deps)
 
 pub list-lines-spec : {M : Type 1} → statement M
 list-lines-spec =

@@ -33,7 +33,8 @@ returns : tie.Need-returns
 returns c =
     let a = c .before .before .before .before .before .before .before .before .before .before .before .before .before .args in
     laid-as
-    (name-bytes (a .m .now) (a .place % places) (c .before .before .before .before .before .before .before .before .before .id .ensures) (c .before .before .before .parent .ensures))
+    (name-bytes (a .m .now) (a .place % places) (c .before .before .before .before .before .before .before .before .before .id .ensures)
+    (c .before .before .before .parent .ensures))
     (laid-then (c .before .before .before .before .before .before .before .before .number-line .ensures) (c .before .before .optional-line .ensures))
 
 pub name-lines-spec : {M : Type 1} → statement M

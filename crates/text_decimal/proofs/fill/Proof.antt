@@ -10,7 +10,9 @@ use Rattle.text_decimal.proofs.fill.Statement.{statement}
 use Rattle.text_decimal.proofs.fill.Tie as tie
 
 abbrev Inv-loop : tie.InvT-loop
-Inv-loop n count scratch₀ left₀ i₀ scratch left i = (i + 1 ≡ length (decimalOf left)) × (i < length scratch₀) × (length scratch ≡ length scratch₀) × (over (decimalOf n) scratch₀ ≡ over (decimalOf left) scratch)
+Inv-loop n count scratch₀ left₀ i₀ scratch left i =
+    (i + 1 ≡ length (decimalOf left)) × (i < length scratch₀) × (length scratch ≡ length scratch₀)
+    × (over (decimalOf n) scratch₀ ≡ over (decimalOf left) scratch)
 
 abbrev μ-loop : tie.MeasureT-loop
 μ-loop n count scratch₀ left₀ i₀ scratch left i = left

@@ -25,7 +25,8 @@ read-digits-requires-2 : tie.Need-read-digits-requires-2
 read-digits-requires-2 c κs = search needs
 
 returns-4 : tie.Need-returns-4
-returns-4 c = c .read-digits2 .ensures ∙ sym (number-more (c .before .before .before .before .before .before .args .word .now) (omega arith) (c .before .if3 .left))
+returns-4 c = c .read-digits2 .ensures ∙ sym
+    (number-more (c .before .before .before .before .before .before .args .word .now) (omega arith) (c .before .if3 .left))
 
 pub read-decimal-spec : {M : Type 1} → statement M
 read-decimal-spec =

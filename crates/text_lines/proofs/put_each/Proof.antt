@@ -12,7 +12,8 @@ use Rattle.text_lines.proofs.put_each.Statement.{statement}
 use Rattle.text_lines.proofs.put_each.Tie as tie
 
 abbrev Inv-loop : tie.InvT-loop
-Inv-loop text₀ at bytes place₀ i₀ text place i = (place ≤ last) × (length text ≡ length text₀) × ((v : List ℕ) (r : ℕ) → Laid (drop i bytes) place text v r → Laid bytes at text₀ v r)
+Inv-loop text₀ at bytes place₀ i₀ text place i =
+    (place ≤ last) × (length text ≡ length text₀) × ((v : List ℕ) (r : ℕ) → Laid (drop i bytes) place text v r → Laid bytes at text₀ v r)
 
 abbrev μ-loop : tie.MeasureT-loop
 μ-loop text₀ at bytes place₀ i₀ text place i = length bytes - i

@@ -20,7 +20,9 @@ same-length : tie.Need-same-length
 same-length c = search needs
 
 returns : tie.Need-returns
-returns c = laid-then (c .before .before .before .before .before .before .before .before .before .before .before .before .before .before .put .ensures) (laid-then (c .before .before .before .before .before .before .before .before .before .before .number .ensures) (laid-then (c .before .before .before .before .before .before .number2 .ensures) (c .before .before .number-or-none .ensures)))
+returns c = laid-then (c .before .before .before .before .before .before .before .before .before .before .before .before .before .before .put .ensures)
+    (laid-then (c .before .before .before .before .before .before .before .before .before .before .number .ensures)
+    (laid-then (c .before .before .before .before .before .before .number2 .ensures) (c .before .before .number-or-none .ensures)))
 
 pub triple-line-spec : {M : Type 1} → statement M
 triple-line-spec =

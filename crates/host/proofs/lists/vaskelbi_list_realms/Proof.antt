@@ -14,7 +14,10 @@ same-length : tie.Need-same-length
 same-length c = search needs
 
 returns : tie.Need-returns
-returns c = (heard _ _ _ _ _ (c .before .before .before .before .list-realms .ensures .0) (c .number .ensures), c .before .before .before .before .list-realms .ensures .1)
+returns c = (
+  heard _ _ _ _ _ (c .before .before .before .before .list-realms .ensures .0) (c .number .ensures),
+  c .before .before .before .before .list-realms .ensures .1,
+)
 
 pub vaskelbi-list-realms-spec : {M : Type 1} → statement M
 vaskelbi-list-realms-spec = tie.close (tie.spec list-realms-requires number-requires same-length returns)

@@ -14,7 +14,10 @@ same-length : tie.Need-same-length
 same-length c = search needs
 
 returns : tie.Need-returns
-returns c = (heard _ _ _ _ _ (c .before .before .before .before .write-text .ensures .0) (c .number .ensures), c .before .before .before .before .write-text .ensures .1)
+returns c = (
+  heard _ _ _ _ _ (c .before .before .before .before .write-text .ensures .0) (c .number .ensures),
+  c .before .before .before .before .write-text .ensures .1,
+)
 
 pub vaskelbi-write-text-spec : {M : Type 1} → statement M
 vaskelbi-write-text-spec = tie.close (tie.spec write-text-requires number-requires same-length returns)

@@ -13,20 +13,23 @@ bad-realms-requires c κs = search needs
 returns : tie.Need-returns
 returns c =
     let a = c .before .before .before .before .before .args in
-    early-4 (view (a .m .now)) (asked (a .parent) (a .realms .now) (a .dependencies .now) (a .provisions .now)) (placeAbove (a .m .now) (a .parent)) (sym (c .before .bad-realms .ensures) ∙ c .if1 .taken)
+    early-4 (view (a .m .now)) (asked (a .parent) (a .realms .now) (a .dependencies .now) (a .provisions .now)) (placeAbove (a .m .now) (a .parent))
+    (sym (c .before .bad-realms .ensures) ∙ c .if1 .taken)
 
 returns-2 : tie.Need-returns-2
 returns-2 c =
     let r = c .before in
     let a = r .before .before .before .before .before .args in
-    early-5-dependencies (view (a .m .now)) (asked (a .parent) (a .realms .now) (a .dependencies .now) (a .provisions .now)) (placeAbove (a .m .now) (a .parent)) (sym (r .before .bad-realms .ensures) ∙ r .if1 .left) (c .if2 .taken)
+    early-5-dependencies (view (a .m .now)) (asked (a .parent) (a .realms .now) (a .dependencies .now) (a .provisions .now))
+    (placeAbove (a .m .now) (a .parent)) (sym (r .before .bad-realms .ensures) ∙ r .if1 .left) (c .if2 .taken)
 
 returns-3 : tie.Need-returns-3
 returns-3 c =
     let d = c .before in
     let r = d .before in
     let a = r .before .before .before .before .before .args in
-    early-5-provisions (view (a .m .now)) (asked (a .parent) (a .realms .now) (a .dependencies .now) (a .provisions .now)) (placeAbove (a .m .now) (a .parent)) (sym (r .before .bad-realms .ensures) ∙ r .if1 .left) (d .if2 .left) (c .if3 .taken)
+    early-5-provisions (view (a .m .now)) (asked (a .parent) (a .realms .now) (a .dependencies .now) (a .provisions .now))
+    (placeAbove (a .m .now) (a .parent)) (sym (r .before .bad-realms .ensures) ∙ r .if1 .left) (d .if2 .left) (c .if3 .taken)
 
 parent-verdict-requires : tie.Need-parent-verdict-requires
 parent-verdict-requires c κs = search needs
@@ -44,7 +47,8 @@ returns-4 c =
     let d = v .before in
     let r = d .before in
     let a = r .before .before .before .before .before .args in
-    early-parent (view (a .m .now)) (asked (a .parent) (a .realms .now) (a .dependencies .now) (a .provisions .now)) (placeAbove (a .m .now) (a .parent)) (sym (r .before .bad-realms .ensures) ∙ r .if1 .left) (d .if2 .left) (v .if3 .left) _ (p .parent-verdict .ensures) _ (c .enum-told2 .given .1)
+    early-parent (view (a .m .now)) (asked (a .parent) (a .realms .now) (a .dependencies .now) (a .provisions .now)) (placeAbove (a .m .now) (a .parent))
+    (sym (r .before .bad-realms .ensures) ∙ r .if1 .left) (d .if2 .left) (v .if3 .left) _ (p .parent-verdict .ensures) _ (c .enum-told2 .given .1)
 
 repeated-key-requires : tie.Need-repeated-key-requires
 repeated-key-requires c κs = search needs
@@ -57,7 +61,9 @@ returns-5 c =
     let d = v .before in
     let r = d .before in
     let a = r .before .before .before .before .before .args in
-    early-6 (view (a .m .now)) (asked (a .parent) (a .realms .now) (a .dependencies .now) (a .provisions .now)) (placeAbove (a .m .now) (a .parent)) (sym (r .before .bad-realms .ensures) ∙ r .if1 .left) (d .if2 .left) (v .if3 .left) _ (p .parent-verdict .ensures) _ (t .enum-told .given .1) (sym (c .before .repeated-key .ensures) ∙ c .if4 .taken)
+    early-6 (view (a .m .now)) (asked (a .parent) (a .realms .now) (a .dependencies .now) (a .provisions .now)) (placeAbove (a .m .now) (a .parent))
+    (sym (r .before .bad-realms .ensures) ∙ r .if1 .left) (d .if2 .left) (v .if3 .left) _ (p .parent-verdict .ensures) _ (t .enum-told .given .1)
+    (sym (c .before .repeated-key .ensures) ∙ c .if4 .taken)
 
 returns-6 : tie.Need-returns-6
 returns-6 c =
@@ -67,7 +73,9 @@ returns-6 c =
     let d = v .before in
     let r = d .before in
     let a = r .before .before .before .before .before .args in
-    early-pass (view (a .m .now)) (asked (a .parent) (a .realms .now) (a .dependencies .now) (a .provisions .now)) (placeAbove (a .m .now) (a .parent)) (sym (r .before .bad-realms .ensures) ∙ r .if1 .left) (d .if2 .left) (v .if3 .left) _ (p .parent-verdict .ensures) _ (t .enum-told .given .1) (sym (c .before .repeated-key .ensures) ∙ c .if4 .left)
+    early-pass (view (a .m .now)) (asked (a .parent) (a .realms .now) (a .dependencies .now) (a .provisions .now)) (placeAbove (a .m .now) (a .parent))
+    (sym (r .before .bad-realms .ensures) ∙ r .if1 .left) (d .if2 .left) (v .if3 .left) _ (p .parent-verdict .ensures) _ (t .enum-told .given .1)
+    (sym (c .before .repeated-key .ensures) ∙ c .if4 .left)
 
 pub early-verdict-spec : {M : Type 1} → statement M
 early-verdict-spec =

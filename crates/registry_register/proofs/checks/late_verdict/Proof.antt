@@ -32,7 +32,8 @@ returns-3 c =
     let n = e .before in
     let r = n .before in
     let a = r .before .args in
-    late-long (a .m .now) (a .rows) (a .dependencies) (a .claims) _ (n .next-id .ensures) (e .if1 .left) _ (r .registered .ensures) (f .if2 .left) (c .if3 .taken)
+    late-long (a .m .now) (a .rows) (a .dependencies) (a .claims) _ (n .next-id .ensures) (e .if1 .left) _ (r .registered .ensures) (f .if2 .left)
+    (c .if3 .taken)
 
 returns-4 : tie.Need-returns-4
 returns-4 c =
@@ -42,7 +43,8 @@ returns-4 c =
     let n = e .before in
     let r = n .before in
     let a = r .before .args in
-    late-rows (a .m .now) (a .rows) (a .dependencies) (a .claims) _ (n .next-id .ensures) (e .if1 .left) _ (r .registered .ensures) (f .if2 .left) (g .if3 .left) (omega arith)
+    late-rows (a .m .now) (a .rows) (a .dependencies) (a .claims) _ (n .next-id .ensures) (e .if1 .left) _ (r .registered .ensures) (f .if2 .left)
+    (g .if3 .left) (omega arith)
 
 returns-5 : tie.Need-returns-5
 returns-5 c =
@@ -52,7 +54,8 @@ returns-5 c =
     let n = e .before in
     let r = n .before in
     let a = r .before .args in
-    late-rows (a .m .now) (a .rows) (a .dependencies) (a .claims) _ (n .next-id .ensures) (e .if1 .left) _ (r .registered .ensures) (f .if2 .left) (g .if3 .left) (omega arith)
+    late-rows (a .m .now) (a .rows) (a .dependencies) (a .claims) _ (n .next-id .ensures) (e .if1 .left) _ (r .registered .ensures) (f .if2 .left)
+    (g .if3 .left) (omega arith)
 
 sub-if6 : tie.Need-sub-if6
 sub-if6 c = search needs
@@ -65,7 +68,8 @@ returns-6 c =
     let n = e .before in
     let r = n .before in
     let a = r .before .args in
-    late-rows (a .m .now) (a .rows) (a .dependencies) (a .claims) _ (n .next-id .ensures) (e .if1 .left) _ (r .registered .ensures) (f .if2 .left) (g .if3 .left) (omega arith)
+    late-rows (a .m .now) (a .rows) (a .dependencies) (a .claims) _ (n .next-id .ensures) (e .if1 .left) _ (r .registered .ensures) (f .if2 .left)
+    (g .if3 .left) (omega arith)
 
 returns-7 : tie.Need-returns-7
 returns-7 c =
@@ -75,7 +79,8 @@ returns-7 c =
     let n = e .before in
     let r = n .before in
     let a = r .before .args in
-    late-pass (a .m .now) (a .rows) (a .dependencies) (a .claims) _ (n .next-id .ensures) (e .if1 .left) _ (r .registered .ensures) (f .if2 .left) (g .if3 .left) (omega arith)
+    late-pass (a .m .now) (a .rows) (a .dependencies) (a .claims) _ (n .next-id .ensures) (e .if1 .left) _ (r .registered .ensures) (f .if2 .left)
+    (g .if3 .left) (omega arith)
 
 pub late-verdict-spec : {M : Type 1} → statement M
 late-verdict-spec =

@@ -78,7 +78,8 @@ returns-7 c =
     let s = c .before .before in
     let q = s .before .before .before in
     let f = q .before .before in
-    parent-unloading _ _ _ (f .before .before .parent .given .1) _ (sym (f .find .ensures) ∙ q .at .given .1) _ (s .before .load .ensures) (s .if1 .left) (ap isUnloading (c .enum-told6 .given .1))
+    parent-unloading _ _ _ (f .before .before .parent .given .1) _ (sym (f .find .ensures) ∙ q .at .given .1) _ (s .before .load .ensures) (s .if1 .left)
+    (ap isUnloading (c .enum-told6 .given .1))
 
 pub parent-verdict-spec : {M : Type 1} → statement M
 parent-verdict-spec =
