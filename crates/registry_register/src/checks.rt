@@ -14,7 +14,7 @@ use rules::Phase;
 use rules::limits;
 use rules::refusal;
 
-// The same of the early run, with the place of the parent; nowhere without one.
+// What the first run comes to: passed, with the parent's place, which is nowhere without a parent; or the refusal's number.
 pub enum Early {
     Passed(Place),
     Refused(u64),

@@ -69,6 +69,13 @@ E4-plugins keys =
     ∷ registers (some 2) (port 101 0) [] [] []
     ∷ []
 
+-- the same parent, and a child with anchor (4,6), which its key 4 resolves to
+abbrev pub E4-again-plugins : List Op
+E4-again-plugins =
+    registers none (port 100 0) [] (4 ∷ []) []
+    ∷ registers (some 1) (port 4 6) (4 ∷ 6 ∷ []) [] []
+    ∷ []
+
 -- how many dependencies the child and the grandchild have, and the answers to their begin
 abbrev pub E4-answers : List ℕ → List Answer
 E4-answers keys =
@@ -131,6 +138,8 @@ pub record Examples : Type 0 where
   -- declared and anchor: it stays, is handed down, and begin answers 14
   pub E4-declared : E4-answers (4 ∷ []) ≡ Accepted (1 ∷ []) ∷ Refused 14 [] ∷ Accepted (1 ∷ []) ∷ Refused 14 [] ∷ []
   pub E4-declared-list : listed (E4-plugins (4 ∷ [])) 2 (0 ∷ 0 ∷ []) ≡ 4 ∷ 0 ∷ []
+  -- the anchor is told by key and realm, and a key resolved again to it is skipped too
+  pub E4-again : listed E4-again-plugins 2 (0 ∷ 0 ∷ []) ≡ 4 ∷ 0 ∷ []
   pub E5 : listed E5-plugins 3 (0 ∷ 0 ∷ 0 ∷ 0 ∷ 0 ∷ 0 ∷ []) ≡ 2 ∷ 0 ∷ 2 ∷ 5 ∷ 2 ∷ 7 ∷ []
   pub E5-key : answerTo (run fresh E5-plugins .registry) (Ask (DependencyPort 3 2)) ≡ Accepted (2 ∷ 0 ∷ [])
   pub E6 : answersFrom E6-registry (Ask (Fits 1 3) ∷ Ask (Fits 1 4) ∷ []) ≡ Accepted (1 ∷ []) ∷ Accepted (0 ∷ []) ∷ []
@@ -157,6 +166,7 @@ examples = record {
   E4 = refl;
   E4-declared = refl;
   E4-declared-list = refl;
+  E4-again = refl;
   E5 = refl;
   E5-key = refl;
   E6 = refl;
