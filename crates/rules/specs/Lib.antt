@@ -17,6 +17,8 @@ pub mod Lists
 pub mod Slot
 pub mod Queries
 pub mod Text
+pub mod Conditions
+pub mod Load
 pub mod Questions
 pub mod Steps
 pub mod Examples

@@ -1,11 +1,11 @@
--- Document 01, "Refusal numbers".
+-- Document 01, "Refusal numbers", with document 02's.
 use Prim.Native.Nat.{ℕ, _≤_}
 use native.Mathlib.Omega.{arith}
 
 pub data Refusal : Type 0 where
   Unknown Retired InvalidState BadRealms TooManyKeys DuplicateDependency DuplicateProvision Taken : Refusal
   NoId Full TooLong NoRows Stale Unavailable InUse Exhausted : Refusal
-  NotRun HasChildren Closed Undeclared Duplicate Missing ShortBuffer : Refusal
+  NotRun HasChildren Closed Undeclared Duplicate Missing ShortBuffer BadText SameDomain : Refusal
 
 abbrev pub number : Refusal → ℕ
 -- id not registered; in child retirement, never issued
@@ -54,9 +54,13 @@ number Duplicate = 21
 number Missing = 22
 -- lent room too small
 number ShortBuffer = 23
+-- no text of the form, or one that breaks a condition
+number BadText = 24
+-- the domain that the text has
+number SameDomain = 25
 
--- The numbers are from 1 to 23.
-pub number-within : (x : Refusal) → (1 ≤ number x) × (number x ≤ 23)
+-- The numbers are from 1 to 25.
+pub number-within : (x : Refusal) → (1 ≤ number x) × (number x ≤ 25)
 number-within Unknown = (omega arith, omega arith)
 number-within Retired = (omega arith, omega arith)
 number-within InvalidState = (omega arith, omega arith)
@@ -80,3 +84,5 @@ number-within Undeclared = (omega arith, omega arith)
 number-within Duplicate = (omega arith, omega arith)
 number-within Missing = (omega arith, omega arith)
 number-within ShortBuffer = (omega arith, omega arith)
+number-within BadText = (omega arith, omega arith)
+number-within SameDomain = (omega arith, omega arith)

@@ -1,4 +1,4 @@
-// Document 01's refusal numbers; the definition `number` has their names.
+// Document 01's refusal numbers, with document 02's; the definition `number` has their names.
 pub const UNKNOWN: u64 = 1;
 
 pub const RETIRED: u64 = 2;
@@ -44,3 +44,7 @@ pub const DUPLICATE: u64 = 21;
 pub const MISSING: u64 = 22;
 
 pub const SHORT_BUFFER: u64 = 23;
+
+pub const BAD_TEXT: u64 = 24;
+
+pub const SAME_DOMAIN: u64 = 25;

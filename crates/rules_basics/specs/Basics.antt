@@ -30,10 +30,30 @@ abbrev pub isNone : {A : Type 0} → Option A → Bool
 isNone none = true
 isNone (some a) = false
 
+infixr 25 _⊃_
+-- if .. then ..
+abbrev pub _⊃_ : Bool → Bool → Bool
+true ⊃ b = b
+false ⊃ b = true
+
+abbrev pub every : List Bool → Bool
+every [] = true
+every (b ∷ bs) = b && every bs
+
+-- those that pass
+abbrev pub only : {A : Type 0} → (A → Bool) → List A → List A
+only f [] = []
+only f (x ∷ xs) = pick (f x) (x ∷ only f xs) (only f xs)
+
 -- whether there is one, and it passes
 abbrev pub holds : {A : Type 0} → (A → Bool) → Option A → Bool
 holds f none = false
 holds f (some a) = f a
+
+-- none, or one that passes
+abbrev pub orNone : {A : Type 0} → (A → Bool) → Option A → Bool
+orNone f none = true
+orNone f (some a) = f a
 
 abbrev pub orElse : {A : Type 0} → Option A → A → A
 orElse none b = b

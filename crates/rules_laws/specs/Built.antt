@@ -1,4 +1,4 @@
--- What every run keeps, from an opening on. No more than a written registry will have to meet, so that a load can start a run.
+-- What every run keeps, from an opening or a load on: no more than document 02 [4]'s conditions, so that a load can start a run.
 use Prim.Native.Nat.{ℕ, _≤_, _<_}
 use mathlib.Core.Path.{_≡_}
 use mathlib.Core.Bool.{true, false}
@@ -12,9 +12,11 @@ use Rattle.rules.specs.declared.Phase.the-variants.{Idle, Active}
 use Rattle.rules.specs.declared.Root.the-variants.{Unissued, Queued, Spent}
 use Rattle.rules.specs.Holds.{isIdle}
 use Rattle.rules.specs.Ports.{rising, resolve}
-use Rattle.rules.specs.Registration.{repeats}
+use Rattle.rules.specs.Dependencies.{dependencyList}
+use Rattle.rules.specs.Registration.{parentOf, inheritedFrom, repeats}
+use Rattle.rules.specs.Conditions.{needs}
 use Rattle.rules_laws.specs.Laws.Members.{In}
-use Rattle.rules.specs.Limits.{maxPlugins, maxRows, maxProvisionKeys, maxDependencies, maxRealmRows}
+use Rattle.rules.specs.Limits.{maxPlugins, maxRows, maxDependencyKeys, maxProvisionKeys, maxDependencies, maxRealmRows}
 
 -- What registration fixes of a plugin: the limits on its lists, realm keys that rise strictly, realm 0 for any other key, and ports
 -- that are different and have the realm that their key resolves to.
@@ -26,6 +28,13 @@ pub record Shaped (p : Plugin) : Type 0 where
   pub dependencies : length (p .dependencies) ≤ maxDependencies
   pub resolved : (q : Port) → In q (provided p) → resolve (p .realms) (q .key) ≡ q
   pub apart : repeats (p .anchor ∷ provided p) ≡ false
+
+-- Its dependency list is one that the rule gives from the parent's list and some at most 16 different declared keys.
+pub record Ruled (parents : List Port) (p : Plugin) : Type 0 where
+  pub keys : List ℕ
+  pub few : length keys ≤ maxDependencyKeys
+  pub differ : twice keys ≡ false
+  pub gives : dependencyList (p .realms) (provided p) (p .anchor) keys parents ≡ p .dependencies
 
 -- What later operations change of it.
 pub record Lively (p : Plugin) : Type 0 where
@@ -63,6 +72,11 @@ pub record Wired (r : Registry) : Type 0 where
   -- two providers of a port are one
   pub sole : (x y : ℕ) (p q : Plugin) (k : Port) → lookup r x ≡ some p → lookup r y ≡ some q → provides p k ≡ true → provides q k ≡ true → x ≡ y
 
+-- No cycles: a rank falls from each plugin that runs to each one that runs and that it needs.
+pub record Ranked (ps : List Plugin) : Type 0 where
+  pub rank : Plugin → ℕ
+  pub falls : (a b : Plugin) → In a ps → In b ps → running a ≡ true → running b ≡ true → needs a b ≡ true → rank b < rank a
+
 -- Of each registered plugin: its id was issued, its parent is registered and older, and the above.
 pub record Member (r : Registry) (a : Plugin) : Type 0 where
   pub issued : r .first ≤ a .id
@@ -84,3 +98,6 @@ pub record Built (r : Registry) : Type 0 where
   pub once : twice (idsOf (plugins r)) ≡ false
   pub members : (a : Plugin) → In a (plugins r) → Member r a
   pub wired : Wired r
+  -- dependency lists come from the rule
+  pub ruled : (a : Plugin) → In a (plugins r) → Ruled (inheritedFrom (parentOf r (a .parent))) a
+  pub ranked : Ranked (plugins r)

@@ -5,6 +5,8 @@ pub mod Rows
 pub mod Plugins
 pub mod Change
 pub mod Providers
+pub mod Rule
+pub mod Ranks
 pub mod Moves
 pub mod New
 pub mod Ids
@@ -45,6 +47,8 @@ opened-built d f l = record {
     served = λ k want. let i = want .registered in let z : _≡_ {A = ℕ} 0 1 = cc in absurd (omega arith);
     sole = λ x y p q k i j a b. cc;
   };
+  ruled = λ a m. absurd m;
+  ranked = record { rank = λ a. 0; falls = λ a b m. absurd m };
 }
 
 outcome-built : (r : Registry) → Built r → (o : Op) (u : Outcome) → Lawful r o u → Built (after r u)

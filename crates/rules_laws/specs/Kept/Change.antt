@@ -10,11 +10,13 @@ use lib.ListN.{length}
 use borrow.Author.Tests.{eqb-true}
 use Rattle.rules.specs.Basics.{isSome, twice, last}
 use Rattle.rules.specs.Holds.{Plugin, Registry, plugins, lookup, rowsInUse}
+use Rattle.rules.specs.Registration.{parentOf, inheritedFrom}
 use Rattle.rules_laws.specs.Laws.Tests.{by-test}
 use Rattle.rules_laws.specs.Laws.Members.{In}
-use Rattle.rules_laws.specs.Built.{idsOf, Member, Built}
+use Rattle.rules_laws.specs.Built.{idsOf, Ruled, Ranked, Member, Built}
 use Rattle.rules_laws.specs.Kept.Places.{Only}
 use Rattle.rules_laws.specs.Kept.Wiring.{IfSome, Rewired, rewired}
+use Rattle.rules_laws.specs.Kept.Rule.{parents-stay}
 use Rattle.rules.specs.Limits.{maxRows}
 
 -- a registered parent is still registered
@@ -37,6 +39,10 @@ pub record Change (r r′ : Registry) (id : ℕ) (u u′ : Option Plugin) : Type
   pub member : IfSome (Member r′) u′
   -- it is still there if it is a parent
   pub parents : (a : Plugin) → In a (plugins r) → a .parent ≡ some id → isSome u′ ≡ true
+  -- and then with the list that it had
+  pub lists : (a : Plugin) → In a (plugins r) → a .parent ≡ some id → inheritedFrom u′ ≡ inheritedFrom u
+  pub ruled : IfSome (λ a. Ruled (inheritedFrom (parentOf r′ (a .parent))) a) u′
+  pub ranked : Ranked (plugins r′)
 
 pub built-after : (r r′ : Registry) (id : ℕ) (u u′ : Option Plugin) → Built r → Change r r′ id u u′ → Built r′
 built-after r r′ id u u′ b c = record {
@@ -47,6 +53,11 @@ built-after r r′ id u u′ b c = record {
   once = c .once;
   members = λ a m. ⊎-elim (λ i. subst (IfSome (Member r′)) i (c .member)) (λ n. stays a (n .0)) (c .only .members a m);
   wired = rewired r r′ id u u′ (b .wired) (c .only) (c .wiring);
+  ruled = λ a m. ⊎-elim
+      (λ i. subst (IfSome (λ a. Ruled (inheritedFrom (parentOf r′ (a .parent))) a)) i (c .ruled))
+      (λ n. subst (λ l. Ruled l a) (parents-stay r r′ id u u′ (c .only) (a .parent) (c .lists a (n .0))) (b .ruled a (n .0)))
+      (c .only .members a m);
+  ranked = c .ranked;
 }
   where
     stays : (a : Plugin) → In a (plugins r) → Member r′ a

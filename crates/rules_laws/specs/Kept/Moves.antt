@@ -6,7 +6,7 @@ use mathlib.Core.Path.{_≡_, refl, sym, ap, _∙_, subst}
 use mathlib.Core.Bool.{true, false, true≢false}
 use mathlib.Core.List.{List}
 use mathlib.Core.Option.{Option, none, some}
-use mathlib.Core.Logic.{_≢_, inl, inr}
+use mathlib.Core.Logic.{_≢_, inl, inr, ⊎-elim}
 use lib.Dec.{eqb}
 use lib.ListN.{length}
 use borrow.Author.Tests.{eqb-false, ne-eqb}
@@ -14,18 +14,21 @@ use Rattle.rules.specs.Basics.{all, any, isSome, last}
 use Rattle.rules.specs.declared.Port.{Port}
 use Rattle.rules.specs.Holds.{Plugin, Registry, plugins, lookup, provider, provides, running, isIdle, isActive, count, rowsOf, rowsInUse}
 use Rattle.rules.specs.Outcomes.{stores, adds, removes, after}
+use Rattle.rules.specs.Registration.{parentOf, inheritedFrom}
 use Rattle.rules.specs.Phases.{available, inUse}
 use Rattle.rules.specs.Retirement.{isChildOf}
 use Rattle.rules_laws.specs.Laws.Tests.{by-test}
 use Rattle.rules_laws.specs.Laws.Lookups.{lookup-id, length-stored, length-freed, length-added}
 use Rattle.rules_laws.specs.Laws.Members.{In, any-false, all-true, lookup-in}
 use Rattle.rules_laws.specs.Laws.Table.{is-active}
-use Rattle.rules_laws.specs.Built.{Shaped, Lively, Served, Built}
+use Rattle.rules_laws.specs.Built.{Shaped, Ruled, Lively, Served, Ranked, Built}
 use Rattle.rules_laws.specs.Kept.Places.{Only, distinct, stored-once, added-once, freed-once, only-stored, only-freed, only-added}
 use Rattle.rules_laws.specs.Kept.Rows.{rows-stored, rows-freed, rows-added}
 use Rattle.rules_laws.specs.Kept.Plugins.{Alike, alike-rows, alike-provides, alike-shaped}
 use Rattle.rules_laws.specs.Kept.Providers.{available-served, not-in-use, unprovided}
 use Rattle.rules_laws.specs.Kept.Wiring.{Rewired}
+use Rattle.rules_laws.specs.Kept.Rule.{parents-stay, alike-ruled}
+use Rattle.rules_laws.specs.Kept.Ranks.{ranked-resting, turn-ranked}
 use Rattle.rules_laws.specs.Kept.Change.{found-after, built-after}
 use Rattle.rules.specs.Limits.{maxPlugins, maxRows}
 
@@ -73,6 +76,14 @@ module _ (r : Registry) (b : Built r) (p q : Plugin) (e : lookup r (q .id) ≡ s
       let j : p ≡ s = cc in
       alike-rows p q (t .alike) ∙ ap rowsOf j
 
+  -- its list is the one that it was, and so is its parent's
+  turn-ruled : (r′ : Registry) → Only r r′ (q .id) (some p) (some q) → Ruled (inheritedFrom (parentOf r′ (q .parent))) q
+  turn-ruled r′ o =
+      let h = alike-ruled p q _ (t .alike) (b .ruled p (lookup-in r (q .id) p e)) in
+      let i = ap (λ v. inheritedFrom (parentOf r v)) (sym (t .alike .parent)) in
+      let j = parents-stay r r′ (q .id) (some p) (some q) o (q .parent) (λ _. t .alike .dependencies) in
+      subst (λ l. Ruled l q) (i ∙ j) h
+
   pub turn-built : (vs : List ℕ) → Built (after r (stores q vs))
   unfolding after
   turn-built vs =
@@ -96,6 +107,9 @@ module _ (r : Registry) (b : Built r) (p q : Plugin) (e : lookup r (q .id) ≡ s
           lively = t .lively (m .lively);
         };
         parents = λ a n i. refl;
+        lists = λ a n i. t .alike .dependencies;
+        ruled = turn-ruled (after r (stores q vs)) only;
+        ranked = turn-ranked r b p q e (t .alike) (t .starts) (after r (stores q vs)) only (b .ranked);
       }
 
 -- The plugin q comes in, under the next id.
@@ -106,6 +120,7 @@ pub record Join (r : Registry) (q : Plugin) : Type 0 where
   pub rows : rowsInUse r + rowsOf q ≤ maxRows
   pub parent : (x : ℕ) → q .parent ≡ some x → isSome (lookup r x) ≡ true
   pub shaped : Shaped q
+  pub ruled : Ruled (inheritedFrom (parentOf r (q .parent))) q
   pub lively : Lively q
   pub rests : running q ≡ false
   pub untaken : (k : Port) → provides q k ≡ true → isSome (provider r k) ≡ false
@@ -149,6 +164,15 @@ module _ (r : Registry) (b : Built r) (q : Plugin) (j : Join r q) where
   unfolding after rowsInUse
   join-rows vs = rows-added (r .places) q roomy
 
+  -- it is nobody's parent
+  unparent : isSome (lookup r (q .id)) ≡ true → ⊥
+  unparent h = true≢false (sym h ∙ ap isSome free)
+
+  join-ruled : (r′ : Registry) → Only r r′ (q .id) none (some q) → Ruled (inheritedFrom (parentOf r′ (q .parent))) q
+  join-ruled r′ o =
+      let i = parents-stay r r′ (q .id) none (some q) o (q .parent) (λ i. absurd (unparent (j .parent (q .id) i))) in
+      subst (λ l. Ruled l q) i (j .ruled)
+
   pub join-built : (vs : List ℕ) → Built (after r (adds q vs))
   unfolding after
   join-built vs =
@@ -171,6 +195,9 @@ module _ (r : Registry) (b : Built r) (q : Plugin) (j : Join r q) where
           lively = j .lively;
         };
         parents = λ a n i. refl;
+        lists = λ a n i. absurd (unparent (b .members a n .parent (q .id) i));
+        ruled = join-ruled (after r (adds q vs)) only;
+        ranked = ranked-resting r (after r (adds q vs)) q none only (b .ranked) 0 (j .rests);
       }
 
 -- The plugin p, registered under id, Idle and without children, goes.
@@ -190,6 +217,19 @@ module _ (r : Registry) (b : Built r) (id : ℕ) (p : Plugin) (e : lookup r id �
   unfolding after rowsInUse lookup
   leave-rows vs = rows-freed (r .places) id p (b .once) e
 
+  -- 18: it is nobody's parent
+  childless : (a : Plugin) → In a (plugins r) → a .parent ≡ some id → ⊥
+  childless a n i =
+      let c = any-false (isChildOf id) (plugins r) a (l .childless) n in
+      let d : eqb id id ≡ false = rw i at c in
+      eqb-false id id d refl
+
+  leave-ranked : (r′ : Registry) → Only r r′ id (some p) none → Ranked (plugins r′)
+  leave-ranked r′ o = record { rank = b .ranked .rank; falls = λ a c m n. b .ranked .falls a c (old a m) (old c n) }
+    where
+      old : (a : Plugin) → In a (plugins r′) → In a (plugins r)
+      old a m = ⊎-elim (λ i. let z : _≡_ {A = ℕ} 0 1 = cc in absurd (omega arith)) (λ n. n .0) (o .members a m)
+
   pub leave-built : (vs : List ℕ) → Built (after r (removes id vs))
   unfolding after
   leave-built vs = built-after r (after r (removes id vs)) id (some p) none b record {
@@ -202,8 +242,8 @@ module _ (r : Registry) (b : Built r) (id : ℕ) (p : Plugin) (e : lookup r id �
     rows = let n = leave-rows vs in omega (arith, b .rows);
     once = freed-once r vs (b .once) id;
     member = tt;
-    parents = λ a n i.
-        let c = any-false (isChildOf id) (plugins r) a (l .childless) n in
-        let d : eqb id id ≡ false = rw i at c in
-        absurd (eqb-false id id d refl);
+    parents = λ a n i. absurd (childless a n i);
+    lists = λ a n i. absurd (childless a n i);
+    ruled = tt;
+    ranked = leave-ranked (after r (removes id vs)) (only-freed r vs id p e);
   }

@@ -2,22 +2,22 @@
 use Prim.Native.Nat.{ℕ}
 use native.Mathlib.Omega.{arith}
 use mathlib.Core.Path.{_≡_, refl, sym, ap, _∙_, subst}
-use mathlib.Core.Bool.{true, false, not, _&&_, _||_}
-use mathlib.Core.List.{List, _∷_, map, map-map, map-id}
+use mathlib.Core.Bool.{true, false, not, _&&_, _||_, or-true, true≢false}
+use mathlib.Core.List.{List, [], _∷_, map, map-map, map-id}
 use mathlib.Core.Option.{Option, none, some}
 use mathlib.Core.Logic.{inl, inr}
-use lib.Dec.{ltb}
+use lib.Dec.{eqb, ltb}
 use lib.ListN.{length, length-map}
-use borrow.Author.Tests.{eqb-false, ltb-false, leb-false, not-false}
-use Rattle.rules.specs.Basics.{isSome, isNone, last}
+use borrow.Author.Tests.{eqb-true, eqb-false, ltb-false, leb-false, not-false}
+use Rattle.rules.specs.Basics.{any, isSome, isNone, twice, last}
 use Rattle.rules.specs.declared.Port.{Port}
 use Rattle.rules.specs.Holds.{Realms, Provision, Plugin, Registry, lookup, provider, provided, samePort, isIn}
 use Rattle.rules.specs.Ports.{pairs, oddLength, rising, badRealms, realmsOf, resolve}
-use Rattle.rules.specs.Registration.{Definition, parentOf, resolved, claimed, unoffered, repeats, dependenciesOf, newPlugin, registrationChecks}
+use Rattle.rules.specs.Registration.{Definition, parentOf, inheritedFrom, resolved, claimed, unoffered, repeats, dependenciesOf, newPlugin, registrationChecks}
 use Rattle.rules_laws.specs.Laws.Tests.{by-test, neither, Passed}
-use Rattle.rules_laws.specs.Laws.Members.{In, any-false, same-port, is-in}
+use Rattle.rules_laws.specs.Laws.Members.{In, any-false, same-port, same-self, is-in}
 use Rattle.rules_laws.specs.Laws.Realms.{resolve-key-law}
-use Rattle.rules_laws.specs.Built.{Shaped, Lively}
+use Rattle.rules_laws.specs.Built.{Shaped, Ruled, Lively}
 use Rattle.rules_laws.specs.Kept.Plugins.{unvalued}
 use Rattle.rules_laws.specs.Kept.Moves.{Join}
 use Rattle.rules.specs.Limits.{maxRows, maxDependencyKeys, maxProvisionKeys, maxDependencies, maxRealmRows}
@@ -40,6 +40,22 @@ there (some p) e = refl
 parent-found : (r : Registry) (u : Option ℕ) → (isSome u && isNone (parentOf r u)) ≡ false → (x : ℕ) → u ≡ some x → isSome (lookup r x) ≡ true
 parent-found r none e x i = cc
 parent-found r (some y) e x i = let j : y ≡ x = cc in subst (λ x. isSome (lookup r x) ≡ true) j (there (lookup r y) e)
+
+-- like keys resolve alike, so where no two ports are alike no two keys are
+key-found : (z : Realms) (k : ℕ) (keys : List ℕ) → any (eqb k) keys ≡ true → isIn (resolve z k) (map (resolve z) keys) ≡ true
+key-found z k [] e = e
+key-found z k (l ∷ keys) e = by-test (eqb k l)
+    (λ y. rw (eqb-true k l y) (rw (same-self (resolve z l))))
+    (λ n. rw (key-found z k keys (rw n at e)) (or-true (samePort (resolve z k) (resolve z l))))
+
+keys-differ : (z : Realms) (keys : List ℕ) → repeats (map (resolve z) keys) ≡ false → twice keys ≡ false
+keys-differ z [] e = refl
+keys-differ z (k ∷ keys) e =
+    let ports = map (resolve z) keys in
+    let n = neither (isIn (resolve z k) ports) (repeats ports) e in
+    by-test (any (eqb k) keys)
+    (λ y. absurd (true≢false (sym (key-found z k keys y) ∙ n .0)))
+    (λ f. rw (f, keys-differ z keys (n .1)))
 
 module _ (r : Registry) (d : Definition) where
   pub new-ports : provided (newPlugin r d) ≡ resolved d (d .provisions)
@@ -64,6 +80,17 @@ module _ (r : Registry) (d : Definition) where
         apart = rw new-ports twice;
       }
 
+  -- the declared keys give it
+  new-ruled : ltb maxDependencyKeys (length (d .dependencies)) ≡ false → repeats (resolved d (d .dependencies)) ≡ false
+      → Ruled (inheritedFrom (parentOf r (d .parent))) (newPlugin r d)
+  unfolding newPlugin dependenciesOf
+  new-ruled many alike = record {
+    keys = d .dependencies;
+    few = ltb-false maxDependencyKeys _ many;
+    differ = keys-differ (realmsOf (d .realms)) (d .dependencies) alike;
+    gives = rw new-ports;
+  }
+
   new-lively : Lively (newPlugin r d)
   unfolding newPlugin
   new-lively = record {
@@ -82,14 +109,15 @@ module _ (r : Registry) (d : Definition) where
   new-joins c =
       let ports = c .1 .1 .1 .1 .1 .1 in
       let limits = ports .1 .1 in
+      let keys = neither (ltb maxDependencyKeys (length (d .dependencies))) (ltb maxProvisionKeys (length (d .provisions))) (c .1 .0) in
       record {
         id = refl;
         ids = eqb-false (r .next) last (limits .0);
         room = leb-false _ _ (limits .1 .0);
         rows = ltb-false maxRows _ (limits .1 .1 .1 .0);
         parent = parent-found r (d .parent) (c .1 .1 .0);
-        shaped = new-shaped (c .0) (neither (ltb maxDependencyKeys (length (d .dependencies))) (ltb maxProvisionKeys (length (d .provisions))) (c .1 .0) .1)
-            (ports .0) (limits .1 .1 .0);
+        shaped = new-shaped (c .0) (keys .1) (ports .0) (limits .1 .1 .0);
+        ruled = new-ruled (keys .0) (c .1 .1 .1 .1 .1 .0);
         lively = new-lively;
         rests = refl;
         untaken = λ k h. any-false (λ q. isSome (provider r q)) (claimed d) k (ports .1 .0)

@@ -1,0 +1,9 @@
+pub mod Joining
+pub mod Formed
+pub mod Laws
+pub mod Meets
+pub mod Joins
+pub mod Twin
+pub mod Loaded
+pub mod Examples
+pub mod TextExamples
