@@ -1,0 +1,3 @@
+pub mod PortLines
+pub mod ProvisionLines
+pub mod BlockLines

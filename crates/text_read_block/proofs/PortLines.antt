@@ -1,0 +1,87 @@
+-- A list of ports, line by line: what holds after some lines, its start, one line more, a torn line, and the end.
+use Prim.Native.Nat.{ℕ, _+_, _≤_, _<_}
+use native.Mathlib.Omega.{arith}
+use mathlib.Core.Path.{_≡_, refl, sym, ap, _∙_, subst}
+use mathlib.Core.List.{List, [], _∷_, _++_}
+use lib.ListN.{length, length-append}
+use Rattle.rules.specs.declared.Port.{Port}
+use Rattle.rules.specs.Holds.{port}
+use Rattle.rules.specs.Text.Values.{keyRealm}
+use Rattle.text_form.specs.Forms.{Form, behind, readMany}
+use Rattle.text_form.specs.Lines.{number}
+use Rattle.text_read.specs.declared.Next.{Next}
+use Rattle.text_read.specs.declared.Next.the-variants.{At, Torn}
+use Rattle.text_read.specs.declared.Number.{Number}
+use Rattle.text_read.specs.declared.Pair.{Pair}
+use Rattle.text_read.specs.Reads.{Reads, reads-at, reads-none}
+use Rattle.text_read.specs.Lists.{many-none, many-more, many-torn, counted-next}
+use Rattle.text_read.specs.Answers.{NumberRead, PairRead}
+use Rattle.text_read_block.specs.declared.Listed.{Listed}
+use Rattle.text_read_block.specs.Lists.{PortsRead}
+use Rattle.text_read_block.specs.Rows.{rowPut, rowsPut, rows-snoc}
+
+pub record PortsSoFar (key t : List ℕ) (first : ℕ) (before after : List ℕ) (place i : ℕ) : Type 0 where
+  pub ports : List Port
+  pub reads : Reads (readMany (behind key keyRealm) i) t (At first) ports (At place)
+  pub count : i ≡ length ports
+  pub stored : after ≡ rowsPut before 0 ports
+
+module _ (plural key t : List ℕ) (at : Next) (before : List ℕ) where
+  abbrev lines : Form ℕ
+  lines = behind plural number
+
+  abbrev item : Form Port
+  item = behind key keyRealm
+
+  -- the count is torn
+  pub head-torn : (r : Number) → NumberRead (lines .read) t at r → r .next ≡ Torn → PortsRead plural key t at before (record { count = 0; next = Torn }) before
+  unfolding rowsPut
+  head-torn r told e = record {
+    ports = [];
+    reads = counted-next lines item (reads-at (told .reads) e) (reads-none (readMany item (r .value)) t Torn [] refl);
+    count = refl;
+    stored = refl;
+  }
+
+  module _ (r : Number) (told : NumberRead (lines .read) t at r) (first : ℕ) (e : r .next ≡ At first) where
+    head : Reads (lines .read) t at (r .value) (At first)
+    head = reads-at (told .reads) e
+
+    pub ports-start : PortsSoFar key t first before before first 0
+    unfolding rowsPut
+    ports-start = record { ports = []; reads = many-none item t (At first) (head .fits); count = refl; stored = refl }
+
+    module _ (after : List ℕ) (place i : ℕ) (f : PortsSoFar key t first before after place i) where
+      module _ (q : Pair) (line : PairRead (item .read) t (At place) q) where
+        pub ports-torn : i < r .value → q .next ≡ Torn → PortsRead plural key t at before (record { count = i; next = Torn }) after
+        ports-torn h d =
+            let one = many-more item i (f .reads) (reads-at (line .reads) d) in
+            record {
+              ports = f .ports;
+              reads = counted-next lines item head (many-torn item (i + 1) (r .value) (omega arith) one (f .ports));
+              count = f .count;
+              stored = f .stored;
+            }
+
+        pub ports-more : (n : ℕ) → q .next ≡ At n → PortsSoFar key t first before (rowPut after i (q .key) (q .realm)) n (i + 1)
+        ports-more n d =
+            let k : i ≡ 0 + length (f .ports) = omega (arith, f .count) in
+            record {
+              ports = f .ports ++ port (q .key) (q .realm) ∷ [];
+              reads = many-more item i (f .reads) (reads-at (line .reads) d);
+              count = omega (arith, f .count, length-append (f .ports) (port (q .key) (q .realm) ∷ []));
+              stored =
+                  ap (λ (l : List ℕ). rowPut l i (q .key) (q .realm)) (f .stored)
+                  ∙ ap (λ j. rowPut (rowsPut before 0 (f .ports)) j (q .key) (q .realm)) k
+                  ∙ sym (rows-snoc before 0 (f .ports) (port (q .key) (q .realm)));
+            }
+
+      pub ports-end : i ≤ r .value → r .value ≤ i → PortsRead plural key t at before (record { count = r .value; next = At place }) after
+      ports-end g h =
+          let k : i ≡ r .value = omega arith in
+          record {
+            ports = f .ports;
+            reads = counted-next lines item head (subst (λ j. Reads (readMany item j) t (At first) (f .ports) (At place)) k (f .reads));
+            count = sym k ∙ f .count;
+            stored = f .stored;
+          }

@@ -1,0 +1,145 @@
+-- What is read of a block: its plugin, as words.
+use Prim.Native.Nat.{ℕ, suc, _+_, _*_, _≤_}
+use native.Mathlib.Omega.{arith}
+use mathlib.Core.Path.{_≡_, refl, ap, _∙_, subst}
+use mathlib.Core.List.{List}
+use lib.ListN.{length, take, replicate, length-map, length-replicate}
+use lib.Seq.{take-all}
+use Rattle.rules.specs.Basics.{isSome, orElse, yesNo}
+use Rattle.rules.specs.Limits.{maxProvisionKeys, maxRealmRows, maxDependencies}
+use Rattle.rules.specs.Holds.{Plugin, provided, defaultRealm}
+use Rattle.rules.specs.Ports.{flat}
+use Rattle.rules.specs.Queries.{phaseNumber}
+use Rattle.rules.specs.Conditions.{claims}
+use Rattle.rules.specs.Text.{block}
+use Rattle.memory.specs.Writes.{rootTag, rootRevision}
+use Rattle.memory_values.specs.Values.{maskOf, valuesOf}
+use Rattle.text_read.specs.declared.Next.{Next}
+use Rattle.text_read.specs.declared.Next.the-variants.{At, Torn}
+use Rattle.text_read.specs.Reads.{Reads, next-one, value-one}
+use Rattle.text_read_block.specs.declared.Block.{Block}
+use Rattle.text_read_block.specs.Rows.{rowsPut, allPut, rows-front, all-front, rows-length, all-length}
+use Rattle.text_read_block.specs.Valued.{valuedOf}
+
+abbrev pub blank : Block
+blank = record {
+  next = Torn;
+  id = 0;
+  tag = 0;
+  parent = 0;
+  phase = 0;
+  retired = 0;
+  generation = 0;
+  revision = 0;
+  payload = 0;
+  root = 0;
+  queued = 0;
+  realms = 0;
+  dependencies = 0;
+  provisions = 0;
+  valued = 0;
+  mask = 0;
+  «realm_words» = replicate 32 0;
+  «dependency_words» = replicate 96 0;
+  «claim_words» = replicate 32 0;
+  values = replicate 15 0;
+}
+
+-- the words of a plugin, and the place behind its block
+abbrev pub blockOf : Plugin → ℕ → Block
+blockOf p n = record {
+  next = At n;
+  id = p .id;
+  tag = yesNo (isSome (p .parent));
+  parent = orElse (p .parent) 0;
+  phase = phaseNumber (p .phase);
+  retired = yesNo (p .retired);
+  generation = p .generation;
+  revision = p .revision;
+  payload = p .payload;
+  root = rootTag (p .root);
+  queued = rootRevision (p .root);
+  realms = length (p .realms .rows);
+  dependencies = length (p .dependencies);
+  provisions = length (p .provisions);
+  valued = valuedOf (p .provisions);
+  mask = maskOf (take maxProvisionKeys (p .provisions));
+  «realm_words» = rowsPut (replicate 32 0) 0 (p .realms .rows);
+  «dependency_words» = rowsPut (replicate 96 0) 0 (p .dependencies);
+  «claim_words» = rowsPut (replicate 32 0) 0 (claims p);
+  values = allPut (replicate 15 0) 0 (valuesOf (p .provisions));
+}
+
+-- Of a torn block nothing is told.
+pub data BlockRead (t : List ℕ) (at : Next) : Block → Type 0 where
+  torn : (p : Plugin) → Reads (block .read) t at p Torn → BlockRead t at blank
+  whole : (p : Plugin) (n : ℕ) → p .realms .other ≡ defaultRealm → Reads (block .read) t at p (At n) → BlockRead t at (blockOf p n)
+
+-- By the place behind it.
+pub block-torn : {t : List ℕ} {at : Next} {b : Block} → BlockRead t at b → b .next ≡ Torn → (p : Plugin) × Reads (block .read) t at p Torn
+block-torn (torn p x) e = (p, x)
+block-torn (whole p n d x) e = let z : _≡_ {A = ℕ} 0 1 = cc in absurd (omega arith)
+
+pub block-whole : {t : List ℕ} {at : Next} {b : Block} (n : ℕ) → BlockRead t at b → b .next ≡ At n
+    → (p : Plugin) × (p .realms .other ≡ defaultRealm) × Reads (block .read) t at p (At n) × (b ≡ blockOf p n)
+block-whole n (torn p x) e = let z : _≡_ {A = ℕ} 0 1 = cc in absurd (omega arith)
+block-whole {t} {at} n (whole p m d x) e =
+    let i : m ≡ n = cc in
+    (p, d, subst (λ (k : ℕ). Reads (block .read) t at p (At k)) i x, ap (blockOf p) i)
+
+-- Two answers that the promise allows are equal.
+pub block-one : {t : List ℕ} {at : Next} {a b : Block} → BlockRead t at a → BlockRead t at b → a ≡ b
+block-one (torn p x) (torn q y) = refl
+block-one (torn p x) (whole q n d y) = let e = next-one x y in let z : _≡_ {A = ℕ} 0 1 = cc in absurd (omega arith)
+block-one (whole p m c x) (torn q y) = let e = next-one x y in let z : _≡_ {A = ℕ} 0 1 = cc in absurd (omega arith)
+block-one (whole p m c x) (whole q n d y) =
+    let e = next-one x y in
+    let i : m ≡ n = cc in
+    let j : p ≡ q = value-one x y in
+    ap (blockOf p) i ∙ ap (λ (r : Plugin). blockOf r n) j
+
+-- Lists that have room stand in front of their words.
+module _ (p : Plugin) where
+  pub realms-front : length (p .realms .rows) ≤ maxRealmRows
+      → take (length (p .realms .rows) * 2) (rowsPut (replicate 32 0) 0 (p .realms .rows)) ≡ flat (p .realms .rows)
+  realms-front h =
+      let e : length (p .realms .rows) * 2 ≡ (0 + length (p .realms .rows)) * 2 = omega arith in
+      rw e (rows-front (replicate 32 0) 0 (p .realms .rows) (omega (arith, length-replicate {A = ℕ} 32 0)))
+
+  pub dependencies-front : length (p .dependencies) ≤ maxDependencies
+      → take (length (p .dependencies) * 2) (rowsPut (replicate 96 0) 0 (p .dependencies)) ≡ flat (p .dependencies)
+  dependencies-front h =
+      let e : length (p .dependencies) * 2 ≡ (0 + length (p .dependencies)) * 2 = omega arith in
+      rw e (rows-front (replicate 96 0) 0 (p .dependencies) (omega (arith, length-replicate {A = ℕ} 96 0)))
+
+  module _ (h : length (p .provisions) ≤ maxProvisionKeys) where
+    pub claims-front : take (length (p .provisions) * 2 + 2) (rowsPut (replicate 32 0) 0 (claims p)) ≡ flat (claims p)
+    claims-front =
+        let c : length (provided p) ≡ length (p .provisions) = length-map (p .provisions) _ in
+        let e : length (p .provisions) * 2 + 2 ≡ (0 + suc (length (provided p))) * 2 = omega arith in
+        rw e (rows-front (replicate 32 0) 0 (claims p) (omega (arith, length-replicate {A = ℕ} 32 0)))
+
+    pub values-front : take (length (p .provisions)) (allPut (replicate 15 0) 0 (valuesOf (p .provisions))) ≡ valuesOf (p .provisions)
+    values-front =
+        let c : length (valuesOf (p .provisions)) ≡ length (p .provisions) = length-map (p .provisions) _ in
+        let e : length (p .provisions) ≡ 0 + length (valuesOf (p .provisions)) = omega arith in
+        rw e (all-front (replicate 15 0) 0 (valuesOf (p .provisions)) (omega (arith, length-replicate {A = ℕ} 15 0)))
+
+    pub mask-whole : maskOf (take maxProvisionKeys (p .provisions)) ≡ maskOf (p .provisions)
+    mask-whole = ap maskOf (take-all maxProvisionKeys (p .provisions) h)
+
+-- The words of each list are as many as it has room for.
+pub record Rooms (b : Block) : Type 0 where
+  pub realms : length (b .«realm_words») ≡ 32
+  pub dependencies : length (b .«dependency_words») ≡ 96
+  pub claims : length (b .«claim_words») ≡ 32
+  pub values : length (b .values) ≡ 15
+
+pub block-rooms : {t : List ℕ} {at : Next} {b : Block} → BlockRead t at b → Rooms b
+block-rooms (torn p x) = record { realms = refl; dependencies = refl; claims = refl; values = refl }
+block-rooms (whole p n d x) = record {
+  realms = rows-length (replicate 32 0) 0 (p .realms .rows);
+  dependencies = rows-length (replicate 96 0) 0 (p .dependencies);
+  claims = rows-length (replicate 32 0) 0 (claims p);
+  values = all-length (replicate 15 0) 0 (valuesOf (p .provisions));
+}

@@ -1,0 +1,4 @@
+pub mod Rows
+pub mod Valued
+pub mod Lists
+pub mod Blocks

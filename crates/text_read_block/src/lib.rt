@@ -1,0 +1,257 @@
+// A plugin's block read from the registry's text: what its lines say, as words for the memory. Every function takes any text.
+ghost use mathlib.Core.Path.{_≡_};
+ghost use Rattle.text_read_block.specs.Rows.{rowPut, onePut};
+ghost use Prim.Native.Nat.{_<_, _^_};
+ghost use Rattle.text_read_block.specs.Blocks.{BlockRead, blank};
+ghost use Rattle.text_read_block.specs.Lists.{PortsRead, ProvisionsRead, maskWith};
+use rules::limits;
+use text_read::Next;
+
+// The most words of a plugin's realm rows, dependencies and claims, its anchor and provisions.
+pub const REALM_WORDS: usize = limits::REALM_ROWS * 2;
+
+pub const DEPENDENCY_WORDS: usize = limits::DEPENDENCIES * 2;
+
+pub const CLAIM_WORDS: usize = limits::PROVISION_KEYS * 2 + 2;
+
+// What a block says. Each list stands at the front of its words as far as it has room, and how long it is beside it; the anchor leads
+// the claims. A block that is torn says nothing: all is 0.
+pub struct Block {
+    pub next: Next,
+    pub id: u64,
+    pub tag: u64,
+    pub parent: u64,
+    pub phase: u64,
+    pub retired: u64,
+    pub generation: u64,
+    pub revision: u64,
+    pub payload: u64,
+    pub root: u64,
+    pub queued: u64,
+    pub realms: u64,
+    pub dependencies: u64,
+    pub provisions: u64,
+    pub valued: u64,
+    pub mask: u64,
+    pub realm_words: [u64; REALM_WORDS],
+    pub dependency_words: [u64; DEPENDENCY_WORDS],
+    pub claim_words: [u64; CLAIM_WORDS],
+    pub values: [u64; limits::PROVISION_KEYS],
+}
+
+// How many lines of a list were read, and the place behind them.
+struct Listed {
+    count: u64,
+    next: Next,
+}
+
+// The same of provisions: how many of them have a value, and which.
+struct Provided {
+    count: u64,
+    valued: u64,
+    mask: u64,
+    next: Next,
+}
+
+// A row's words, if there is room for it.
+fn put_row(into: &mut [u64], row: u64, key: u64, realm: u64)
+    ensures { λ _. ⌜ now (into .exit) ≡ rowPut (now (into .entry)) row key realm ⌝ }
+{
+    let i = row as usize;
+    if i < into.len() / 2 {
+        into[i * 2] = key;
+        into[i * 2 + 1] = realm;
+    }
+}
+
+fn put_one(into: &mut [u64], place: u64, n: u64)
+    ensures { λ _. ⌜ now (into .exit) ≡ onePut (now (into .entry)) place n ⌝ }
+{
+    let i = place as usize;
+    if i < into.len() {
+        into[i] = n;
+    }
+}
+
+// A list of ports: its lines go to the front of lent words, as far as they have room.
+fn ports(text: &[u8], at: Next, plural: &[u8], key: &[u8], into: &mut [u64]) -> Listed
+    ensures { λ r. ⌜ PortsRead (now (plural .entry)) (now (key .entry)) (now (text .entry)) at (now (into .entry)) r (now (into .exit)) ⌝ }
+{
+    let count = text_read::number_line(text, at, plural);
+    let lines = count.value;
+    let start = count.next;
+    let Next::At(first) = start else {
+        return Listed {
+            count: 0,
+            next: Next::Torn,
+        };
+    };
+    let mut behind = first;
+    let mut i: u64 = 0;
+    while i < lines {
+        let line = text_read::pair_line(text, Next::At(behind), key);
+        let end = line.next;
+        let Next::At(next) = end else {
+            return Listed {
+                count: i,
+                next: Next::Torn,
+            };
+        };
+        put_row(into, i, line.key, line.realm);
+        behind = next;
+        i += 1;
+    }
+    Listed {
+        count: lines,
+        next: Next::At(behind),
+    }
+}
+
+// The mask of values with one bit more; past the 15th provision there is none.
+fn masked(mask: u64, i: u64, tag: u64) -> u64
+    requires { ⌜ mask < 2 ^ 15 ⌝ }
+    ensures { λ r. ⌜ r ≡ maskWith mask i tag ⌝ }
+{
+    if i < (limits::PROVISION_KEYS as u64) {
+        if tag == 0 {
+            return mask;
+        }
+        return mask + (1 << i);
+    }
+    mask
+}
+
+// The provisions: their ports go behind the claims' first row, which is the anchor's, and their values to the front of lent words.
+fn provisions(text: &[u8], at: Next, claims: &mut [u64], values: &mut [u64]) -> Provided
+    ensures { λ r. ⌜ ProvisionsRead (now (text .entry)) at (now (claims .entry)) (now (values .entry)) r (now (claims .exit)) (now (values .exit)) ⌝ }
+{
+    let count = text_read::number_line(text, at, b"provs=");
+    let lines = count.value;
+    let start = count.next;
+    let Next::At(first) = start else {
+        return told(0, 0, 0, Next::Torn);
+    };
+    let mut behind = first;
+    let mut valued: u64 = 0;
+    let mut mask: u64 = 0;
+    let mut i: u64 = 0;
+    while i < lines {
+        let line = text_read::provision_line(text, Next::At(behind), b"prov=");
+        let end = line.next;
+        let Next::At(next) = end else {
+            return told(i, valued, mask, Next::Torn);
+        };
+        put_row(claims, i + 1, line.key, line.realm);
+        put_one(values, i, line.value);
+        mask = masked(mask, i, line.tag);
+        valued += line.tag;
+        behind = next;
+        i += 1;
+    }
+    told(lines, valued, mask, Next::At(behind))
+}
+
+fn told(count: u64, valued: u64, mask: u64, next: Next) -> Provided
+    ensures { λ r. ⌜ r ≡ record { count = count; valued = valued; mask = mask; next = next } ⌝ }
+{
+    Provided {
+        count,
+        valued,
+        mask,
+        next,
+    }
+}
+
+// What a torn block says.
+fn torn() -> Block
+    ensures { λ r. ⌜ r ≡ blank ⌝ }
+{
+    Block {
+        next: Next::Torn,
+        id: 0,
+        tag: 0,
+        parent: 0,
+        phase: 0,
+        retired: 0,
+        generation: 0,
+        revision: 0,
+        payload: 0,
+        root: 0,
+        queued: 0,
+        realms: 0,
+        dependencies: 0,
+        provisions: 0,
+        valued: 0,
+        mask: 0,
+        realm_words: [0u64; REALM_WORDS],
+        dependency_words: [0u64; DEPENDENCY_WORDS],
+        claim_words: [0u64; CLAIM_WORDS],
+        values: [0u64; limits::PROVISION_KEYS],
+    }
+}
+
+// The block at a place: each line is read behind the one before, and a torn one tears all that follow.
+pub fn read_block(text: &[u8], at: Next) -> Block
+    ensures { λ r. ⌜ BlockRead (now (text .entry)) at r ⌝ }
+{
+    let mut realm_words = [0u64; REALM_WORDS];
+    let mut dependency_words = [0u64; DEPENDENCY_WORDS];
+    let mut claim_words = [0u64; CLAIM_WORDS];
+    let mut values = [0u64; limits::PROVISION_KEYS];
+    let id = text_read::number_line(text, at, b"id=");
+    let behind_id = id.next;
+    let parent = text_read::option_line(text, behind_id, b"parent=");
+    let behind_parent = parent.next;
+    let phase = text_read::phase_line(text, behind_parent);
+    let behind_phase = phase.next;
+    let retired = text_read::mark_line(text, behind_phase);
+    let behind_retired = retired.next;
+    let generation = text_read::number_line(text, behind_retired, b"generation=");
+    let behind_generation = generation.next;
+    let revision = text_read::number_line(text, behind_generation, b"revision=");
+    let behind_revision = revision.next;
+    let payload = text_read::number_line(text, behind_revision, b"payload=");
+    let behind_payload = payload.next;
+    let root = text_read::root_lines(text, behind_payload);
+    let behind_root = root.next;
+    let anchor = text_read::pair_line(text, behind_root, b"anchor=");
+    let behind_anchor = anchor.next;
+    let realms = ports(text, behind_anchor, b"realms=", b"realm=", &mut realm_words);
+    let behind_realms = realms.next;
+    let dependencies = ports(
+        text,
+        behind_realms,
+        b"deps=",
+        b"dep=",
+        &mut dependency_words,
+    );
+    let behind_dependencies = dependencies.next;
+    put_row(&mut claim_words, 0, anchor.key, anchor.realm);
+    let provided = provisions(text, behind_dependencies, &mut claim_words, &mut values);
+    let end = provided.next;
+    let Next::At(next) = end else {
+        return torn();
+    };
+    Block {
+        next: Next::At(next),
+        id: id.value,
+        tag: parent.tag,
+        parent: parent.value,
+        phase: phase.value,
+        retired: retired.value,
+        generation: generation.value,
+        revision: revision.value,
+        payload: payload.value,
+        root: root.root,
+        queued: root.revision,
+        realms: realms.count,
+        dependencies: dependencies.count,
+        provisions: provided.count,
+        valued: provided.valued,
+        mask: provided.mask,
+        realm_words,
+        dependency_words,
+        claim_words,
+        values,
+    }
+}
