@@ -134,7 +134,7 @@ flag-code : (b : Bool) → not (eqb (boolByte b) 0) ≡ b
 flag-code true = refl
 flag-code false = refl
 
-decoded-encoded : (l : Life) → decoded (encoded l) ≡ l
+pub decoded-encoded : (l : Life) → decoded (encoded l) ≡ l
 unfolding decoded encoded
 decoded-encoded l = λ x. record {
   revision = l .revision;

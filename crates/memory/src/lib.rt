@@ -6,7 +6,7 @@ ghost use lib.ListN.{length};
 ghost use Rattle.rules.specs.Basics.{holds};
 ghost use Rattle.memory.specs.Layout.{word, occupancy, taken, idAt, memoryWords, places, domainWord, firstWord, nextWord};
 ghost use Rattle.memory.specs.Lives.{changedLife, movedLife, begunLife, finishedLife, rootedLife, markedLife};
-ghost use Rattle.memory.specs.View.{parentAt};
+ghost use Rattle.memory.specs.View.{parentOf, parentAt};
 ghost use Rattle.memory.specs.Writes.{parentId, namesAt, findAt};
 use layout::LOW_HALF;
 use layout::PLACE_WORDS;
@@ -192,16 +192,23 @@ pub fn id(m: &[u64; WORDS], place: usize) -> u64
     m[b + layout::ID]
 }
 
+// The parent that two words say: a tag of 0 is none.
+pub fn parent_from(tag: u64, id: u64) -> Parent
+    ensures { λ r. ⌜ parentId r ≡ parentOf tag id ⌝ }
+{
+    if tag == 0 {
+        Parent::None
+    } else {
+        Parent::Of(id)
+    }
+}
+
 // The parent's id, or none.
 pub fn parent_of(m: &[u64; WORDS], place: usize) -> Parent
     ensures { λ r. ⌜ parentId r ≡ parentAt (now (m .entry)) (place % places) ⌝ }
 {
     let b = place % PLACES * PLACE_WORDS;
-    if m[b + layout::TAG] == 0 {
-        Parent::None
-    } else {
-        Parent::Of(m[b + layout::PARENT])
-    }
+    parent_from(m[b + layout::TAG], m[b + layout::PARENT])
 }
 
 // Whether the plugin of this place has the id as parent.

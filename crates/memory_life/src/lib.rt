@@ -98,7 +98,8 @@ fn store_words(m: &mut [u64; WORDS], place: usize, w: Words)
     m[b + layout::ROOT_ARGUMENT] = w.root_argument;
 }
 
-fn decode(w: Words) -> Life
+// The life that words say.
+pub fn decode(w: Words) -> Life
     ensures { λ r. ⌜ r ≡ decoded w ⌝ }
 {
     let phase = phase_of(w.phase);

@@ -13,7 +13,7 @@ use Rattle.rules.specs.Holds.{port, Plugin, held, isIn, provides, provider, sam
 use Rattle.rules.specs.declared.Port.{Port}
 use Rattle.rules.specs.Ports.{pairs}
 use Rattle.rules_laws.specs.Laws.Members.{same-swap}
-use Rattle.memory.specs.Layout.{word, taken, part, startAt, depsAt, provsAt, anchorWord, provPart, memoryWords, places, rowsStart, rowWords}
+use Rattle.memory.specs.Layout.{word, part, startAt, depsAt, provsAt, anchorWord, provPart, memoryWords, places, rowsStart, rowWords}
 use Rattle.memory.specs.View.{anchorAt, pluginAt, placesFrom, view}
 use Rattle.memory.specs.Lookups.{placed, searchFrom, search-first}
 use Rattle.memory.specs.declared.Place.{Place}
@@ -59,15 +59,16 @@ module _ (m : List ℕ) (i : ℕ) (size : length m ≡ memoryWords) where
       ∙ exchange (λ (p q : Port). samePort q p) qs (pairs (offeredPart m i))
       ∙ any-same _ _ (λ q. any-same _ _ (λ p. same-swap p q) (pairs (offeredPart m i)) ∙ offered-is q) qs
 
-  pub offers-claimed : (qs : List Port) (w : ℕ) (b : Bool) → w ≡ keyBits 0 qs → b ≡ (taken m i && any (λ q. wanted w qs q) (pairs (offeredPart m i)))
-      → b ≡ (taken m i && any (λ q. provides (pluginAt m i) q) qs)
-  offers-claimed qs w b e f =
-      f ∙ ap (λ x. taken m i && any (λ q. wanted x qs q) (pairs (offeredPart m i))) e ∙ ap (λ x. taken m i && x) (met qs)
+  -- where a test of the place passed
+  pub offers-claimed : (t : Bool) (qs : List Port) (w : ℕ) (b : Bool) → w ≡ keyBits 0 qs → b ≡ (t && any (λ q. wanted w qs q) (pairs (offeredPart m i)))
+      → b ≡ (t && any (λ q. provides (pluginAt m i) q) qs)
+  offers-claimed t qs w b e f =
+      f ∙ ap (λ x. t && any (λ q. wanted x qs q) (pairs (offeredPart m i))) e ∙ ap (λ x. t && x) (met qs)
 
 -- a place's own number
-pub offers-one : (m : List ℕ) (i : ℕ) (ws : List ℕ) (f : Port → Bool) (b : Bool) → i < places → taken m i ≡ true → ws ≡ offeredPart m (i % places)
-    → b ≡ any f (pairs ws) → b ≡ (taken m i && any f (pairs (offeredPart m i)))
-offers-one m i ws f b h t e g =
+pub offers-one : (y : Bool) (m : List ℕ) (i : ℕ) (ws : List ℕ) (f : Port → Bool) (b : Bool) → i < places → y ≡ true → ws ≡ offeredPart m (i % places)
+    → b ≡ any f (pairs ws) → b ≡ (y && any f (pairs (offeredPart m i)))
+offers-one y m i ws f b h t e g =
     let n : i % places ≡ i = mod-eq-of-lt h in
     rw t (g ∙ ap (λ l. any f (pairs l)) (e ∙ ap (offeredPart m) n))
 

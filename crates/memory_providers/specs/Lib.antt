@@ -1,1 +1,2 @@
 pub mod Providers
+pub mod Words

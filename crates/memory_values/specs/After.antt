@@ -35,7 +35,7 @@ use Rattle.memory_values.specs.Values.{maskAt, maskBit, masked, portFrom
 use Rattle.memory_values.specs.Firsts.{port-least}
 
 -- Only the mask and the values of place i change.
-abbrev Others : List ℕ → List ℕ → ℕ → Type 0
+abbrev pub Others : List ℕ → List ℕ → ℕ → Type 0
 Others m m′ i = (n : ℕ) → (i * placeWords + maskWord ≤ n → n < i * placeWords + realmRowsWord → ⊥) → word m′ n ≡ word m n
 
 module _ (m m′ : List ℕ) (i : ℕ) (h : i < places) (l : length m ≡ memoryWords) (l′ : length m′ ≡ memoryWords) (same : Others m m′ i) where
@@ -55,7 +55,7 @@ module _ (m m′ : List ℕ) (i : ℕ) (h : i < places) (l : length m ≡ memory
   unfolding lifeAt
   life-stays k = ap decoded (words-stay k)
 
-  taken-stays : (k : ℕ) → taken m′ k ≡ taken m k
+  pub taken-stays : (k : ℕ) → taken m′ k ≡ taken m k
   unfolding taken
   taken-stays k = rw (same occupancyWord (λ a b. omega arith))
 
@@ -67,7 +67,7 @@ module _ (m m′ : List ℕ) (i : ℕ) (h : i < places) (l : length m ≡ memory
   row-stays n u = same n (λ a b. omega arith)
 
   -- another place
-  others-stay : (k : ℕ) → k < places → k ≢ i → pluginAt m′ k ≡ pluginAt m k
+  pub others-stay : (k : ℕ) → k < places → k ≢ i → pluginAt m′ k ≡ pluginAt m k
   unfolding pluginAt
   others-stay k u d =
       let apart : (n : ℕ) → idWord ≤ n → n < placeEnd → word m′ (k * placeWords + n) ≡ word m (k * placeWords + n) =
@@ -113,7 +113,7 @@ module _ (m m′ : List ℕ) (i : ℕ) (h : i < places) (l : length m ≡ memory
   anchor-realm : word m′ (anchorWord m′ i + 1) ≡ word m (anchorWord m i + 1)
   anchor-realm = rw (start-stays i, deps-stay) (row-stays (anchorWord m i + 1) (omega arith))
 
-  plugin-stays : pluginAt m′ i ≡ withProvisions (valued m′ i 0 (pairs (provPart m i))) (pluginAt m i)
+  pub plugin-stays : pluginAt m′ i ≡ withProvisions (valued m′ i 0 (pairs (provPart m i))) (pluginAt m i)
   unfolding pluginAt
   plugin-stays =
       rw (

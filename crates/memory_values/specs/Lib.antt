@@ -1,3 +1,4 @@
 pub mod Values
 pub mod Firsts
 pub mod After
+pub mod Given

@@ -1,12 +1,14 @@
 -- What is read of a plugin's values, and the words with one set.
 use Prim.Native.Nat.{ℕ, _+_, _*_, _^_}
-use mathlib.Core.List.{List, [], _∷_}
+use mathlib.Core.List.{List, [], _∷_, map}
 use lib.Dec.{eqb}
-use lib.ListN.{set}
-use Rattle.rules.specs.Basics.{pick, isNone}
+use lib.ListN.{set, take}
+use Rattle.rules.specs.Basics.{pick, isNone, isSome, orElse, yesNo}
 use Rattle.rules.specs.Holds.{Provision, samePort}
 use Rattle.rules.specs.declared.Port.{Port}
+use Rattle.rules.specs.Limits.{maxProvisionKeys}
 use Rattle.memory.specs.Layout.{word, placeWords, maskWord, valuesWord}
+use Rattle.memory.specs.Writes.{puts}
 use Rattle.memory_places.specs.Bits.{bit}
 use Rattle.ports.specs.declared.Found.{Found}
 use Rattle.ports.specs.declared.Found.the-variants.{At, None}
@@ -35,3 +37,15 @@ masked m i j = set m (i * placeWords + maskWord) (maskAt m i + 2 ^ j)
 -- a provision that has a value keeps it
 unfoldable pub withValue : List ℕ → ℕ → ℕ → ℕ → List ℕ
 withValue m i j v = pick (eqb (maskBit m i j) 1) m (set (masked m i j) (i * placeWords + valuesWord + j) v)
+
+-- all of a place's values at once: the mask, and the first 15 values
+unfoldable pub putValues : List ℕ → ℕ → ℕ → List ℕ → List ℕ
+putValues m i mask values = puts (set m (i * placeWords + maskWord) mask) (i * placeWords + valuesWord) 0 (take maxProvisionKeys values)
+
+-- The mask and the values of provisions: a bit is 1 exactly if its provision has a value, and 0 stands where there is none.
+abbrev pub maskOf : List Provision → ℕ
+maskOf [] = 0
+maskOf (v ∷ vs) = yesNo (isSome (v .value)) + 2 * maskOf vs
+
+abbrev pub valuesOf : List Provision → List ℕ
+valuesOf vs = map (λ (v : Provision). orElse (v .value) 0) vs

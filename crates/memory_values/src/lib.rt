@@ -10,7 +10,7 @@ ghost use Rattle.rules.specs.Limits.{maxProvisionKeys};
 ghost use Rattle.rules.specs.Answers.{optionOf};
 ghost use Rattle.memory.specs.View.{valueAt, pluginAt};
 ghost use Rattle.memory.specs.Layout.{placeWords, places, maskWord};
-ghost use Rattle.memory_values.specs.Values.{maskBit, portFrom, lackFrom, withValue};
+ghost use Rattle.memory_values.specs.Values.{maskBit, portFrom, lackFrom, withValue, putValues};
 use memory::WORDS;
 use memory::layout;
 use memory::layout::LOW_HALF;
@@ -101,4 +101,20 @@ pub fn drop_values(m: &mut [u64; WORDS], place: usize)
 {
     let b = place % PLACES * PLACE_WORDS;
     m[b + layout::MASK] = 0;
+}
+
+// A place's mask of values and the first 15 values.
+pub fn put_values(m: &mut [u64; WORDS], place: usize, mask: u64, values: &[u64])
+    ensures { λ _. ⌜ now (m .exit) ≡ putValues (now (m .entry)) (place % places) mask (now (values .entry)) ⌝ }
+{
+    let b = place % PLACES * PLACE_WORDS;
+    m[b + layout::MASK] = mask;
+    let mut k: usize = 0;
+    while k < values.len() {
+        if k == limits::PROVISION_KEYS {
+            return;
+        }
+        m[b + layout::VALUES + k] = values[k];
+        k += 1;
+    }
 }

@@ -24,7 +24,7 @@ returns c =
     let t = c .before .before in
     let a = t .before .before .before .args in
     let f : Port → Bool = λ q. wanted (a .bits) (pairs (a .claims .now)) q in
-    offers-one (a .m .now) (a .place) _ f _ (omega arith) (sym (t .before .is-taken .ensures) ∙ t .if1 .taken) (c .before .offered-words .ensures)
+    offers-one _ (a .m .now) (a .place) _ f _ (omega arith) (sym (t .before .is-taken .ensures) ∙ t .if1 .taken) (c .before .offered-words .ensures)
     (c .meets .ensures)
 
 returns-2 : tie.Need-returns-2

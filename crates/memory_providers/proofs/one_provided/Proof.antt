@@ -6,7 +6,7 @@ use borrow.Author.Needs.{needs}
 use Rattle.rules.specs.Basics.{isSome}
 use Rattle.rules.specs.Ports.{pairs}
 use Rattle.memory.specs.Lookups.{placed}
-use Rattle.memory.specs.Layout.{places}
+use Rattle.memory.specs.Layout.{taken, places}
 use Rattle.memory_providers.proofs.Laws.{search-here, search-next, search-end}
 use Rattle.memory_providers.proofs.Claims.{oneFrom, offers-claimed, provided-one}
 use Rattle.memory_providers.proofs.one_provided.Statement.{statement}
@@ -35,8 +35,8 @@ returns c =
     let at = c .before .before .before in
     let n = at .before .before in
     let a = n .before .before .args in
-    let o = offers-claimed (a .m .now) (at .loop .i) (n .known .ensures) (pairs (a .claims .now)) _ _ (at .before .key-bits .ensures)
-    (c .before .offers-one .ensures) in
+    let o = offers-claimed (a .m .now) (at .loop .i) (n .known .ensures) (taken (a .m .now) (at .loop .i)) (pairs (a .claims .now)) _ _
+    (at .before .key-bits .ensures) (c .before .offers-one .ensures) in
     let h = at .loop .inv .1 ∙ search-here _ _ _ (omega arith) (sym o ∙ c .if1 .taken) in
     sym (provided-one (a .m .now) (pairs (a .claims .now)) ∙ ap (λ x. isSome (placed (a .m .now) x)) h)
 
@@ -51,8 +51,8 @@ loop-again c =
     let at = c .before .before .before in
     let n = at .before .before in
     let a = n .before .before .args in
-    let o = offers-claimed (a .m .now) (at .loop .i) (n .known .ensures) (pairs (a .claims .now)) _ _ (at .before .key-bits .ensures)
-    (c .before .offers-one .ensures) in
+    let o = offers-claimed (a .m .now) (at .loop .i) (n .known .ensures) (taken (a .m .now) (at .loop .i)) (pairs (a .claims .now)) _ _
+    (at .before .key-bits .ensures) (c .before .offers-one .ensures) in
     (omega arith, at .loop .inv .1 ∙ search-next _ _ _ (omega arith) (sym o ∙ c .if1 .left))
 
 returns-2 : tie.Need-returns-2 Inv-loop μ-loop

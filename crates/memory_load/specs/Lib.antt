@@ -1,0 +1,7 @@
+pub mod Loading
+pub mod Next
+pub mod Places
+pub mod Step
+pub mod Opened
+pub mod SoFar
+pub mod Whole

@@ -1,0 +1,64 @@
+-- The words of a registry that a text says: a memory of zeros, its header, and the plugins one behind the other.
+use Prim.Native.Nat.{ℕ, _+_, _%_, _<_}
+use native.Mathlib.Nat.{mod-eq-of-lt}
+use mathlib.Core.Path.{_≡_, _∙_}
+use mathlib.Core.List.{List, [], _∷_}
+use lib.ListN.{length, replicate}
+use Rattle.rules.specs.Basics.{isSome, orElse, yesNo}
+use Rattle.rules.specs.Conditions.{claims}
+use Rattle.rules.specs.Holds.{Plugin, Registry, plugins, rowsOf}
+use Rattle.rules.specs.Ports.{flat}
+use Rattle.memory.specs.Known.{lifeOf}
+use Rattle.memory.specs.Layout.{memoryWords, places, domainWord}
+use Rattle.memory.specs.Writes.{puts, putLife}
+use Rattle.memory.specs.declared.Life.{Life}
+use Rattle.memory_entry.specs.Entries.{filledPlace}
+use Rattle.memory_entry.specs.declared.Entry.{Entry}
+use Rattle.memory_values.specs.Values.{putValues, maskOf, valuesOf}
+
+-- A plugin written to a place: as a new one, then its life and its values.
+unfoldable pub loadedPlace : List ℕ → ℕ → Entry → Life → (realms dependencies claims : List ℕ) → (mask : ℕ) (values : List ℕ) → List ℕ
+loadedPlace m i e life realms dependencies claims mask values = putValues (putLife (filledPlace m i e dependencies claims realms) i life) i mask values
+
+-- what is written of a plugin of the rules beside its life, its lists and its values
+abbrev pub entryFor : Plugin → (start next : ℕ) → Entry
+entryFor p start next = record {
+  id = p .id;
+  tag = yesNo (isSome (p .parent));
+  parent = orElse (p .parent) 0;
+  payload = p .payload;
+  start = start;
+  dependencies = length (p .dependencies);
+  provisions = length (p .provisions);
+  realms = length (p .realms .rows);
+  next = next;
+}
+
+abbrev pub loadedPlugin : List ℕ → (place start next : ℕ) → Plugin → List ℕ
+loadedPlugin m i start next p =
+    loadedPlace m i (entryFor p start next) (lifeOf p) (flat (p .realms .rows)) (flat (p .dependencies)) (flat (claims p)) (maskOf (p .provisions))
+    (valuesOf (p .provisions))
+
+-- plugins from a place and a row on
+unfoldable pub loadedInto : List ℕ → (place start next : ℕ) → List Plugin → List ℕ
+loadedInto m i start next [] = m
+loadedInto m i start next (p ∷ ps) = loadedInto (loadedPlugin m i start next p) (i + 1) (start + rowsOf p) next ps
+
+-- the header of a memory with no plugin yet
+abbrev pub openedWith : List ℕ → (domain first next : ℕ) → List ℕ
+openedWith m domain first next = puts m domainWord 0 (domain ∷ first ∷ next ∷ 0 ∷ [])
+
+-- shut, so that no proof writes out as many zeros
+unfoldable pub zeros : List ℕ
+zeros = replicate memoryWords 0
+
+unfoldable pub wordsOf : Registry → List ℕ
+wordsOf r = loadedInto (openedWith zeros (r .domain) (r .first) (r .next)) 0 0 (r .next) (plugins r)
+
+-- A reader's numbers and lists that are a plugin's: to write them is to write the plugin.
+pub loaded-by : (m : List ℕ) (i start next : ℕ) (p : Plugin) {m′ : List ℕ} {e : Entry} {life : Life} {realms dependencies claimed : List ℕ} {mask : ℕ}
+    {values : List ℕ} → i < places → e ≡ entryFor p start next → life ≡ lifeOf p → realms ≡ flat (p .realms .rows)
+    → dependencies ≡ flat (p .dependencies) → claimed ≡ flat (claims p) → mask ≡ maskOf (p .provisions) → values ≡ valuesOf (p .provisions)
+    → m′ ≡ loadedPlace m (i % places) e life realms dependencies claimed mask values → m′ ≡ loadedPlugin m i start next p
+loaded-by m i start next p h entry life realms dependencies claimed mask values words =
+    words ∙ rw (mod-eq-of-lt h, entry, life, realms, dependencies, claimed, mask, values)

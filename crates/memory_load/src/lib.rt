@@ -1,0 +1,46 @@
+// Words that are read from a text: an opened memory, a plugin with its life and values at its place, and the whole copied.
+ghost use mathlib.Core.Path.{_≡_};
+ghost use Prim.Native.Nat.{_%_};
+ghost use Rattle.memory.specs.Layout.{places};
+ghost use Rattle.memory_load.specs.Loading.{loadedPlace, openedWith};
+use memory::Life;
+use memory::WORDS;
+use memory::layout;
+use memory_entry::Entry;
+
+// The header of a memory with no plugin yet.
+pub fn open_words(m: &mut [u64; WORDS], domain: u64, first: u64, next: u64)
+    ensures { λ _. ⌜ now (m .exit) ≡ openedWith (now (m .entry)) domain first next ⌝ }
+{
+    m[layout::DOMAIN] = domain;
+    m[layout::FIRST] = first;
+    m[layout::NEXT] = next;
+    m[layout::OCCUPANCY] = 0;
+}
+
+// A plugin is written to a place, which is taken then: as a new one, and then its life and its values.
+pub fn load_place(
+    m: &mut [u64; WORDS],
+    place: usize,
+    e: Entry,
+    life: Life,
+    realms: &[u64],
+    dependencies: &[u64],
+    claims: &[u64],
+    mask: u64,
+    values: &[u64],
+)
+    ensures { λ _. ⌜ now (m .exit) ≡ loadedPlace (now (m .entry)) (place % places) e life
+        (now (realms .entry)) (now (dependencies .entry)) (now (claims .entry)) mask (now (values .entry)) ⌝ }
+{
+    memory_entry::fill_place(m, place, e, realms, dependencies, claims);
+    memory_life::store(m, place, life);
+    memory_values::put_values(m, place, mask, values);
+}
+
+// All words of another memory.
+pub fn copy_words(m: &mut [u64; WORDS], from: &[u64; WORDS])
+    ensures { λ _. ⌜ now (m .exit) ≡ now (from .entry) ⌝ }
+{
+    *m = *from;
+}

@@ -1,0 +1,71 @@
+-- Until the key is found, it is among all keys exactly if it is among those from i on.
+use Prim.Native.Nat.{_-_}
+use native.Mathlib.Omega.{arith}
+use native.Mathlib.Numerals.{add-one}
+use mathlib.Core.Path.{_≡_, sym, ap, _∙_}
+use lib.Dec.{eqb}
+use lib.ListN.{length, drop, drop-of-length-le}
+use lib.Seq.{drop-cons}
+use borrow.Author.Needs.{needs}
+use borrow.Author.Tests.{eq-eqb, ne-eqb}
+use Rattle.rules.specs.Basics.{any}
+use Rattle.rules_laws.specs.Laws.Members.{any-hit, any-miss}
+use Rattle.ports_given.proofs.has_key.Statement.{statement}
+use Rattle.ports_given.proofs.has_key.Tie as tie
+
+abbrev Inv-loop : tie.InvT-loop
+Inv-loop keys key i₀ i = any (eqb key) keys ≡ any (eqb key) (drop i keys)
+
+abbrev μ-loop : tie.MeasureT-loop
+μ-loop keys key i₀ i = length keys - i
+
+loop-holds : tie.Need-loop-holds Inv-loop μ-loop
+loop-holds c = search needs
+
+mul-if1 : tie.Need-mul-if1 Inv-loop μ-loop
+mul-if1 c = search needs
+
+shared-slice-read-if1 : tie.Need-shared-slice-read-if1 Inv-loop μ-loop
+shared-slice-read-if1 c = search needs
+
+returns : tie.Need-returns Inv-loop μ-loop
+returns c =
+    let at = c .before .before .before in
+    let a = at .before .args in
+    let s = drop-cons (a .keys .now) (at .loop .i) 0 (omega arith) in
+    sym (at .loop .inv ∙ any-hit (eqb (a .key)) s (eq-eqb _ _ (sym (c .if1 .taken))))
+
+add-i : tie.Need-add-i Inv-loop μ-loop
+add-i c = search needs
+
+loop-less : tie.Need-loop-less Inv-loop μ-loop
+loop-less c = search needs
+
+loop-again : tie.Need-loop-again Inv-loop μ-loop
+loop-again c =
+    let at = c .before .before .before in
+    let a = at .before .args in
+    let i = at .loop .i in
+    let s = drop-cons (a .keys .now) i 0 (omega arith) in
+    at .loop .inv ∙ any-miss (eqb (a .key)) s (ne-eqb _ _ (λ e. c .if1 .left (sym e))) ∙ ap (λ n. any (eqb (a .key)) (drop n (a .keys .now))) (sym (add-one i))
+
+returns-2 : tie.Need-returns-2 Inv-loop μ-loop
+returns-2 c =
+    let at = c .before in
+    let a = at .before .args in
+    sym (at .loop .inv ∙ ap (any (eqb (a .key))) (drop-of-length-le (a .keys .now) {i = at .loop .i} (omega arith)))
+
+pub has-key-spec : {M : Type 1} → statement M
+has-key-spec =
+    tie.close
+    (tie.spec
+    Inv-loop
+    μ-loop
+    loop-holds
+    mul-if1
+    shared-slice-read-if1
+    returns
+    add-i
+    loop-less
+    loop-again
+    returns-2)

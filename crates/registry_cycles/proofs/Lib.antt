@@ -1,0 +1,5 @@
+mod Laws
+mod Words
+mod Rows
+mod Held
+mod Rounds
