@@ -1,0 +1,118 @@
+-- A block's words, and the plugin that they say: its life with no root Queued, and its ports.
+use Prim.Native.Nat.{ℕ, _≤_}
+use native.Mathlib.Omega.{arith}
+use mathlib.Core.Path.{_≡_, refl, sym, ap, _∙_}
+use mathlib.Core.Bool.{Bool, true, false}
+use mathlib.Core.List.{List, [], _∷_}
+use mathlib.Core.Option.{Option, none, some}
+use lib.Dec.{eqb}
+use lib.ListN.{length}
+use mir.Val.{boolByte}
+use Rattle.rules.specs.Basics.{pick, isSome, orElse, yesNo}
+use Rattle.rules.specs.Limits.{maxRealmRows, maxDependencies}
+use Rattle.rules.specs.declared.Port.{Port}
+use Rattle.rules.specs.declared.Root.{Root}
+use Rattle.rules.specs.declared.Root.the-variants.{Unissued, Queued, Spent}
+use Rattle.rules.specs.Holds.{Realms, Plugin, Registry, provided, defaultRealm}
+use Rattle.rules.specs.Ports.{pairs, oddLength, flat, realmsOf}
+use Rattle.rules.specs.Queries.{phaseNumber}
+use Rattle.rules.specs.Conditions.{claims}
+use Rattle.rules.specs.Load.{unqueuedRoot, unqueued}
+use Rattle.rules_laws.specs.Laws.Pairs.{pairs-flat}
+use Rattle.rules_load.specs.Joining.{portsFit, portsJoin}
+use Rattle.memory.specs.View.{parentOf, decoded}
+use Rattle.memory.specs.Writes.{rootTag, rootRevision, rootArgument, encoded}
+use Rattle.memory.specs.Known.{lifeOf}
+use Rattle.memory.specs.Frames.{decoded-encoded}
+use Rattle.memory.specs.declared.Life.{Life}
+use Rattle.memory.specs.declared.Words.{Words}
+use Rattle.memory_entry.specs.declared.Entry.{Entry}
+use Rattle.text_read_block.specs.declared.Block.{Block}
+use Rattle.registry_joins.specs.Fits.{lentFit, lent-fit}
+
+-- the root's number with none Queued
+unfoldable pub unqueuedTag : ℕ → ℕ
+unqueuedTag n = pick (eqb n 2) 2 0
+
+-- what is written of it beside its life and lists
+abbrev pub entryOf : Block → (rows next : ℕ) → Entry
+entryOf b rows next = record {
+  id = b .id;
+  tag = b .tag;
+  parent = b .parent;
+  payload = b .payload;
+  start = rows;
+  dependencies = b .dependencies;
+  provisions = b .provisions;
+  realms = b .realms;
+  next = next;
+}
+
+-- the words of a life as it is loaded
+abbrev pub loadedLife : (revision payload phase retired generation root : ℕ) → Words
+loadedLife revision payload phase retired generation root = record {
+  revision = revision;
+  payload = payload;
+  phase = phase;
+  retired = retired;
+  generation = generation;
+  root = unqueuedTag root;
+  «root_revision» = 0;
+  «root_argument» = 0;
+}
+
+tag-unqueued : (o : Root) → unqueuedTag (rootTag o) ≡ rootTag (unqueuedRoot o)
+unfolding unqueuedTag
+tag-unqueued Unissued = refl
+tag-unqueued (Queued v a) = refl
+tag-unqueued Spent = refl
+
+none-revision : (o : Root) → 0 ≡ rootRevision (unqueuedRoot o)
+none-revision Unissued = refl
+none-revision (Queued v a) = refl
+none-revision Spent = refl
+
+none-argument : (o : Root) → 0 ≡ rootArgument (unqueuedRoot o)
+none-argument Unissued = refl
+none-argument (Queued v a) = refl
+none-argument Spent = refl
+
+as-byte : (b : Bool) → yesNo b ≡ boolByte b
+as-byte true = refl
+as-byte false = refl
+
+pub life-loaded : (p : Plugin)
+    → decoded (loadedLife (p .revision) (p .payload) (phaseNumber (p .phase)) (yesNo (p .retired)) (p .generation) (rootTag (p .root))) ≡ lifeOf (unqueued p)
+unfolding encoded
+life-loaded p =
+    ap decoded (λ x. record {
+      revision = p .revision;
+      payload = p .payload;
+      phase = phaseNumber (p .phase);
+      retired = as-byte (p .retired) x;
+      generation = p .generation;
+      root = tag-unqueued (p .root) x;
+      «root_revision» = none-revision (p .root) x;
+      «root_argument» = none-argument (p .root) x;
+    })
+    ∙ decoded-encoded (lifeOf (unqueued p))
+
+parent-back : (o : Option ℕ) → parentOf (yesNo (isSome o)) (orElse o 0) ≡ o
+parent-back none = refl
+parent-back (some x) = refl
+
+flat-even : (l : List Port) → oddLength (flat l) ≡ false
+flat-even [] = refl
+flat-even (p ∷ l) = flat-even l
+
+realms-back : (z : Realms) → z .other ≡ defaultRealm → realmsOf (flat (z .rows)) ≡ z
+realms-back z e = λ x. record { rows = pairs-flat (z .rows) x; other = sym e x }
+
+pub ports-loaded : (r : Registry) (p : Plugin) → p .realms .other ≡ defaultRealm → length (p .realms .rows) ≤ maxRealmRows
+    → length (p .dependencies) ≤ maxDependencies
+    → lentFit r (parentOf (yesNo (isSome (p .parent))) (orElse (p .parent) 0)) (p .anchor) (flat (p .realms .rows)) (flat (claims p)) (flat (p .dependencies))
+    ≡ portsJoin r p
+ports-loaded r p default realms dependencies =
+    lent-fit r (parentOf (yesNo (isSome (p .parent))) (orElse (p .parent) 0)) (p .anchor) (flat (p .realms .rows)) (flat (claims p)) (flat (p .dependencies))
+    (flat-even (p .realms .rows)) (rw (pairs-flat (p .realms .rows)) realms) (rw (pairs-flat (p .dependencies)) dependencies)
+    ∙ rw (parent-back (p .parent), realms-back (p .realms) default, pairs-flat (claims p), pairs-flat (provided p), pairs-flat (p .dependencies))
