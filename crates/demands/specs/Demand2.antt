@@ -1,5 +1,5 @@
--- Demand 2: on every memory that an opening and operations made, an operation leaves the rules' registry; and what it answers is
--- the rules' answer, which its function promises on any words.
+-- Demand 2: on every memory that an opening or a load, and operations, made, an operation leaves the rules' registry; and what it
+-- answers is the rules' answer, which its function promises on any words.
 use Prim.Native.Nat.{ℕ}
 use mathlib.Core.Path.{_≡_, refl, sym, subst}
 use mathlib.Core.List.{List}

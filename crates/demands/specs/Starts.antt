@@ -1,21 +1,28 @@
--- Where a memory begins: with an opening. All that follows is shown from any start, so another beginning needs a law of its own
+-- Where a memory begins: with an opening or a load. All that follows is shown from any start, so a beginning needs a law of its own
 -- that it is one, and nothing else.
 use Prim.Native.Nat.{ℕ, _≤_}
-use mathlib.Core.Path.{_≡_, sym, subst}
+use mathlib.Core.Path.{_≡_, sym, subst, subst⁻¹}
 use mathlib.Core.List.{List, [], _∷_}
 use mathlib.Core.Option.{some}
 use mathlib.Core.Logic.{_≢_}
 use lib.ListN.{length}
 use Rattle.rules.specs.Basics.{last}
-use Rattle.rules.specs.Holds.{Plugin, lookup}
+use Rattle.rules.specs.Holds.{Plugin, Registry, lookup}
+use Rattle.rules.specs.Load.{movedTo, opens, load}
 use Rattle.rules.specs.declared.Root.the-variants.{Queued}
 use Rattle.rules_laws.specs.Demand3 as three
 use Rattle.rules_laws.specs.Built.{Built}
 use Rattle.rules_laws.specs.Kept.{opened-built, built-start}
+use Rattle.rules_load.specs.Formed.{text-formed}
+use Rattle.rules_load.specs.Meets.{loadable-meets}
+use Rattle.rules_load.specs.Laws.Unqueued.{moved-loadable, moved-formed}
+use Rattle.rules_load.specs.Loaded.{load-opens, opens-built, opens-start}
 use Rattle.memory.specs.View.{view}
 use Rattle.memory.specs.Writes.{puts}
 use Rattle.memory.specs.Layout.{memoryWords}
 use Rattle.memory_rows.specs.Dense.{Dense}
+use Rattle.memory_load.specs.Loading.{wordsOf}
+use Rattle.memory_load.specs.Whole.{words-dense, words-view}
 use Rattle.registry_remove.specs.Refines.{open-refines, open-dense}
 
 -- Dense words that say a built registry.
@@ -36,9 +43,24 @@ start-view m s = built-start (view m) (s .sound .built) (s .unqueued)
 abbrev pub blank : List ℕ → ℕ → ℕ → List ℕ
 blank m domain first = puts m 0 0 (domain ∷ first ∷ first ∷ 0 ∷ [])
 
--- What a memory does begin with: an opening of any words.
+-- The words of a loaded registry are dense, and say it.
+module _ (domain : ℕ) (text : List ℕ) (r : Registry) (e : load domain text ≡ opens r) where
+  load-words : Dense (wordsOf r) × (view (wordsOf r) ≡ r)
+  load-words =
+      let o = load-opens domain text r e in
+      let s = movedTo domain (o .0) in
+      let c = loadable-meets s (moved-loadable domain (o .0) (o .2)) in
+      let f = moved-formed domain (o .0) (text-formed text (o .0) (o .1)) in
+      subst⁻¹ (λ (q : Registry). Dense (wordsOf q) × (view (wordsOf q) ≡ q)) (o .3)
+      (words-dense s (c .rise) (c .limits) (c .short) (f .default), words-view s (c .rise) (c .limits) (c .short) (f .default))
+
+  pub load-view : view (wordsOf r) ≡ r
+  load-view = load-words .1
+
+-- What a memory does begin with: an opening of any words, or an accepted load of any text.
 pub data Begun : List ℕ → Type 0 where
   opened : (m : List ℕ) → length m ≡ memoryWords → (domain first : ℕ) → first ≤ last → Begun (blank m domain first)
+  loaded : (domain : ℕ) (text : List ℕ) (r : Registry) → load domain text ≡ opens r → Begun (wordsOf r)
 
 pub begun-start : (m : List ℕ) → Begun m → Start m
 begun-start _ (opened m size domain first h) =
@@ -46,4 +68,10 @@ begun-start _ (opened m size domain first h) =
     record {
       sound = record { dense = open-dense m domain first size; built = subst Built e (opened-built domain first h) };
       unqueued = subst three.Start e (three.fresh-start domain first) .unqueued;
+    }
+begun-start _ (loaded domain text r h) =
+    let e = sym (load-view domain text r h) in
+    record {
+      sound = record { dense = load-words domain text r h .0; built = subst Built e (opens-built domain text r h) };
+      unqueued = subst three.Start e (opens-start domain text r h) .unqueued;
     }
