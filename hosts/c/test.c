@@ -561,6 +561,34 @@ static void example(void) {
     writing();
 }
 
+// A text is read back from an odd place, and nothing but the registry changes: the text of what was loaded is the old one but for the
+// domain and a Queued root.
+static void loading(void) {
+    static const char home[] =
+        "domain=8\nfirst=0\nnext=1\nplugins=1\nid=0\nparent=none\nphase=1\nretired=0\ngeneration=1\nrevision=0\npayload=40\n"
+        "root=0\nqueued=none\nanchor=9,0\nrealms=1\nrealm=2,5\ndeps=0\nprovs=1\nprov=2,5,none\n";
+    const uint64_t realms[] = {2, 5}, provisions[] = {2};
+    OPENED(vaskelbi_open(m, 7, 0));
+    TOLD(vaskelbi_register(m, 9, 0, 40, realms, 2, none, 0, provisions, 1, out), IS(0));
+    TOLD(vaskelbi_begin(m, 0, out), IS(7, 0, 1, 1));
+    TOLD(vaskelbi_admit(m, 7, 0, 1, 1, 24, out), IS(7, 0, 1, 0, 24));
+    static uint8_t carried[512];
+    expect(vaskelbi_write_text(m, carried + 3, sizeof carried - 3, out) == 0, "refused", "carrying");
+    const size_t size = (size_t)out->number[0];
+    const uint8_t *const from = carried + 3;
+    REFUSED(vaskelbi_load(m, 7, from, size), 25);
+    REFUSED(vaskelbi_load(m, 8, from, size - 1), 24);
+    REFUSED(vaskelbi_load(m, 8, from, size + 1), 24);
+    REFUSED(vaskelbi_load(m, 8, from + 1, size - 1), 24);
+    REFUSED(vaskelbi_load(m, 8, from, 0), 24);
+    DONE(vaskelbi_load(m, 8, from, size));
+    WRITTEN(vaskelbi_write_text(m, text, TEXT, out), 0, home);
+    REFUSED(vaskelbi_call(m, 7, 0, 1, 0, 24, out), 3);
+    REFUSED(vaskelbi_call(m, 8, 0, 1, 0, 24, out), 13);
+    TOLD(vaskelbi_admit(m, 8, 0, 1, 1, 25, out), IS(8, 0, 1, 0, 25));
+    writing();
+}
+
 // Assigned's identity is 0 where there is none, and so is a generation.
 static void slots(void) {
     MADE(vaskelbi_slot_pending(slot, 7, 40, 9), 7, 40, 1, 9, VASKELBI_PENDING, {0, 0, 0});
@@ -606,6 +634,7 @@ int main(void) {
     long_lists();
     exhausted();
     example();
+    loading();
     slots();
     printf("%u calls answered as they must, and wrote nowhere else\n", calls);
     return 0;

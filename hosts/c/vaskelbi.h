@@ -61,7 +61,9 @@ enum vaskelbi_refusal {
     VASKELBI_UNDECLARED = 20,          /* port not in the list concerned */
     VASKELBI_DUPLICATE = 21,           /* value already offered */
     VASKELBI_MISSING = 22,             /* value absent */
-    VASKELBI_SHORT_BUFFER = 23         /* lent room too small */
+    VASKELBI_SHORT_BUFFER = 23,        /* lent room too small */
+    VASKELBI_BAD_TEXT = 24,            /* no text of the form, or one that breaks a condition */
+    VASKELBI_SAME_DOMAIN = 25          /* the domain that the text has */
 };
 
 enum { VASKELBI_IDLE = 0, VASKELBI_LOADING = 1, VASKELBI_ACTIVE = 2, VASKELBI_UNLOADING = 3 };   /* phases */
@@ -237,6 +239,11 @@ uint64_t vaskelbi_list_realms(const vaskelbi_registry *registry, uint64_t id, si
  * id. The text fills the front of the lent bytes, and every byte behind it stays; no byte 0 ends it. Refuses 23 if there are fewer
  * bytes than the text has, and then writes none. Answers the text's length. */
 uint64_t vaskelbi_write_text(const vaskelbi_registry *registry, uint8_t *text, size_t text_len, vaskelbi_answer *out);
+
+/* Reads a text back: the registry that it says, under a domain of the caller's, takes the place of what the words were. Queued roots
+ * are Unissued then, and everything else is as the text says; a text may be any bytes. Refuses 24 if it is no text of a registry, 25
+ * if the domain is the text's. A load counts as an opening, and works on 40 KB of stack. */
+uint64_t vaskelbi_load(vaskelbi_registry *registry, uint64_t domain, const uint8_t *text, size_t text_len);
 
 /* What a plugin holds. Each refuses 1. */
 

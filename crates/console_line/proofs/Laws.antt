@@ -21,7 +21,7 @@ use Rattle.console_names.specs.declared.Values.{Values}
 use Rattle.console_names.specs.declared.Values.the-variants.{Numbers}
 use Rattle.console_names.specs.declared.Held.{Held}
 use Rattle.console_names.specs.declared.Kind.{Kind}
-use Rattle.console_names.specs.declared.Kind.the-variants.{Show, Buffer, Text}
+use Rattle.console_names.specs.declared.Kind.the-variants.{Show, Buffer, Text, Load}
 use Rattle.console_names.specs.declared.Row.{Row}
 use Rattle.console_names.specs.Names.{placeAmong}
 use Rattle.console_names.specs.Table.{Asked, takes, first, second, names, rowAt}
@@ -66,6 +66,9 @@ module _ (p : Page) (m : List ℕ) where
       pub text-done : (size : ℕ) → size ≡ first l → kind ≡ Text → (text : List ℕ) (at : ℕ) → upTo text at ≡ textOn p m (lentBytes size)
           → Does (numbersLine p m buffer place kind l) text at m buffer
       text-done size es k text at e = rw (k, ← es) (e, refl, refl)
+
+      pub awaiting-done : kind ≡ Load → (text : List ℕ) (at : ℕ) → upTo text at ≡ p → Does (numbersLine p m buffer place kind l) text at m buffer
+      awaiting-done k text at e = rw k (e, refl, refl)
 
     -- Numbers stand behind the name: not as many as are due, or as many.
     module _ (place : ℕ) (count : Count) (kind : Kind) (u : Option (List ℕ)) (l : List ℕ) (some-l : u ≡ some l) (n : ℕ) (long : n ≡ length l) where

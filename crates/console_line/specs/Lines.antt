@@ -19,7 +19,7 @@ use Rattle.console_names.specs.declared.Values.{Values}
 use Rattle.console_names.specs.declared.Values.the-variants.{Numbers}
 use Rattle.console_names.specs.declared.Held.{Held}
 use Rattle.console_names.specs.declared.Kind.{Kind}
-use Rattle.console_names.specs.declared.Kind.the-variants.{Show, Buffer, Lists, Registry, Text}
+use Rattle.console_names.specs.declared.Kind.the-variants.{Show, Buffer, Lists, Registry, Text, Load}
 use Rattle.console_names.specs.Table.{Asked, Told, takes, first, second, askedAt}
 use Rattle.console_definition.specs.Definitions.{definitionIn}
 use Rattle.console_show.specs.Spoken.{spokenOn}
@@ -72,7 +72,8 @@ textOn p m lent =
 abbrev pub lentBytes : ℕ → List ℕ
 lentBytes size = take size (replicate textRoom 0)
 
--- Numbers, as many as are due: show ID, buffer FROM TO, a list, what the registry is asked for, or write SIZE.
+-- Numbers, as many as are due: show ID, buffer FROM TO, a list, what the registry is asked for, or write SIZE. Of load DOMAIN
+-- LENGTH nothing is said before its text has come.
 abbrev pub numbersLine : Page → List ℕ → List ℕ → ℕ → Kind → List ℕ → Done
 numbersLine p m buffer place Show l = record { page = lineEnd (shownOn p m (first l)); memory = m; buffer = buffer }
 numbersLine p m buffer place Buffer l = record
@@ -80,6 +81,7 @@ numbersLine p m buffer place Buffer l = record
 numbersLine p m buffer place (Lists held) l = listed p m buffer held l
 numbersLine p m buffer place (Registry v) l = record { page = askedLine p m v (askedAt place l); memory = leftBy m (askedAt place l); buffer = buffer }
 numbersLine p m buffer place Text l = record { page = textOn p m (lentBytes (first l)); memory = m; buffer = buffer }
+numbersLine p m buffer place Load l = record { page = p; memory = m; buffer = buffer }
 
 abbrev pub badLine : Page → List ℕ → List ℕ → Done
 badLine p m buffer = record { page = bad p; memory = m; buffer = buffer }

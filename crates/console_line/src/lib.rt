@@ -107,7 +107,7 @@ fn text_line(m: &[u64; WORDS], size: u64, text: &mut [u8; ROOM]) -> usize
     text_in(m, &mut room[..most], text)
 }
 
-// Numbers, as many as are due.
+// Numbers, as many as are due. Of a load nothing is said before its text has come.
 fn numbers_line(
     m: &mut [u64; WORDS],
     buffer: &mut [u64; BUFFER_ROOM],
@@ -127,6 +127,7 @@ fn numbers_line(
         Kind::Lists(held) => list_line(m, buffer, held, l, text),
         Kind::Registry(values) => asked_line(m, place, values, l, text),
         Kind::Text => text_line(m, a, text),
+        Kind::Load => 0,
     }
 }
 

@@ -4,3 +4,4 @@ pub mod Told
 pub mod Said
 pub mod Written
 pub mod Bytes
+pub mod Loads

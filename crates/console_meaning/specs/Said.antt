@@ -15,7 +15,7 @@ use Rattle.console_names.specs.declared.Count.{Count}
 use Rattle.console_names.specs.declared.Values.{Values}
 use Rattle.console_names.specs.declared.Values.the-variants.{None, Numbers}
 use Rattle.console_names.specs.declared.Held.{Held}
-use Rattle.console_names.specs.declared.Kind.the-variants.{Show, Buffer, Lists, Registry, Text}
+use Rattle.console_names.specs.declared.Kind.the-variants.{Show, Buffer, Lists, Registry, Text, Load}
 use Rattle.console_names.specs.declared.Row.{Row}
 use Rattle.console_names.specs.declared.Row.the-variants.{Slot, Register, Takes, Unknown}
 use Rattle.console_names.specs.Table.{Asked, Bad, Open, Stated, Told, Operation, first, second, operations, unknown, operationAt, rowAt, askedAt}
@@ -70,6 +70,7 @@ valuesBy (Takes count Buffer) = Numbers
 valuesBy (Takes count (Lists held)) = Numbers
 valuesBy (Takes count (Registry v)) = v
 valuesBy (Takes count Text) = Numbers
+valuesBy (Takes count Load) = None
 valuesBy Unknown = None
 
 -- What is to be shown of a row, beside that of the others: nothing where nothing is asked for.

@@ -8,7 +8,7 @@ use Rattle.console_names.specs.declared.Count.the-variants.{Exactly, AtL
 use Rattle.console_names.specs.declared.Values.the-variants.{None, Numbers, NumbersOrNone, YesOrNo}
 use Rattle.console_names.specs.declared.Held.the-variants.{Deps, Provs, Realms}
 use Rattle.console_names.specs.declared.Kind.{Kind}
-use Rattle.console_names.specs.declared.Kind.the-variants.{Show, Buffer, Lists, Registry, Text}
+use Rattle.console_names.specs.declared.Kind.the-variants.{Show, Buffer, Lists, Registry, Text, Load}
 use Rattle.console_names.specs.declared.Row.{Row}
 use Rattle.console_names.specs.declared.Row.the-variants.{Slot, Register, Takes}
 
@@ -24,6 +24,7 @@ kinds =
     ∷ Registry NumbersOrNone
     ∷ Registry YesOrNo
     ∷ Text
+    ∷ Load
     ∷ []
 
 -- What is done with the numbers: the kind at a place among all.
@@ -33,6 +34,6 @@ kindOf kind = getD kinds kind Show
 -- The row of three numbers: how many are due, 1 if more may stand there, and what is done with them.
 unfoldable pub rowOf : ℕ → ℕ → ℕ → Row
 rowOf due more kind =
-    pick (eqb kind 10) Slot
-    (pick (eqb kind 11) Register
+    pick (eqb kind 11) Slot
+    (pick (eqb kind 12) Register
     (pick (eqb more 1) (Takes (AtLeast due) (kindOf kind)) (Takes (Exactly due) (kindOf kind))))

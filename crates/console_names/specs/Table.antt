@@ -18,7 +18,7 @@ use Rattle.console_names.specs.declared.Count.the-variants.{Exactly, AtL
 use Rattle.console_names.specs.declared.Values.{Values}
 use Rattle.console_names.specs.declared.Values.the-variants.{None, Numbers, NumbersOrNone, YesOrNo}
 use Rattle.console_names.specs.declared.Held.the-variants.{Deps, Provs, Realms}
-use Rattle.console_names.specs.declared.Kind.the-variants.{Show, Buffer, Lists, Registry, Text}
+use Rattle.console_names.specs.declared.Kind.the-variants.{Show, Buffer, Lists, Registry, Text, Load}
 use Rattle.console_names.specs.declared.Row.{Row}
 use Rattle.console_names.specs.declared.Row.the-variants.{Slot, Register, Takes, Unknown}
 use Rattle.console_names.specs.Names.{placeAmong}
@@ -122,6 +122,7 @@ operations =
     ∷ other "show" (Takes (Exactly 1) Show)
     ∷ other "slot" Slot
     ∷ other "write" (Takes (Exactly 1) Text)
+    ∷ other "load" (Takes (Exactly 2) Load)
     ∷ []
 
 -- What no name is.

@@ -28,14 +28,15 @@ pub enum Held {
     Realms,
 }
 
-// What is done with the numbers: a plugin or the buffer is shown, a list goes to the buffer, the registry is asked, or its text
-// is written.
+// What is done with the numbers: a plugin or the buffer is shown, a list goes to the buffer, the registry is asked, its text is
+// written, or a text is awaited that it is loaded from.
 pub enum Kind {
     Show,
     Buffer,
     Lists(Held),
     Registry(Values),
     Text,
+    Load,
 }
 
 // What stands behind an operation's name: words of its own, or numbers.
@@ -98,10 +99,10 @@ pub const COUNT: usize = 28;
 pub const NEXT: usize = 29;
 
 // How many operations there are.
-const OPERATIONS: usize = 33;
+const OPERATIONS: usize = 34;
 
 // What is done with the numbers, as the table says it; each has its place among these.
-const KINDS: [Kind; 10] = [
+const KINDS: [Kind; 11] = [
     Kind::Show,
     Kind::Buffer,
     Kind::Lists(Held::Deps),
@@ -112,6 +113,7 @@ const KINDS: [Kind; 10] = [
     Kind::Registry(Values::NumbersOrNone),
     Kind::Registry(Values::YesOrNo),
     Kind::Text,
+    Kind::Load,
 ];
 
 const SHOW: usize = 0;
@@ -134,10 +136,12 @@ const YES_OR_NO: usize = 8;
 
 const TEXT: usize = 9;
 
-// Words of its own stand behind the name.
-const SLOT: usize = 10;
+const LOAD: usize = 10;
 
-const REGISTER: usize = 11;
+// Words of its own stand behind the name.
+const SLOT: usize = 11;
+
+const REGISTER: usize = 12;
 
 // No more numbers than are due, or as many more as wished.
 const ONLY: usize = 0;
@@ -180,6 +184,7 @@ const TABLE: [[usize; 3]; OPERATIONS] = [
     [1, ONLY, SHOW], // show
     [0, ONLY, SLOT], // slot
     [1, ONLY, TEXT], // write
+    [2, ONLY, LOAD], // load
 ];
 
 // How many numbers stand behind a name, and whether nothing else does.
@@ -223,14 +228,14 @@ pub fn operation(name: &[u8]) -> usize
     which(
         name,
         b"open register begin ready fail unload finish replace fits admit call retire retire_child remove child offer read visible \
-          missing matches declares lookup resolve deps provs realms buffer rows count next show slot write",
+          missing matches declares lookup resolve deps provs realms buffer rows count next show slot write load",
     )
 }
 
 fn kind_of(kind: usize) -> Kind
     ensures { λ r. ⌜ r ≡ kindOf kind ⌝ }
 {
-    if kind < 10 {
+    if kind < 11 {
         return KINDS[kind];
     }
     Kind::Show

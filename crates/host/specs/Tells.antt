@@ -4,10 +4,12 @@ use mathlib.Core.Path.{_≡_, sym, ap, _∙_}
 use mathlib.Core.List.{List}
 use Rattle.rules.specs.Outcomes.{Answer}
 use Rattle.rules.specs.Slot as rules
+use Rattle.rules.specs.Load.{load, loadAnswer}
 use Rattle.rules.specs.Steps.{Op, answerTo, lentAfterStep}
 use Rattle.memory.specs.View.{view}
 use Rattle.slot_words.specs.Words.{slotAfter}
 use Rattle.demands.specs.Leaves.{leaves}
+use Rattle.registry_load.specs.Words.{leavesLoad}
 use Rattle.host_answers.specs.Told.{statusOf, Tells, told}
 
 abbrev pub answer : List ℕ → Op → Answer
@@ -24,6 +26,10 @@ DoesAndTells m o out status out′ m′ = Tells (answer m o) out status out′ �
 -- a listing changes the lent buffer, and not the memory
 abbrev pub ListsAndTells : List ℕ → Op → List ℕ → ℕ → List ℕ → List ℕ → Type 0
 ListsAndTells m o out status out′ buffer′ = Tells (answer m o) out status out′ × (buffer′ ≡ lentAfterStep (view m) o)
+
+-- a load states its answer, and leaves the memory so
+abbrev pub Loads : List ℕ → ℕ → List ℕ → ℕ → List ℕ → Type 0
+Loads m domain text status m′ = (status ≡ statusOf (loadAnswer (load domain text))) × (m′ ≡ leavesLoad m (load domain text))
 
 -- a decision on a child slot in the host's words
 abbrev pub Decides : rules.Decided → List ℕ → ℕ → List ℕ → Type 0

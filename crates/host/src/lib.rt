@@ -57,6 +57,7 @@ pub use retirement::vaskelbi_child;
 pub use retirement::vaskelbi_remove;
 pub use retirement::vaskelbi_retire;
 pub use retirement::vaskelbi_retire_child;
+pub use text::vaskelbi_load;
 pub use text::vaskelbi_write_text;
 pub use value::vaskelbi_declares;
 pub use value::vaskelbi_matches;

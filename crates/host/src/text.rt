@@ -1,7 +1,7 @@
-// The registry as text into the host's bytes.
+// The registry as text into the host's bytes, and back.
 ghost use Rattle.rules.specs.Steps.{Write};
 ghost use Rattle.rules.specs.Questions.{Text};
-ghost use Rattle.host.specs.Tells.{ListsAndTells};
+ghost use Rattle.host.specs.Tells.{ListsAndTells, Loads};
 use host_answers::ANSWER;
 use memory::WORDS;
 
@@ -16,4 +16,12 @@ pub extern "C" fn vaskelbi_write_text(
         (now (out .entry)) r (now (out .exit)) (now (text .exit)) ⌝ }
 {
     host_answers::number(text_write::write_text(m, text), out)
+}
+
+// The registry of a text takes the place of the one in the memory, under this domain; a refused text changes nothing.
+#[no_mangle]
+pub extern "C" fn vaskelbi_load(m: &mut [u64; WORDS], domain: u64, text: &[u8]) -> u64
+    ensures { λ r. ⌜ Loads (now (m .entry)) domain (now (text .entry)) r (now (m .exit)) ⌝ }
+{
+    host_answers::done(registry_load::load(m, domain, text))
 }

@@ -94,6 +94,9 @@ host-vaskelbi-list-realms κs a r s ms ns p q = by-three p q
 pub host-vaskelbi-write-text : One host.«vaskelbi_write_text».ended host.«vaskelbi_write_text».Reads.Learnt
 host-vaskelbi-write-text κs a r s ms ns p q = by-three p q
 
+pub host-vaskelbi-load : One host.«vaskelbi_load».ended host.«vaskelbi_load».Reads.Learnt
+host-vaskelbi-load κs a r s ms ns p q = by-two p q
+
 pub host-vaskelbi-begin : One host.«vaskelbi_begin».ended host.«vaskelbi_begin».Reads.Learnt
 host-vaskelbi-begin κs a r s ms ns p q = by-three p q
 

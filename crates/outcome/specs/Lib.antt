@@ -10,3 +10,4 @@ pub mod Values
 pub mod Host
 pub mod Text
 pub mod Console
+pub mod Loads

@@ -82,3 +82,8 @@ pub leaves-one : {x : After} {o n m m′ b b′ : List ℕ} {r s : Said}
 leaves-one p q =
     let t = page-one (p .0) (q .0) in
     (said-one (t .0) (by-equation (p .3) (q .3)), (by-equation (p .1) (q .1), (by-equation (p .2) (q .2), t .1)))
+
+-- A load of the console: the text, and the memory.
+pub ends-one : {x : Page} {y : List ℕ} {r s : ℕ} {o n m m′ : List ℕ} → (upTo o r ≡ x) × (m ≡ y) → (upTo n s ≡ x) × (m′ ≡ y)
+    → (r ≡ s) × ((m ≡ m′) × (o ≡ n))
+ends-one p q = let t = page-one (p .0) (q .0) in (t .0, (by-equation (p .1) (q .1), t .1))

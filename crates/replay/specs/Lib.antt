@@ -1,1 +1,2 @@
 pub mod Fed
+pub mod Texts

@@ -190,6 +190,13 @@ unsafe extern "C" {
         out: &mut [u64; ANSWER],
     ) -> u64;
 
+    pub unsafe fn vaskelbi_load(
+        m: &mut [u64; WORDS],
+        domain: u64,
+        text: *const u8,
+        text_len: usize,
+    ) -> u64;
+
     pub safe fn vaskelbi_parent(m: &[u64; WORDS], id: u64, out: &mut [u64; ANSWER]) -> u64;
     pub safe fn vaskelbi_anchor(m: &[u64; WORDS], id: u64, out: &mut [u64; ANSWER]) -> u64;
     pub safe fn vaskelbi_phase(m: &[u64; WORDS], id: u64, out: &mut [u64; ANSWER]) -> u64;

@@ -3,7 +3,7 @@
 use core::error::Error;
 use core::fmt;
 
-/// Why an operation was refused. The discriminants are document 01's numbers.
+/// Why an operation was refused. The discriminants are the numbers of documents 01 and 02.
 #[derive(Clone, Copy, Debug, PartialEq, Eq, PartialOrd, Ord, Hash)]
 #[repr(u8)]
 pub enum Refusal {
@@ -53,11 +53,15 @@ pub enum Refusal {
     Missing = 22,
     /// The lent room is too small.
     ShortBuffer = 23,
+    /// It is no text of the form, or one that breaks a condition.
+    BadText = 24,
+    /// It is the domain that the text has.
+    SameDomain = 25,
 }
 
 impl Refusal {
     /// Every refusal, by rising number.
-    pub const ALL: [Self; 23] = [
+    pub const ALL: [Self; 25] = [
         Self::Unknown,
         Self::Retired,
         Self::InvalidState,
@@ -81,9 +85,11 @@ impl Refusal {
         Self::Duplicate,
         Self::Missing,
         Self::ShortBuffer,
+        Self::BadText,
+        Self::SameDomain,
     ];
 
-    /// Document 01's number, 1 to 23.
+    /// The number, 1 to 25: document 01's, and 24 and 25 of document 02.
     pub const fn number(self) -> u8 {
         self as u8
     }
@@ -91,7 +97,7 @@ impl Refusal {
     /// The refusal of a number.
     pub const fn from_number(number: u64) -> Option<Self> {
         match number {
-            1..=23 => Some(Self::ALL[number as usize - 1]),
+            1..=25 => Some(Self::ALL[number as usize - 1]),
             _ => None,
         }
     }
@@ -125,6 +131,8 @@ impl Refusal {
             Self::Duplicate => "value already offered",
             Self::Missing => "value absent",
             Self::ShortBuffer => "lent room too small",
+            Self::BadText => "no text of the form, or one that breaks a condition",
+            Self::SameDomain => "the domain that the text has",
         }
     }
 }

@@ -422,6 +422,42 @@ impl Registry {
         let length = self.write_text(buffer)?;
         Ok(core::str::from_utf8(&buffer[..length]).expect("a text has bytes below 128 alone"))
     }
+
+    /// The registry that a text says, under a domain of its own. Refuses 24, 25. `Box::new` keeps it off the stack.
+    ///
+    /// A Queued root is Unissued then; everything else is as the text says. Nothing that was admitted before the text was written
+    /// is called under the new domain.
+    ///
+    /// ```
+    /// use vaskelbi::{Definition, Port, Refusal, Registry};
+    ///
+    /// let mut before = Registry::open(7, 100);
+    /// let driver = before.register(&Definition::new(Port::in_default_realm(30), 12))?;
+    /// let ticket = before.begin(driver)?;
+    /// let invocation = before.admit(ticket, 6)?;
+    /// let mut buffer = [0; 256];
+    /// let length = before.write_text(&mut buffer)?;
+    ///
+    /// let mut after = Registry::load(8, &buffer[..length])?;
+    /// assert_eq!(after.payload(driver), Ok(12));
+    /// assert_eq!(after.call(invocation), Err(Refusal::InvalidState));
+    /// assert_eq!(Registry::load(7, &buffer[..length]).err(), Some(Refusal::SameDomain));
+    /// assert_eq!(Registry::load(8, &buffer[1..length]).err(), Some(Refusal::BadText));
+    /// # Ok::<(), Refusal>(())
+    /// ```
+    pub fn load(domain: u64, text: &[u8]) -> Result<Self, Refusal> {
+        let mut registry = Self { words: [0; WORDS] };
+        registry.reload(domain, text)?;
+        Ok(registry)
+    }
+
+    /// Puts the registry that a text says in this one's place. Refuses 24, 25, and then changes nothing.
+    pub fn reload(&mut self, domain: u64, text: &[u8]) -> Result<(), Refusal> {
+        // SAFETY: pointer and length are one borrowed slice's.
+        done(unsafe {
+            engine::vaskelbi_load(&mut self.words, domain, text.as_ptr(), text.len())
+        })
+    }
 }
 
 /// What a plugin holds. Each refuses 1.

@@ -30,7 +30,7 @@ fn registering(registry: &mut Registry, new: Definition<'_>) -> Refusal {
 }
 
 /// One way to each refusal, in the order of the numbers.
-const WAYS: [fn() -> Refusal; 23] = [
+const WAYS: [fn() -> Refusal; 25] = [
     || refused(&mut family(), |r| r.begin(3)),
     || {
         let mut registry = family();
@@ -121,6 +121,8 @@ const WAYS: [fn() -> Refusal; 23] = [
         refused(&mut registry, |r| r.read(2, ANCHOR))
     },
     || refused(&mut family(), |r| r.list_provisions(1, 0, &mut [0])),
+    || refused(&mut family(), |r| r.reload(8, b"domain=7\nfirst=1\nnext=0\nplugins=0\n")),
+    || refused(&mut family(), |r| r.reload(7, b"domain=7\nfirst=0\nnext=0\nplugins=0\n")),
 ];
 
 #[test]

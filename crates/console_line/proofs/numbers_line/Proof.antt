@@ -3,7 +3,7 @@ use mathlib.Core.Path.{refl, ap}
 use Rattle.console_answer.specs.Pages.{upTo}
 use Rattle.console_names.specs.declared.Kind.{Kind}
 use Rattle.console_line.specs.Lines.{numbersLine}
-use Rattle.console_line.proofs.Laws.{same-done, shown-done, buffered-done, text-done}
+use Rattle.console_line.proofs.Laws.{same-done, shown-done, buffered-done, text-done, awaiting-done}
 use borrow.Author.Needs.{needs}
 use Rattle.console_line.proofs.numbers_line.Statement.{statement}
 use Rattle.console_line.proofs.numbers_line.Tie as tie
@@ -50,6 +50,9 @@ enum-told-3 c = search needs
 text-line-requires : tie.Need-text-line-requires
 text-line-requires c κs = search needs
 
+enum-told-4 : tie.Need-enum-told-4
+enum-told-4 c = search needs
+
 returns : tie.Need-returns
 returns c =
     let said = c .before .before in
@@ -92,6 +95,11 @@ returns-5 c =
     text-done (upTo (x .text .now) 0) (x .m .now) (x .buffer .now) (x .place) (x .kind) (x .l .now) _ (first .nth .ensures)
     (at .enum-told3 .given .1) _ _ (c .text-line .ensures)
 
+returns-6 : tie.Need-returns-6
+returns-6 c =
+    let x = c .before .before .before .before .before .args in
+    awaiting-done (upTo (x .text .now) 0) (x .m .now) (x .buffer .now) (x .place) (x .kind) (x .l .now) (c .enum-told4 .given .1) _ _ refl
+
 pub numbers-line-spec : {M : Type 1} → statement M
 numbers-line-spec =
     tie.close
@@ -110,8 +118,10 @@ numbers-line-spec =
     asked-line-requires
     enum-told-3
     text-line-requires
+    enum-told-4
     returns
     returns-2
     returns-3
     returns-4
-    returns-5)
+    returns-5
+    returns-6)

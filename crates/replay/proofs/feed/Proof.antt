@@ -11,12 +11,12 @@ use Rattle.replay.proofs.feed.Statement.{statement}
 use Rattle.replay.proofs.feed.Tie as tie
 
 abbrev Inv-loop : tie.InvT-loop
-Inv-loop m₀ buffer₀ line₀ part now₀ i₀ m buffer line now i =
-    (i ≤ length part) × (fed (kept m₀ buffer₀ (slotOf (now₀ .slot)) line₀ (now₀ .filled)) part
-    ≡ fed (kept m buffer (slotOf (now .slot)) line (now .filled)) (drop i part))
+Inv-loop m₀ buffer₀ line₀ text₀ part now₀ i₀ m buffer line text now i =
+    (i ≤ length part) × (fed (kept m₀ buffer₀ (slotOf (now₀ .slot)) line₀ (now₀ .filled) text₀ (now₀ .due)) part
+    ≡ fed (kept m buffer (slotOf (now .slot)) line (now .filled) text (now .due)) (drop i part))
 
 abbrev μ-loop : tie.MeasureT-loop
-μ-loop m₀ buffer₀ line₀ part now₀ i₀ m buffer line now i = length part - i
+μ-loop m₀ buffer₀ line₀ text₀ part now₀ i₀ m buffer line text now i = length part - i
 
 loop-holds : tie.Need-loop-holds Inv-loop μ-loop
 loop-holds c = (omega arith, refl)
@@ -35,10 +35,10 @@ loop-less c = search needs
 
 loop-again : tie.Need-loop-again Inv-loop μ-loop
 loop-again c =
-    let at = c .before .before .before .before .before .before in
+    let at = c .before .before .before .before .before .before .before in
     let x = at .before .before .args in
     let l = at .loop in
-    let k = kept (l .m) (l .buffer) (slotOf (l .now .slot)) (l .line) (l .now .filled) in (
+    let k = kept (l .m) (l .buffer) (slotOf (l .now .slot)) (l .line) (l .now .filled) (l .text) (l .now .due) in (
       omega arith,
       l .inv .1 ∙ fed-next k (x .part .now) (l .i) (omega arith)
           ∙ ap (λ (q : Kept). fed q (drop (l .i + 1) (x .part .now))) (sym (c .next-byte .ensures)),
@@ -49,7 +49,8 @@ returns c =
     let at = c .before in
     let x = at .before .before .args in
     let l = at .loop in
-    sym (l .inv .1 ∙ fed-end (kept (l .m) (l .buffer) (slotOf (l .now .slot)) (l .line) (l .now .filled)) (x .part .now) (l .i) (omega arith))
+    let k = kept (l .m) (l .buffer) (slotOf (l .now .slot)) (l .line) (l .now .filled) (l .text) (l .now .due) in
+    sym (l .inv .1 ∙ fed-end k (x .part .now) (l .i) (omega arith))
 
 pub feed-spec : {M : Type 1} → statement M
 feed-spec =

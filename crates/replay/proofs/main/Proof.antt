@@ -4,10 +4,10 @@ use Rattle.replay.proofs.main.Statement.{statement}
 use Rattle.replay.proofs.main.Tie as tie
 
 abbrev Inv-loop : tie.InvT-loop
-Inv-loop m₀ buffer₀ line₀ state₀ more₀ turns₀ m buffer line state more turns = Unit {0}
+Inv-loop m₀ buffer₀ line₀ text₀ state₀ more₀ turns₀ m buffer line text state more turns = Unit {0}
 
 abbrev μ-loop : tie.MeasureT-loop
-μ-loop m₀ buffer₀ line₀ state₀ more₀ turns₀ m buffer line state more turns = turns
+μ-loop m₀ buffer₀ line₀ text₀ state₀ more₀ turns₀ m buffer line text state more turns = turns
 
 vaskelbi-open-requires : tie.Need-vaskelbi-open-requires Inv-loop μ-loop
 vaskelbi-open-requires c κs = search needs
@@ -30,8 +30,8 @@ loop-less c = search needs
 loop-again : tie.Need-loop-again Inv-loop μ-loop
 loop-again c = search needs
 
-written-requires : tie.Need-written-requires Inv-loop μ-loop
-written-requires c κs = search needs
+finished-requires : tie.Need-finished-requires Inv-loop μ-loop
+finished-requires c κs = search needs
 
 returns : tie.Need-returns Inv-loop μ-loop
 returns c = search needs
@@ -49,5 +49,5 @@ main-spec =
     sub-turns
     loop-less
     loop-again
-    written-requires
+    finished-requires
     returns)

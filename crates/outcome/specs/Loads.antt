@@ -1,0 +1,89 @@
+-- Each promise of these crates allows one outcome: what a load reads, asks and writes.
+use Rattle.rules.specs.Answers.{done-exact}
+use Rattle.memory.proofs as memory
+use Rattle.memory_life.proofs as memory_life
+use Rattle.memory_values.proofs as memory_values
+use Rattle.memory_providers.proofs as memory_providers
+use Rattle.memory_load.proofs as memory_load
+use Rattle.ports_given.proofs as ports_given
+use Rattle.registry_joins.proofs as registry_joins
+use Rattle.registry_cycles.proofs as registry_cycles
+use Rattle.text_read.proofs as text_read
+use Rattle.text_read_block.proofs as text_read_block
+use Rattle.registry_load.proofs as registry_load
+use Rattle.console_load.proofs as console_load
+use Rattle.text_read.specs.Answers.{number-one, phase-one, mark-one, option-one, pair-one, provision-one, root-one}
+use Rattle.text_read_block.specs.Blocks.{block-one}
+use Rattle.outcome.specs.Answers.{parent-exact}
+use Rattle.outcome.specs.Records.{ends-one}
+use Rattle.outcome.specs.One.{One}
+use Rattle.outcome.specs.Equations.{by-equation, memory-alone, one-outcome, one-with-memory}
+
+pub memory-parent-from : One memory.«parent_from».ended memory.«parent_from».Reads.Learnt
+memory-parent-from κs a r s ms ns p q = one-outcome parent-exact p q
+
+pub memory-life-decode : One memory_life.decode.ended memory_life.decode.Reads.Learnt
+memory-life-decode κs a r s ms ns p q = by-equation p q
+
+pub memory-values-put-values : One memory_values.«put_values».ended memory_values.«put_values».Reads.Learnt
+memory-values-put-values κs a r s ms ns p q = memory-alone p q
+
+pub memory-providers-providers-among : One memory_providers.«providers_among».ended memory_providers.«providers_among».Reads.Learnt
+memory-providers-providers-among κs a r s ms ns p q = by-equation p q
+
+pub memory-load-open-words : One memory_load.«open_words».ended memory_load.«open_words».Reads.Learnt
+memory-load-open-words κs a r s ms ns p q = memory-alone p q
+
+pub memory-load-load-place : One memory_load.«load_place».ended memory_load.«load_place».Reads.Learnt
+memory-load-load-place κs a r s ms ns p q = memory-alone p q
+
+pub memory-load-copy-words : One memory_load.«copy_words».ended memory_load.«copy_words».Reads.Learnt
+memory-load-copy-words κs a r s ms ns p q = memory-alone p q
+
+pub ports-given-resolved : One ports_given.resolved.ended ports_given.resolved.Reads.Learnt
+ports-given-resolved κs a r s ms ns p q = by-equation p q
+
+pub ports-given-given : One ports_given.given.ended ports_given.given.Reads.Learnt
+ports-given-given κs a r s ms ns p q = by-equation p q
+
+pub registry-joins-ports-fit : One registry_joins.«ports_fit».ended registry_joins.«ports_fit».Reads.Learnt
+registry-joins-ports-fit κs a r s ms ns p q = by-equation p q
+
+pub registry-cycles-served : One registry_cycles.served.ended registry_cycles.served.Reads.Learnt
+registry-cycles-served κs a r s ms ns p q = by-equation p q
+
+pub registry-cycles-acyclic : One registry_cycles.acyclic.ended registry_cycles.acyclic.Reads.Learnt
+registry-cycles-acyclic κs a r s ms ns p q = by-equation p q
+
+pub text-read-number-line : One text_read.«number_line».ended text_read.«number_line».Reads.Learnt
+text-read-number-line κs a r s ms ns p q = number-one p q
+
+pub text-read-phase-line : One text_read.«phase_line».ended text_read.«phase_line».Reads.Learnt
+text-read-phase-line κs a r s ms ns p q = phase-one p q
+
+pub text-read-mark-line : One text_read.«mark_line».ended text_read.«mark_line».Reads.Learnt
+text-read-mark-line κs a r s ms ns p q = mark-one p q
+
+pub text-read-option-line : One text_read.«option_line».ended text_read.«option_line».Reads.Learnt
+text-read-option-line κs a r s ms ns p q = option-one p q
+
+pub text-read-pair-line : One text_read.«pair_line».ended text_read.«pair_line».Reads.Learnt
+text-read-pair-line κs a r s ms ns p q = pair-one p q
+
+pub text-read-provision-line : One text_read.«provision_line».ended text_read.«provision_line».Reads.Learnt
+text-read-provision-line κs a r s ms ns p q = provision-one p q
+
+pub text-read-root-lines : One text_read.«root_lines».ended text_read.«root_lines».Reads.Learnt
+text-read-root-lines κs a r s ms ns p q = root-one p q
+
+pub text-read-block-read-block : One text_read_block.«read_block».ended text_read_block.«read_block».Reads.Learnt
+text-read-block-read-block κs a r s ms ns p q = block-one p q
+
+pub registry-load-load : One registry_load.load.ended registry_load.load.Reads.Learnt
+registry-load-load κs a r s ms ns p q = one-with-memory done-exact p q
+
+pub console-load-awaits : One console_load.awaits.ended console_load.awaits.Reads.Learnt
+console-load-awaits κs a r s ms ns p q = by-equation p q
+
+pub console-load-loaded : One console_load.loaded.ended console_load.loaded.Reads.Learnt
+console-load-loaded κs a r s ms ns p q = ends-one p q
