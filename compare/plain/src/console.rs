@@ -5,8 +5,8 @@ mod lines;
 mod parse;
 
 pub use answer::Answer;
-pub use lines::{Lines, MAX_LINE};
-pub use parse::{Operation, parse};
+pub use lines::{Line, Lines, MAX_LINE};
+pub use parse::{Operation, parse, text_length};
 
 use crate::admission::Root;
 use crate::ports::{Port, resolve};
@@ -18,7 +18,8 @@ use crate::slot::{ChildSlot, Decision};
 /// How many numbers the buffer has.
 pub const BUFFER: usize = 100;
 
-/// How many bytes can be lent for a text; every text is shorter.
+/// How many bytes can be lent for a text, and how long one to be loaded may be; every
+/// text that is written is shorter.
 pub const TEXT: usize = 131_072;
 
 /// What the console keeps from line to line.
@@ -57,10 +58,10 @@ impl Console {
         self.slot
     }
 
-    /// Answers one line, given without its byte 10. The answer is appended with
-    /// its byte 10; a line to be passed over leaves `out` as it was.
-    pub fn answer(&mut self, line: &[u8], out: &mut Vec<u8>) {
-        if is_passed_over(line) {
+    /// Answers one line. The answer is appended with its byte 10; a line to be
+    /// passed over leaves `out` as it was.
+    pub fn answer(&mut self, line: Line<'_>, out: &mut Vec<u8>) {
+        if is_passed_over(line.words) {
             return;
         }
         let mut numbers = std::mem::take(&mut self.numbers);
@@ -162,6 +163,7 @@ impl Console {
                 out.ok_numbers(&[length as u64]);
                 out.text(&lent[..length]);
             }
+            Operation::Load { domain, text } => done(registry.load(domain, text), out)?,
             Operation::SlotPending { domain, parent, generation } => {
                 self.take_slot(ChildSlot::pending(domain, parent, generation), out);
             }

@@ -5,24 +5,22 @@
 //! in `checks`. The first check that holds must be the one the console answers,
 //! so counting a script is also a test of both writings.
 
+mod boundaries;
 mod checks;
+mod conditions;
 mod expected;
 mod report;
-mod told;
 
 use std::collections::BTreeMap;
 
-use crate::admission::Root;
-use crate::console::{Console, Operation, is_passed_over, parse};
-use crate::phases::Phase;
-use crate::plugin::Plugin;
-use crate::ports::{MAX_REALM_ROWS, Port, resolve};
-use crate::registration::{MAX_DEPENDENCIES, MAX_DEPENDENCY_KEYS, MAX_PROVISION_KEYS, MAX_ROWS};
-use crate::registry::{MAX_PLUGINS, Registry};
+use crate::console::{Console, Line, Operation, TEXT, is_passed_over, parse, text_length};
+use crate::registry::Registry;
+use crate::sheet::Sheet;
 
-pub use checks::{Check, holding};
+use boundaries::{BOUNDARIES, Loads};
+
+pub use checks::{Check, holding, refusals};
 pub use expected::{EXPECTED, Expected};
-pub use told::told;
 
 /// What became of one operation's lines.
 #[derive(Default)]
@@ -31,6 +29,8 @@ pub struct Tally {
     pub accepted: BTreeMap<&'static str, u64>,
     /// Refused lines by the check that refused.
     pub refused: BTreeMap<Check, u64>,
+    /// Those on which no other check held.
+    pub alone: BTreeMap<Check, u64>,
     /// Refused lines on which a later check held as well.
     pub order: BTreeMap<(Check, Check), u64>,
 }
@@ -45,36 +45,73 @@ impl Tally {
     }
 }
 
-/// Counts a script line by line.
+/// What became of the texts behind lines.
 #[derive(Default)]
+pub struct Texts {
+    /// As long as their lines say.
+    pub whole: u64,
+    /// Ended by the input's end.
+    pub cut: u64,
+    /// Passed over, as they are too long.
+    pub too_long: u64,
+}
+
+/// Counts a script line by line.
 pub struct Coverage {
     console: Console,
     numbers: Vec<u64>,
     answer: Vec<u8>,
     tallies: BTreeMap<&'static str, Tally>,
     boundaries: BTreeMap<&'static str, u64>,
+    loads: Loads,
     lines: u64,
     bad: u64,
     passed_over: u64,
+    texts: Texts,
     disagreements: Vec<String>,
+}
+
+impl Default for Coverage {
+    fn default() -> Self {
+        Self::new()
+    }
 }
 
 impl Coverage {
     pub fn new() -> Self {
-        Self::default()
+        Self {
+            console: Console::new(),
+            numbers: Vec::new(),
+            answer: Vec::new(),
+            tallies: BTreeMap::new(),
+            boundaries: BTreeMap::new(),
+            loads: Loads::opened(0),
+            lines: 0,
+            bad: 0,
+            passed_over: 0,
+            texts: Texts::default(),
+            disagreements: Vec::new(),
+        }
     }
 
     /// Goes on with a fresh console, as every script starts with one.
     pub fn start_script(&mut self) {
         self.console = Console::new();
+        self.loads = Loads::opened(0);
     }
 
-    /// Counts one line, given without its byte 10.
-    pub fn line(&mut self, line: &[u8]) {
+    /// Counts one line.
+    pub fn line(&mut self, line: Line<'_>) {
         self.lines += 1;
-        if is_passed_over(line) {
+        if is_passed_over(line.words) {
             self.passed_over += 1;
             return;
+        }
+        match text_length(line.words) {
+            0 => {}
+            length if length > TEXT as u64 => self.texts.too_long += 1,
+            length if length > line.text.len() as u64 => self.texts.cut += 1,
+            _ => self.texts.whole += 1,
         }
         let mut numbers = std::mem::take(&mut self.numbers);
         match parse(line, &mut numbers) {
@@ -86,6 +123,10 @@ impl Coverage {
 
     pub fn tally(&self, operation: &str) -> Option<&Tally> {
         self.tallies.get(operation)
+    }
+
+    pub fn texts(&self) -> &Texts {
+        &self.texts
     }
 
     /// Lines on which the console and the list of checks differ; should be none.
@@ -101,7 +142,10 @@ impl Coverage {
             let tally = self.tallies.get(operation).unwrap_or(&nothing);
             let kinds = kinds.iter().filter(|kind| !tally.accepted.contains_key(*kind));
             gaps.extend(kinds.map(|kind| format!("{operation} accepted {kind}")));
-            let checks = checks.iter().filter(|check| !tally.refused.contains_key(check));
+            // The conditions of a text answer one number, so only one that is broken
+            // alone is seen to be asked.
+            let refused = if operation == &"load" { &tally.alone } else { &tally.refused };
+            let checks = checks.iter().filter(|check| !refused.contains_key(check));
             gaps.extend(checks.map(|check| format!("{operation} refused {check}")));
         }
         let boundaries = BOUNDARIES.iter().filter(|name| !self.boundaries.contains_key(*name));
@@ -109,10 +153,10 @@ impl Coverage {
         gaps
     }
 
-    fn operation(&mut self, asked: &Operation<'_>, line: &[u8]) {
+    fn operation(&mut self, asked: &Operation<'_>, line: Line<'_>) {
         let holding = holding(&self.console, asked);
         let kind = accepted_kind(self.console.registry(), asked);
-        let text = matches!(asked, Operation::Write { .. }).then(|| told(self.console.registry()));
+        let before = Told::of(self.console.registry(), asked);
         self.answer.clear();
         self.console.answer(line, &mut self.answer);
         let answer = first_line(&self.answer);
@@ -122,150 +166,70 @@ impl Coverage {
             None => {
                 let kind = kind.unwrap_or_else(|| answered_kind(answer));
                 *tally.accepted.entry(kind).or_default() += 1;
-                self.boundary(asked);
+                let registry = self.console.registry();
+                for name in boundaries::reached(registry, asked, &mut self.loads) {
+                    *self.boundaries.entry(name).or_default() += 1;
+                }
             }
             Some((&first, later)) => {
                 *tally.refused.entry(first).or_default() += 1;
+                if later.is_empty() {
+                    *tally.alone.entry(first).or_default() += 1;
+                }
                 for &check in later {
                     *tally.order.entry((first, check)).or_default() += 1;
                 }
             }
         }
-        let answered = first_line(&self.answer);
         let wanted = holding.first().map(|check| check.number);
-        let same_text = text.is_none_or(|text| match wanted {
-            None => self.answer == format!("ok {}\n{text}", text.len()).as_bytes(),
-            Some(_) => answered.len() + 1 == self.answer.len(),
+        let same = before.is_none_or(|told| {
+            told.is_kept(asked, wanted.is_none(), &self.answer, self.console.registry())
         });
-        if wanted != refused_number(answered) || !same_text {
+        if wanted != refused_number(answer) || !same {
             self.disagreements.push(format!(
                 "line {}: {} answered {}",
                 self.lines,
-                String::from_utf8_lossy(line),
-                String::from_utf8_lossy(answered),
+                String::from_utf8_lossy(line.words),
+                String::from_utf8_lossy(answer),
             ));
-        }
-    }
-
-    /// Counts the boundaries that an accepted operation has just reached.
-    fn boundary(&mut self, asked: &Operation<'_>) {
-        let registry = self.console.registry();
-        let mut reached = |holds: bool, name: &'static str| {
-            if holds {
-                *self.boundaries.entry(name).or_default() += 1;
-            }
-        };
-        match *asked {
-            Operation::Register(ref new) => {
-                let id = registry.next() - 1;
-                let plugin = registry.plugin(id).expect("it was registered");
-                reached(new.dependencies.len() == MAX_DEPENDENCY_KEYS, KEYS_16);
-                reached(new.provisions.len() == MAX_PROVISION_KEYS, KEYS_15);
-                reached(new.realms.len() == 2 * MAX_REALM_ROWS, REALMS_16);
-                reached(plugin.dependencies().len() == MAX_DEPENDENCIES, LIST_48);
-                reached(registry.rows() == MAX_ROWS, ROWS_1024);
-                reached(registry.count() == MAX_PLUGINS as u64, PLUGINS_32);
-                reached(id == u64::MAX - 1, LAST_ID);
-                let own = |port: &Port| plugin.provides(*port);
-                reached(plugin.dependencies().iter().any(own), OWN_PORT);
-                let anchor = new.anchor;
-                reached(plugin.dependencies().contains(&anchor), ANCHOR_DECLARED);
-                let inherited = inherited(registry, plugin);
-                reached(inherited.contains(&anchor), ANCHOR_INHERITED);
-                let again = |port: &Port| port.key == anchor.key && *port != anchor;
-                let again = inherited.iter().any(again);
-                reached(again && resolve(anchor.key, new.realms) == Ok(anchor), ANCHOR_AGAIN);
-            }
-            Operation::Begin(id) => {
-                let plugin = registry.plugin(id).expect("it has begun");
-                reached(plugin.dependencies().len() == MAX_DEPENDENCIES, BEGIN_48);
-                reached(plugin.generation() > 1, BEGIN_AGAIN);
-                let by_anchor = |port: &Port| {
-                    registry.provider(*port).is_some_and(|(_, p)| p.anchor() == *port)
-                };
-                reached(plugin.dependencies().iter().any(by_anchor), BEGIN_BY_ANCHOR);
-                let wanted = inherited(registry, plugin).contains(&plugin.anchor());
-                reached(wanted, BEGIN_ANCHOR_INHERITED);
-            }
-            Operation::Deps { id, place } => {
-                let plugin = registry.plugin(id).expect("it was listed");
-                reached(plugin.dependencies().is_empty() && place == 100, LIST_AT_END);
-            }
-            Operation::Write { size } => {
-                let plugins = || registry.registered();
-                reached(size == registry.text_length() as u64, WRITE_EXACT);
-                reached(registry.rows() == MAX_ROWS, WRITE_ROWS);
-                reached(registry.count() == MAX_PLUGINS as u64, WRITE_PLUGINS);
-                reached(!plugins().is_sorted_by_key(|(id, _)| id), WRITE_UNSORTED);
-                let queued = |p: &Plugin| matches!(p.root(), Root::Queued { .. });
-                reached(plugins().any(|(_, p)| queued(p)), WRITE_QUEUED);
-                let stale = |p: &Plugin| queued(p) && p.phase() == Phase::Unloading;
-                reached(plugins().any(|(_, p)| stale(p)), WRITE_UNLOADING);
-                let valued =
-                    |p: &Plugin| p.provisions().iter().any(|&port| p.value(port).is_some());
-                let lacks = |p: &Plugin| p.provisions().iter().any(|&port| p.value(port).is_none());
-                reached(plugins().any(|(_, p)| valued(p) && lacks(p)), WRITE_VALUES);
-            }
-            _ => {}
         }
     }
 }
 
-const KEYS_16: &str = "registered with 16 dependency keys";
-const KEYS_15: &str = "registered with 15 provision keys";
-const REALMS_16: &str = "registered with 16 realm rows";
-const LIST_48: &str = "registered with 48 dependencies";
-const ROWS_1024: &str = "registered to 1,024 rows in use";
-const PLUGINS_32: &str = "registered as the 32nd plugin";
-const LAST_ID: &str = "registered with id 2^64 - 2";
-const OWN_PORT: &str = "registered depending on its own port";
-const ANCHOR_DECLARED: &str = "registered depending on its own anchor";
-const ANCHOR_INHERITED: &str = "registered, its anchor in its parent's list";
-const ANCHOR_AGAIN: &str = "registered, its anchor a key resolved again";
-const BEGIN_48: &str = "begun with 48 dependencies";
-const BEGIN_AGAIN: &str = "begun again";
-const BEGIN_BY_ANCHOR: &str = "begun on another's anchor";
-const BEGIN_ANCHOR_INHERITED: &str = "begun, its anchor in its parent's list";
-const LIST_AT_END: &str = "nothing listed at the buffer's end";
+/// What the registry told before a text was written or loaded.
+struct Told(Sheet);
 
-const WRITE_EXACT: &str = "written into just enough room";
-const WRITE_ROWS: &str = "written with 1,024 rows in use";
-const WRITE_PLUGINS: &str = "written with 32 plugins";
-const WRITE_UNSORTED: &str = "written with places not by rising id";
-const WRITE_QUEUED: &str = "written with a Queued root";
-const WRITE_UNLOADING: &str = "written while Unloading and Queued";
-const WRITE_VALUES: &str = "written with some of a plugin's values";
+impl Told {
+    fn of(registry: &Registry, asked: &Operation<'_>) -> Option<Self> {
+        let text = matches!(asked, Operation::Write { .. } | Operation::Load { .. });
+        text.then(|| Self(Sheet::of(registry)))
+    }
 
-const BOUNDARIES: [&str; 23] = [
-    KEYS_16,
-    KEYS_15,
-    REALMS_16,
-    LIST_48,
-    ROWS_1024,
-    PLUGINS_32,
-    LAST_ID,
-    OWN_PORT,
-    ANCHOR_DECLARED,
-    ANCHOR_INHERITED,
-    ANCHOR_AGAIN,
-    BEGIN_48,
-    BEGIN_AGAIN,
-    BEGIN_BY_ANCHOR,
-    BEGIN_ANCHOR_INHERITED,
-    LIST_AT_END,
-    WRITE_EXACT,
-    WRITE_ROWS,
-    WRITE_PLUGINS,
-    WRITE_UNSORTED,
-    WRITE_QUEUED,
-    WRITE_UNLOADING,
-    WRITE_VALUES,
-];
-
-/// The list of a plugin's parent; none without a parent.
-fn inherited<'r>(registry: &'r Registry, plugin: &Plugin) -> &'r [Port] {
-    let parent = plugin.parent().and_then(|id| registry.plugin(id).ok());
-    parent.map_or(&[], |parent| parent.dependencies())
+    /// Whether the whole answer and the registry after it are what they must be.
+    fn is_kept(
+        &self,
+        asked: &Operation<'_>,
+        accepted: bool,
+        answer: &[u8],
+        registry: &Registry,
+    ) -> bool {
+        let after = Sheet::of(registry);
+        match *asked {
+            Operation::Write { .. } if accepted => {
+                let text = self.0.text();
+                answer == format!("ok {}\n{text}", text.len()).as_bytes() && after == self.0
+            }
+            Operation::Load { domain, text } if accepted => {
+                let wanted = Sheet::read(text).map(|sheet| sheet.loaded(domain));
+                // Places from the lowest by rising id.
+                let ids = registry.registered().map(|(id, _)| id);
+                let places = u64::from(registry.occupancy.trailing_ones()) == registry.count();
+                let rows = registry.rows() == after.rows() as u64;
+                answer == b"ok\n" && Some(after) == wanted && ids.is_sorted() && places && rows
+            }
+            _ => answer.len() == first_line(answer).len() + 1 && after == self.0,
+        }
+    }
 }
 
 /// A kind that has to be told before the operation is carried out.
@@ -335,6 +299,7 @@ pub fn name(operation: &Operation<'_>) -> &'static str {
         Operation::Next => "next",
         Operation::Show(_) => "show",
         Operation::Write { .. } => "write",
+        Operation::Load { .. } => "load",
         Operation::SlotPending { .. } => "slot pending",
         Operation::SlotAssigned(_) => "slot assigned",
         Operation::SlotAssign(_) => "slot assign",

@@ -8,7 +8,8 @@ use crate::console::{Console, Lines};
 /// The first line of a script that is answered otherwise.
 #[derive(Debug, PartialEq, Eq)]
 pub struct Difference {
-    /// Its number in the script, counted from 1 with the lines passed over.
+    /// Its number in the script's file, counted from 1 with the lines passed over
+    /// and those of texts.
     pub number: u64,
     /// The line; none if the other answers go on behind the last one.
     pub line: Option<Vec<u8>>,
@@ -25,8 +26,10 @@ pub fn first(script: impl BufRead, mut other: impl BufRead) -> io::Result<Option
     let mut console = Console::new();
     let mut lines = Lines::new(script);
     let (mut number, mut ours, mut theirs) = (0, Vec::new(), Vec::new());
-    while let Some(line) = lines.next_line()? {
-        number += 1;
+    loop {
+        let here = lines.number();
+        let Some(line) = lines.next_line()? else { break };
+        number = here;
         ours.clear();
         console.answer(line, &mut ours);
         theirs.clear();
@@ -34,7 +37,7 @@ pub fn first(script: impl BufRead, mut other: impl BufRead) -> io::Result<Option
         if ours != theirs {
             // So that the line on which they part is shown whole.
             other.read_until(b'\n', &mut theirs)?;
-            return Ok(Some(parted(number, Some(line.to_vec()), &ours, &theirs)));
+            return Ok(Some(parted(number, Some(line.words.to_vec()), &ours, &theirs)));
         }
     }
     theirs.clear();

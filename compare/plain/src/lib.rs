@@ -14,8 +14,11 @@ mod ports;
 mod admission;
 mod dependencies;
 mod lists;
+mod load;
 mod phases;
 mod plugin;
+mod providers;
+mod reading;
 mod registration;
 mod registry;
 mod replacement;
@@ -26,8 +29,11 @@ mod values;
 
 pub mod console;
 pub mod coverage;
+pub mod damage;
 pub mod difference;
+pub mod rng;
 pub mod script;
+pub mod sheet;
 
 pub use admission::{Invocation, Receipt, Root, SETUP, Ticket};
 pub use phases::{Phase, Step};

@@ -36,6 +36,12 @@ const TABLE: [[Option<Phase>; 5]; 4] = {
 };
 
 impl Phase {
+    /// The phase that a text tells by its number.
+    pub(crate) fn numbered(number: u64) -> Option<Self> {
+        use Phase::*;
+        [Idle, Loading, Active, Unloading].into_iter().find(|&phase| phase as u64 == number)
+    }
+
     /// The phase after a step, or refusal 3.
     pub fn after(self, step: Step) -> Result<Self, Refusal> {
         TABLE[self as usize][step as usize].ok_or(Refusal::InvalidState)

@@ -9,7 +9,7 @@ use crate::replacement::Record;
 use crate::values::Values;
 
 /// One plugin's place. Its id stands in the registry's table of ids.
-#[derive(Debug)]
+#[derive(Clone, Debug)]
 pub struct Plugin {
     pub(crate) parent: Option<u64>,
     pub(crate) anchor: Port,

@@ -27,6 +27,8 @@ pub enum Refusal {
     Duplicate = 21,
     Missing = 22,
     ShortBuffer = 23,
+    BadText = 24,
+    SameDomain = 25,
 }
 
 impl Refusal {

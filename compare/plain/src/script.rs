@@ -4,37 +4,44 @@
 //! registry there to choose the next one. So plugins live through whole lives,
 //! and every refusal that can be had is had often.
 
+mod carry;
 mod draft;
 mod lives;
 mod malformed;
 mod probes;
-mod rng;
 
 use std::collections::VecDeque;
 use std::fmt::Display;
 use std::io::{self, Write};
 
 use crate::admission::{Invocation, Root, SETUP, Ticket};
-use crate::console::Console;
+use crate::console::{Console, Line};
 use crate::plugin::Plugin;
 use crate::ports::Port;
 use crate::registry::Registry;
 use crate::retirement::Child;
+use crate::rng::Rng;
 
 use lives::Life;
-use rng::Rng;
 
 /// How many old tickets, invocations and children are kept to be tried again.
 const KEPT: usize = 16;
 
-/// Writes a script of so many lines. For every fourth seed the last line has no
-/// byte 10, as a console must take that too.
+/// Writes a script of so many lines, the lines of texts not counted. For every fourth
+/// seed the last line has no byte 10, and for every fourth the last line's text ends
+/// too early, as a console must take that too.
 pub fn write(seed: u64, lines: u64, out: &mut impl Write) -> io::Result<()> {
-    let mut script = Script::new(seed, lines);
+    let cut_end = seed % 4 == 1 && lines > 0;
+    let mut script = Script::new(seed, if cut_end { lines - 1 } else { lines });
     while script.left > 0 {
         script.step();
         out.write_all(&script.text)?;
         script.text.clear();
+    }
+    if cut_end {
+        script.left = 1;
+        script.carry_cut();
+        out.write_all(&script.text)?;
     }
     Ok(())
 }
@@ -53,6 +60,10 @@ struct Script {
     tickets: VecDeque<Ticket>,
     invocations: VecDeque<Invocation>,
     removed: VecDeque<Child>,
+    /// Texts of earlier registries.
+    texts: VecDeque<Vec<u8>>,
+    /// Domains from which a registry was carried to another.
+    domains: VecDeque<u64>,
 }
 
 impl Script {
@@ -71,6 +82,8 @@ impl Script {
             tickets: VecDeque::new(),
             invocations: VecDeque::new(),
             removed: VecDeque::new(),
+            texts: VecDeque::new(),
+            domains: VecDeque::new(),
         }
     }
 
@@ -80,16 +93,25 @@ impl Script {
 
     /// Writes one line and answers it; answers whether it was accepted.
     fn say(&mut self, line: impl AsRef<[u8]>) -> bool {
+        self.say_with(line.as_ref(), b"")
+    }
+
+    /// Writes one line with its text.
+    fn say_with(&mut self, line: &[u8], text: &[u8]) -> bool {
         self.answer.clear();
         if self.left == 0 {
             return false;
         }
         self.left -= 1;
         self.life.left = self.life.left.saturating_sub(1);
-        let line = line.as_ref();
         self.text.extend_from_slice(line);
+        let mut line = Line { words: line, text };
         if self.left > 0 || !self.bare_end {
             self.text.push(b'\n');
+            self.text.extend_from_slice(text);
+        } else {
+            // The input ends with the line, so there is no text.
+            line.text = b"";
         }
         self.console.answer(line, &mut self.answer);
         self.answer.starts_with(b"ok")

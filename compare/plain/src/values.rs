@@ -22,13 +22,17 @@ impl Values {
         ((self.offered >> place) & 1 == 1).then(|| self.numbers[place])
     }
 
-    fn set(&mut self, place: usize, value: u64) {
+    pub(crate) fn set(&mut self, place: usize, value: u64) {
         self.offered |= 1 << place;
         self.numbers[place] = value;
     }
 
     pub(crate) fn drop_all(&mut self) {
         self.offered = 0;
+    }
+
+    pub(crate) fn is_empty(&self) -> bool {
+        self.offered == 0
     }
 
     /// The first place without a value, which may lie past the list's end.

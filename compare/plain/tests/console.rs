@@ -157,6 +157,14 @@ fn bad_lines() {
         "write 1 2",
         "write 18446744073709551616",
         "Write 0",
+        "load",
+        "load 8",
+        "load none 0",
+        "load 8 00",
+        "load 8 0 0",
+        "load 8 131073",
+        "load 8 18446744073709551615",
+        "load 8 18446744073709551616",
     ] {
         assert_eq!(answer(line), ["bad"], "{line}");
     }
@@ -199,4 +207,75 @@ fn a_text_is_answered_as_it_is() {
     }
     assert_eq!(said(b"write 33"), "no 23\n");
     assert_eq!(said(b"write 34"), "ok 34\ndomain=0\nfirst=0\nnext=0\nplugins=0\n");
+}
+
+#[test]
+fn a_text_is_no_lines() {
+    let length = EXAMPLE.len();
+    let written = format!("ok {length}\n{}", EXAMPLE.replace("domain=7", "domain=8"));
+    for (script, wanted) in [
+        (format!("load 8 {length}\n{EXAMPLE}next\n"), "ok\nok 1\n".to_string()),
+        (format!("load 8 {length}\n{EXAMPLE}write 999"), format!("ok\n{written}")),
+        (format!("  load  8   {length} \n{EXAMPLE}next"), "ok\nok 1\n".to_string()),
+        (format!("load 7 {length}\n{EXAMPLE}next\n"), "no 25\nok 0\n".to_string()),
+        // What stands right behind the text is the next line, also without a byte 10 before.
+        (format!("load 8 {}\n{EXAMPLE}\n\nnext\n", length + 1), "no 24\nok 0\n".to_string()),
+        (format!("load 8 {}\n{EXAMPLE}next\n", length - 1), "no 24\nok 0\n".to_string()),
+        ("load 8 3\nabcnext\nrows".to_string(), "no 24\nok 0\nok 0\n".to_string()),
+        ("load 8 0\nnext\n".to_string(), "no 24\nok 0\n".to_string()),
+        // No limit of a line holds, and no line within is answered or passed over.
+        (
+            format!("load 8 9000\n{}next\n", "next\n#\n\n ".repeat(1000)),
+            "no 24\nok 0\n".to_string(),
+        ),
+        ("load 8 5\nload 8next\n".to_string(), "no 24\nbad\n".to_string()),
+    ] {
+        assert_eq!(said(script.as_bytes()), wanted, "{script}");
+    }
+}
+
+#[test]
+fn a_text_that_ends_early_is_what_there_is() {
+    let length = EXAMPLE.len();
+    for longer in [length + 1, length + 1000, TEXT] {
+        let script = format!("load 8 {longer}\n{EXAMPLE}");
+        assert_eq!(said(script.as_bytes()), "ok\n");
+        let script = format!("load 7 {longer}\n{EXAMPLE}");
+        assert_eq!(said(script.as_bytes()), "no 25\n");
+        let script = format!("load 8 {longer}\n{}", &EXAMPLE[..length - 1]);
+        assert_eq!(said(script.as_bytes()), "no 24\n");
+    }
+    for script in ["load 8 1", "load 8 1\n", "load 8 0", "load 8 131072\n"] {
+        assert_eq!(said(script.as_bytes()), "no 24\n", "{script:?}");
+    }
+}
+
+#[test]
+fn a_text_of_131_072_bytes_and_one_more() {
+    // The longest text that can be loaded has no form, and its bytes would be lines.
+    let text = |length: usize| "next\n".repeat(length.div_ceil(5))[..length].to_string();
+    for (length, wanted) in [(TEXT, "no 24\nok 0\n"), (TEXT + 1, "bad\nok 0\n")] {
+        let script = format!("load 8 {length}\n{}rows\n", text(length));
+        assert_eq!(said(script.as_bytes()), wanted, "{length}");
+    }
+    let long = format!("load 8 {}\n{}rows\n", 10 * TEXT, text(10 * TEXT));
+    assert_eq!(said(long.as_bytes()), "bad\nok 0\n");
+    // What is passed over may end early, too.
+    for length in [u64::MAX, TEXT as u64 + 1] {
+        assert_eq!(said(format!("load 8 {length}\nrows\nnext\n").as_bytes()), "bad\n");
+        assert_eq!(said(format!("load 8 {length}").as_bytes()), "bad\n");
+    }
+}
+
+#[test]
+fn a_line_that_is_bad_for_another_reason_has_no_text() {
+    for line in ["load 8", "load 8 5 5", "load x 5", "load 8 05", "Load 8 5", "loads 8 5"] {
+        assert_eq!(answers(format!("{line}\nnext\n").as_bytes()), ["bad", "ok 0"], "{line}");
+    }
+    let line = |length: usize| format!("load 8 5{}", " ".repeat(length - 8));
+    assert_eq!(answers(format!("{}\nnext\nrows\n", line(4096)).as_bytes()), ["no 24", "ok 0"]);
+    let long = format!("{}\nnext\nrows\n", line(4097));
+    assert_eq!(answers(long.as_bytes()), ["bad", "ok 0", "ok 0"]);
+    // A remark is no line with a text.
+    assert_eq!(answers(b"#load 8 5\nnext\n"), ["ok 0"]);
 }

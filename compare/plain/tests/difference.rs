@@ -59,3 +59,29 @@ fn the_line_behind_texts_is_the_right_one() {
         assert_eq!(found(&wrong).unwrap().to_string(), shown);
     }
 }
+
+/// Lines of texts count as lines of the file, and are not answered.
+#[test]
+fn the_line_behind_a_text_that_was_loaded() {
+    let text = "domain=7\nfirst=0\nnext=3\nplugins=0\n";
+    let script = format!("load 8 {}\n{text}next\nload 8 2\n\n\nrows\n", text.len());
+    let script = format!("{script}load 1 131073\n{}\ncount", "\n".repeat(131_072));
+    let right = "ok\nok 3\nno 24\nok 0\nbad\nok 0\n";
+    assert_eq!(answers(&script), right);
+    let found = |other: &str| first(script.as_bytes(), other.as_bytes()).unwrap();
+    assert_eq!(found(right), None);
+    for (wrong, shown) in [
+        (
+            "no 24\nok 3\nno 24\nok 0\nbad\nok 0\n",
+            "line 1: load 8 34\nplain: ok\\n\nours:  no 24\\n",
+        ),
+        ("ok\nok 2\nno 24\nok 0\nbad\nok 0\n", "line 6: next\nplain: ok 3\\n\nours:  ok 2\\n"),
+        ("ok\nok 3\nno 24\nok 1\nbad\nok 0\n", "line 10: rows\nplain: ok 0\\n\nours:  ok 1\\n"),
+        (
+            "ok\nok 3\nno 24\nok 0\nbad\nok 1\n",
+            "line 131085: count\nplain: ok 0\\n\nours:  ok 1\\n",
+        ),
+    ] {
+        assert_eq!(found(wrong).unwrap().to_string(), shown);
+    }
+}

@@ -2,9 +2,9 @@
 
 use std::collections::{BTreeMap, HashMap};
 
-use plain::Invocation;
-use plain::console::{Console, Lines, Operation, is_passed_over, parse};
+use plain::console::{Console, Lines, Operation, is_passed_over, parse, text_length};
 use plain::coverage::Coverage;
+use plain::{Invocation, Registry};
 
 fn script(seed: u64, lines: u64) -> Vec<u8> {
     let mut text = Vec::new();
@@ -14,19 +14,29 @@ fn script(seed: u64, lines: u64) -> Vec<u8> {
 
 #[test]
 fn a_seed_gives_the_same_script_again() {
-    let text = script(5, 2000);
-    assert_eq!(text, script(5, 2000));
-    assert_ne!(text, script(6, 2000));
-    assert_eq!(text.iter().filter(|&&byte| byte == b'\n').count(), 2000);
-    // Every fourth seed leaves the last line open.
-    let open = script(7, 2000);
-    assert_eq!(open.iter().filter(|&&byte| byte == b'\n').count(), 1999);
+    for seed in 4..8 {
+        let text = script(seed, 2000);
+        assert_eq!(text, script(seed, 2000));
+        assert_ne!(text, script(seed + 1, 2000));
+        let mut lines = Lines::new(&text[..]);
+        let mut count = 0;
+        // The bytes that the last line still asks for.
+        let mut cut = 0;
+        while let Some(line) = lines.next_line().unwrap() {
+            count += 1;
+            cut = text_length(line.words).saturating_sub(line.text.len() as u64);
+        }
+        assert_eq!(count, 2000);
+        // One seed of four cuts the last text, and one leaves the last line open.
+        assert_eq!(cut > 0, seed % 4 == 1);
+        assert!(seed % 4 == 1 || text.ends_with(b"\n") == (seed % 4 != 3));
+    }
 }
 
 #[test]
 fn scripts_reach_every_answer_in_the_order_of_checks() {
     let mut coverage = Coverage::new();
-    for seed in 100..104 {
+    for seed in 100..106 {
         coverage.start_script();
         let text = script(seed, 50_000);
         let mut lines = Lines::new(&text[..]);
@@ -36,6 +46,8 @@ fn scripts_reach_every_answer_in_the_order_of_checks() {
     }
     assert_eq!(coverage.gaps(), Vec::<String>::new());
     assert_eq!(coverage.disagreements(), Vec::<String>::new());
+    let texts = coverage.texts();
+    assert!(texts.whole > 1000 && texts.cut > 0 && texts.too_long > 0);
 }
 
 /// Demand 3, by its own words: what admissions are still good, and for which
@@ -58,11 +70,23 @@ impl Admissions {
         Some(format!("ok {domain} {id} {generation} 0 {payload} {argument}"))
     }
 
-    /// Follows an accepted operation.
-    fn follow(&mut self, operation: &Operation<'_>, answer: &str, registered: bool) {
+    /// Follows an accepted operation, with the registry after it.
+    fn follow(
+        &mut self,
+        operation: &Operation<'_>,
+        answer: &str,
+        registered: bool,
+        registry: &Registry,
+    ) {
         let numbers: Vec<u64> = answer.split(' ').filter_map(|word| word.parse().ok()).collect();
         match *operation {
             Operation::Open { .. } => *self = Self::default(),
+            // The sequence starts anew, with the payloads that were loaded.
+            Operation::Load { .. } => {
+                self.good.clear();
+                let payloads = registry.registered().map(|(id, p)| (id, p.record().payload));
+                self.payloads = payloads.collect();
+            }
             Operation::Register(new) => {
                 self.payloads.insert(numbers[0], new.payload);
             }
@@ -94,7 +118,7 @@ fn a_call_is_accepted_exactly_for_an_admission_that_is_still_good() {
         let (mut numbers, mut answer) = (Vec::new(), Vec::new());
         let mut lines = Lines::new(&text[..]);
         while let Some(line) = lines.next_line().unwrap() {
-            let operation = parse(line, &mut numbers).filter(|_| !is_passed_over(line));
+            let operation = parse(line, &mut numbers).filter(|_| !is_passed_over(line.words));
             let Some(operation) = operation else { continue };
             let registered = match operation {
                 Operation::RetireChild(child) => console.registry().plugin(child.id).is_ok(),
@@ -108,7 +132,7 @@ fn a_call_is_accepted_exactly_for_an_admission_that_is_still_good() {
                 assert_eq!(accepted, admissions.receipt(&call), "{call:?}");
             }
             if answer.starts_with("ok") {
-                admissions.follow(&operation, answer, registered);
+                admissions.follow(&operation, answer, registered, console.registry());
             }
         }
     }

@@ -2,7 +2,7 @@
 
 use std::collections::{BTreeMap, BTreeSet};
 
-use plain::console::{BUFFER, Operation, TEXT, is_passed_over, parse};
+use plain::console::{BUFFER, Lines, Operation, TEXT, is_passed_over, parse};
 
 use crate::sides::{OURS, Out, PLAIN, Side};
 use crate::slots;
@@ -15,7 +15,7 @@ const LINES: u64 = 50_000;
 const BEFORE: Out = [u64::MAX - 9, 11, 12, 13, 14, 15, 16];
 
 /// The functions that have refusals.
-const REFUSING: [&str; 38] = [
+const REFUSING: [&str; 39] = [
     "register",
     "register_child",
     "begin",
@@ -42,6 +42,7 @@ const REFUSING: [&str; 38] = [
     "list_provisions",
     "list_realms",
     "write_text",
+    "load",
     "parent",
     "anchor",
     "phase",
@@ -148,8 +149,10 @@ fn script(seed: u64, operations: u64, tally: &mut Tally) -> Result<(), String> {
     plain::script::write(seed, LINES, &mut text).expect("memory can be written to");
     let mut desks = [&PLAIN, &OURS].map(Desk::new);
     let mut numbers = Vec::new();
-    for line in text.split(|&byte| byte == b'\n').filter(|line| !is_passed_over(line)) {
-        let Some(operation) = parse(line, &mut numbers) else { continue };
+    let mut lines = Lines::new(&text[..]);
+    while let Some(line) = lines.next_line().expect("memory can be read") {
+        let operation = parse(line, &mut numbers).filter(|_| !is_passed_over(line.words));
+        let Some(operation) = operation else { continue };
         for desk in &mut desks {
             desk.told.clear();
             desk.carry_out(&operation);
@@ -158,7 +161,7 @@ fn script(seed: u64, operations: u64, tally: &mut Tally) -> Result<(), String> {
         if plain.told.is_empty() {
             continue;
         }
-        let line = String::from_utf8_lossy(line);
+        let line = String::from_utf8_lossy(line.words);
         for (a, b) in plain.told.iter().zip(&ours.told) {
             if a != b {
                 let (f, p, q, r, s) = (a.function, a.status, a.out, b.status, b.out);
@@ -171,7 +174,8 @@ fn script(seed: u64, operations: u64, tally: &mut Tally) -> Result<(), String> {
         if plain.buffer != ours.buffer {
             return Err(format!("seed {seed}, {line}: the buffers differ"));
         }
-        if matches!(operation, Operation::Write { .. }) && plain.text != ours.text {
+        let text = matches!(operation, Operation::Write { .. } | Operation::Load { .. });
+        if text && plain.text != ours.text {
             return Err(format!("seed {seed}, {line}: the texts differ"));
         }
         tally.operations += 1;
@@ -198,6 +202,15 @@ impl Desk {
         let mut out = BEFORE;
         let status = asked(self.side, self.words.as_mut_ptr(), &mut self.buffer, &mut out);
         self.told.push(Told { function, status, out });
+    }
+
+    /// Writes the text, over the same bytes on both sides, to see what it leaves alone.
+    fn write(&mut self, length: usize) {
+        self.text.fill(b'#');
+        let text = self.text.as_mut_ptr();
+        self.ask("write_text", |side, m, _, out| unsafe {
+            (side.write_text)(m, text, length, out)
+        });
     }
 
     /// A function that answers one number, and never a refusal.
@@ -312,10 +325,15 @@ impl Desk {
             Operation::Provs { id, place } => ask!(self, list_provisions(id, place) -> buffer),
             Operation::Realms { id, place } => ask!(self, list_realms(id, place) -> buffer),
             Operation::Write { size } => {
-                // The same bytes before on both sides, to see what it leaves alone.
-                self.text.fill(b'#');
-                let (text, length) = (self.text.as_mut_ptr(), size.min(TEXT as u64) as usize);
-                ask!(self, write_text(text, length) -> out);
+                self.write(size.min(TEXT as u64) as usize);
+            }
+            Operation::Load { domain, text } => {
+                ask!(self, load(domain, text.as_ptr(), text.len()));
+                // What is held now, also after a refusal.
+                self.write(TEXT);
+                for (name, ask) in [("count", self.side.count), ("rows", self.side.rows)] {
+                    self.number(name, ask);
+                }
             }
             Operation::Rows => self.number("rows", self.side.rows),
             Operation::Count => self.number("count", self.side.count),

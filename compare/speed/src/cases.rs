@@ -9,7 +9,8 @@ use crate::worlds::{self, *};
 pub struct Room<'a> {
     pub out: Out,
     pub buffer: [u64; 100],
-    /// Lent to each run, for it would cost more than most runs to make.
+    /// Lent to each run, for it would cost more than most runs to make. At its front
+    /// stands the case's text, if it has one.
     pub text: &'a mut [u8],
 }
 
@@ -18,6 +19,9 @@ impl<'a> Room<'a> {
         Self { out: [0; 7], buffer: [0; 100], text }
     }
 }
+
+/// The world whose text is read, and what comes behind it.
+pub type Reads = (fn(&mut World), &'static str);
 
 pub struct Case {
     pub name: &'static str,
@@ -29,8 +33,10 @@ pub struct Case {
     pub returns: u64,
     /// How many slots its world has in the registry's place.
     pub slots: usize,
-    /// The length of the text that each operation writes, if it does.
+    /// The length of the text that each operation writes or reads, if it does.
     pub bytes: u64,
+    /// What they read, if they do: one text or none.
+    pub reads: &'static [Reads],
     /// Makes them, and answers the sum of what they return. No step depends on an
     /// answer, so that the driver does the same on every side.
     pub run: unsafe fn(&Side, *mut u64, &mut Room<'_>) -> u64,
@@ -93,16 +99,22 @@ unsafe fn write_text(side: &Side, m: *mut u64, length: usize, room: &mut Room<'_
     unsafe { (side.write_text)(m, room.text[..length].as_mut_ptr(), length, &mut room.out) }
 }
 
+/// Loads the text that stands in the room, into another domain than it has.
+unsafe fn load(side: &Side, m: *mut u64, length: u64, room: &Room<'_>) -> u64 {
+    unsafe { (side.load)(m, DOMAIN + 1, room.text[..length as usize].as_ptr(), length as usize) }
+}
+
 /// The slots of a world, not in order.
 unsafe fn slots(m: *mut u64) -> impl Iterator<Item = *mut u64> {
     (0..SLOTS).map(move |n| unsafe { m.add(SLOT * ((13 * n + 5) % SLOTS)) })
 }
 
 /// A case: name; world; operations, what each returns, the world's slots if it has any,
-/// the bytes that each writes if it does; the operations themselves.
+/// the bytes that each writes or reads if it does, the world that these tell and what
+/// comes behind; the operations themselves.
 macro_rules! cases {
     ($( $name:literal, $world:expr, $operations:expr => $returns:expr
-            $(, $slots:expr)? $(=> $bytes:expr)?;
+            $(, $slots:expr)? $(=> $bytes:expr)? $(, of $read:expr, $behind:expr)?;
         |$side:ident, $m:ident, $room:ident| $turn:expr; )*) => {
         pub const CASES: &[Case] = &[$(
             Case {
@@ -112,6 +124,7 @@ macro_rules! cases {
                 returns: $returns,
                 slots: 0 $(+ $slots)?,
                 bytes: 0 $(+ $bytes)?,
+                reads: &[$(($read, $behind))?],
                 run: {
                     unsafe fn run($side: &Side, $m: *mut u64, $room: &mut Room<'_>) -> u64 {
                         #[allow(unused_unsafe)]
@@ -123,6 +136,9 @@ macro_rules! cases {
         )*];
     };
 }
+
+/// A line too many: the list before it has as many as its count says.
+const LINE: &str = "prov=1,0,none\n";
 
 cases! {
     "open", strangers, 32 => 0;
@@ -275,6 +291,15 @@ cases! {
         |s, m, room| (0..1).map(|_| write_text(s, m, TEXT, room));
     "write refused: a byte too little for 32 plugins and 1,024 rows", full, 1 => 23;
         |s, m, room| (0..1).map(|_| write_text(s, m, FULL_TEXT as usize - 1, room));
+    "load the text of 12 plugins", strangers, 1 => 0 => DOZEN_TEXT, of dozen, "";
+        |s, m, room| (0..1).map(|_| load(s, m, DOZEN_TEXT, room));
+    "load the text of 32 Active plugins", strangers, 1 => 0 => ACTIVE_TEXT, of worlds::active, "";
+        |s, m, room| (0..1).map(|_| load(s, m, ACTIVE_TEXT, room));
+    "load the text of 32 plugins and 1,024 rows", strangers, 1 => 0 => FULL_TEXT, of full, "";
+        |s, m, room| (0..1).map(|_| load(s, m, FULL_TEXT, room));
+    "load refused: a line too many at the end of a full text", strangers, 1 => 24
+            => FULL_TEXT + LINE.len() as u64, of full, LINE;
+        |s, m, room| (0..1).map(|_| load(s, m, FULL_TEXT + LINE.len() as u64, room));
     "parent", family, 32 => 0;
         |s, m, room| ids().map(|id| (s.parent)(m, id, &mut room.out));
     "anchor", strangers, 32 => 0;

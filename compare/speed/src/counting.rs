@@ -23,7 +23,7 @@ pub struct Counts {
 pub fn inner(side: &str, case: usize, worlds: usize) -> u64 {
     let side = side_named(side);
     let case = &CASES[case];
-    run(side, case, &mut copies(&prepared(side, case), WORLDS), worlds, &mut text())
+    run(side, case, &mut copies(&prepared(side, case), WORLDS), worlds, &mut text(case))
 }
 
 fn side_named(name: &str) -> &'static Side {

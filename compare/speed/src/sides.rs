@@ -177,6 +177,7 @@ sides! {
         m: *mut u64, id: u64, place: usize, buffer: *mut u64, count: usize, out: &mut Out
     ) -> u64;
     fn write_text(m: *mut u64, text: *mut u8, length: usize, out: &mut Out) -> u64;
+    fn load(m: *mut u64, domain: u64, text: *const u8, length: usize) -> u64;
     fn parent(m: *mut u64, id: u64, out: &mut Out) -> u64;
     fn anchor(m: *mut u64, id: u64, out: &mut Out) -> u64;
     fn phase(m: *mut u64, id: u64, out: &mut Out) -> u64;

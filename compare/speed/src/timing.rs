@@ -36,9 +36,27 @@ pub fn copies(of: &[u64], count: usize) -> Vec<u64> {
     of.repeat(count)
 }
 
-/// Room for a text, its pages touched.
-pub fn text() -> Vec<u8> {
-    vec![b'#'; TEXT]
+/// Room for a text, its pages touched. If the case reads a text, that stands at the
+/// front, the same for all sides: the plain one tells it.
+pub fn text(case: &Case) -> Vec<u8> {
+    let mut room = vec![b'#'; TEXT];
+    for (prepare, behind) in case.reads {
+        let mut world = World::new(&PLAIN);
+        prepare(&mut world);
+        let length = world.write(&mut room);
+        room[length..][..behind.len()].copy_from_slice(behind.as_bytes());
+        assert_eq!(case.bytes, (length + behind.len()) as u64, "{}", case.name);
+    }
+    room
+}
+
+/// What a world tells in the end, if the case is about that.
+fn told(side: &'static Side, case: &Case, world: &mut [u64]) -> Vec<u8> {
+    let (mut room, mut out) = (vec![b'#'; TEXT], [0; 7]);
+    if !case.reads.is_empty() {
+        unsafe { (side.write_text)(world.as_mut_ptr(), room.as_mut_ptr(), TEXT, &mut out) };
+    }
+    room
 }
 
 /// Runs a case on so many of the worlds.
@@ -62,12 +80,13 @@ pub fn run(
 /// Says if a case doesn't do what its name says, or the sides don't do the same.
 pub fn check(case: &Case) -> Result<(), String> {
     let [plain, ours] = [&PLAIN, &OURS].map(|side| {
-        let (mut world, mut text) = (prepared(side, case), text());
+        let (mut world, mut text) = (prepared(side, case), text(case));
         let mut room = Room::new(&mut text);
         let sum = unsafe { (case.run)(side, world.as_mut_ptr(), &mut room) };
         let slots = slots::told(side, &world[..case.slots * SLOT]);
         let (out, buffer) = (room.out, room.buffer);
-        (side.name, sum, (out, buffer, text), slots)
+        let told = told(side, case, &mut world);
+        (side.name, sum, (out, buffer, text), slots, told)
     });
     for (name, sum, ..) in [&plain, &ours] {
         if *sum != case.operations * case.returns {
@@ -77,11 +96,14 @@ pub fn check(case: &Case) -> Result<(), String> {
     if plain.2 != ours.2 {
         return Err(format!("{}: {:?} and {:?}", case.name, plain.2.0, ours.2.0));
     }
-    if case.bytes > 0 && plain.2.0[..2] != [1, case.bytes] {
+    if case.bytes > 0 && case.reads.is_empty() && plain.2.0[..2] != [1, case.bytes] {
         return Err(format!("{}: {:?} for {} bytes", case.name, plain.2.0, case.bytes));
     }
     if plain.3 != ours.3 {
         return Err(format!("{}: the slots differ", case.name));
+    }
+    if plain.4 != ours.4 {
+        return Err(format!("{}: the registries differ", case.name));
     }
     Ok(())
 }
@@ -95,7 +117,7 @@ pub fn time(case: &Case) -> Times {
     let sides = [&PLAIN, &OURS, &EMPTY];
     let ready = sides.map(|side| prepared(side, case));
     let mut times = [const { Vec::new() }; 3];
-    let (mut worlds, mut text) = (vec![0; WORLDS * WORLD], text());
+    let (mut worlds, mut text) = (vec![0; WORLDS * WORLD], text(case));
     for round in 0..ROUNDS {
         for turn in 0..3 {
             let n = (round + turn) % 3;

@@ -33,7 +33,11 @@ pub struct Lists<'a> {
 }
 
 /// Two dependencies, two provisions and three realm rows, none shared with another.
-pub struct Stranger<const REALMS: usize = 6, const DEPENDENCIES: usize = 2, const PROVISIONS: usize = 2> {
+pub struct Stranger<
+    const REALMS: usize = 6,
+    const DEPENDENCIES: usize = 2,
+    const PROVISIONS: usize = 2,
+> {
     pub anchor: u64,
     pub realms: [u64; REALMS],
     pub dependencies: [u64; DEPENDENCIES],
@@ -230,6 +234,15 @@ impl World {
         let slot = self.words[n * SLOT..][..SLOT].as_mut_ptr();
         unsafe { (self.side.slot_pending)(slot, DOMAIN, FIRST, n as u64) };
         slot
+    }
+
+    /// Writes the registry's text to the front of the room; answers its length.
+    pub fn write(&mut self, room: &mut [u8]) -> usize {
+        let m = self.m();
+        let (text, length) = (room.as_mut_ptr(), room.len());
+        let status = unsafe { (self.side.write_text)(m, text, length, &mut self.out) };
+        self.accepted("write_text", status);
+        self.out[1] as usize
     }
 
     /// Makes an Idle plugin Active. Its provisions have realm 0.
@@ -536,24 +549,43 @@ pub fn long(world: &mut World) {
     }
 }
 
+/// Eight Active plugins, and four more with four dependencies among them.
+pub fn dozen(world: &mut World) {
+    for n in 0..8 {
+        let id = independent(world, n);
+        world.raise(id, &own_keys(n));
+    }
+    for user in 0..4 {
+        let dependencies = [0, 1, 2, 3].map(|n| own_keys((3 * user + 2 * n) % 8)[n as usize % 2]);
+        let provisions = user_keys(user);
+        let id = world.register(Lists {
+            dependencies: &dependencies,
+            provisions: &provisions,
+            ..Lists::default()
+        });
+        world.raise(id, &provisions);
+    }
+}
+
 /// One plugin, with two provisions.
 pub fn one(world: &mut World) {
     independent(world, 0);
 }
 
-/// The lengths of the texts of `one`, `active`, `full` and `long`.
+/// The lengths of the texts of `one`, `dozen`, `active`, `full` and `long`.
 pub const ONE_TEXT: u64 = 206;
+pub const DOZEN_TEXT: u64 = 2169;
 pub const ACTIVE_TEXT: u64 = 5811;
 pub const FULL_TEXT: u64 = 19697;
 pub const LONG_TEXT: u64 = 77663;
 
-/// The same, with the newest retired.
+/// 32 Idle plugins of 32 rows each, with the newest retired.
 pub fn newest_retired(world: &mut World) {
     full(world);
     world.retire(FIRST + 31);
 }
 
-/// The same, with the oldest retired.
+/// The same, but the oldest.
 pub fn oldest_retired(world: &mut World) {
     full(world);
     world.retire(FIRST);

@@ -1,6 +1,6 @@
 //! Reading an operation from a line.
 
-use super::MAX_LINE;
+use super::{Line, MAX_LINE, TEXT};
 use crate::admission::{Invocation, Ticket};
 use crate::ports::Port;
 use crate::registration::Registration;
@@ -41,6 +41,7 @@ pub enum Operation<'a> {
     Next,
     Show(u64),
     Write { size: u64 },
+    Load { domain: u64, text: &'a [u8] },
     SlotPending { domain: u64, parent: u64, generation: u64 },
     SlotAssigned(Child),
     SlotAssign(Child),
@@ -49,12 +50,12 @@ pub enum Operation<'a> {
 }
 
 /// Reads a line; none if it is bad. Lists are gathered in `numbers`.
-pub fn parse<'a>(line: &[u8], numbers: &'a mut Vec<u64>) -> Option<Operation<'a>> {
-    if line.len() > MAX_LINE {
+pub fn parse<'a>(line: Line<'a>, numbers: &'a mut Vec<u64>) -> Option<Operation<'a>> {
+    if line.words.len() > MAX_LINE {
         return None;
     }
     numbers.clear();
-    let mut words = Words(line);
+    let mut words = Words(line.words);
     Some(match words.next()? {
         b"open" => {
             let [domain, first] = words.exactly()?;
@@ -136,9 +137,26 @@ pub fn parse<'a>(line: &[u8], numbers: &'a mut Vec<u64>) -> Option<Operation<'a>
         b"next" => words.end(Operation::Next)?,
         b"show" => Operation::Show(words.one()?),
         b"write" => Operation::Write { size: words.one()? },
+        b"load" => {
+            let [domain, length] = words.exactly()?;
+            if length > TEXT as u64 {
+                return None;
+            }
+            Operation::Load { domain, text: line.text }
+        }
         b"slot" => slot(&mut words)?,
         _ => return None,
     })
+}
+
+/// How many bytes of the input right behind a line are its text. Even if they are
+/// too many, they are no lines.
+pub fn text_length(line: &[u8]) -> u64 {
+    let mut words = Words(line);
+    if line.len() > MAX_LINE || words.next() != Some(b"load") {
+        return 0;
+    }
+    words.exactly().map_or(0, |[_, length]| length)
 }
 
 fn slot(words: &mut Words<'_>) -> Option<Operation<'static>> {

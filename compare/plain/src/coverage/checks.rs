@@ -12,9 +12,10 @@ use crate::plugin::Plugin;
 use crate::ports::Port;
 use crate::registration::Registration;
 use crate::registry::Registry;
+use crate::sheet::Sheet;
 use crate::slot::Decision;
 
-use super::told;
+use super::conditions::{CONDITIONS, DOMAIN, FORM};
 
 /// A refusal number and, where it has several, the reason.
 #[derive(Clone, Copy, Debug, PartialEq, Eq, PartialOrd, Ord)]
@@ -71,6 +72,7 @@ fn look(console: &Console, asked: &Operation<'_>, found: &mut Found) -> Option<(
             let plugin = found.plugin(registry, id)?;
             found.when(plugin.retired(), 2, "");
             found.when(plugin.phase() != Phase::Idle, 3, "");
+            found.when(plugin.generation() == u64::MAX, 16, "");
             let lacking = |port: &Port| {
                 !registry.registered().any(|(_, p)| p.phase() == Phase::Active && has(p, *port))
             };
@@ -105,8 +107,11 @@ fn look(console: &Console, asked: &Operation<'_>, found: &mut Found) -> Option<(
             let plugin = found.plugin(registry, id)?;
             found.when(plugin.phase() != Phase::Unloading, 3, "");
         }
-        Operation::Replace { id, .. }
-        | Operation::Fits { id, .. }
+        Operation::Replace { id, .. } => {
+            let plugin = found.plugin(registry, id)?;
+            found.when(plugin.record().revision == u64::MAX, 16, "");
+        }
+        Operation::Fits { id, .. }
         | Operation::Child(id)
         | Operation::Missing(id)
         | Operation::Matches { id, .. }
@@ -192,9 +197,10 @@ fn look(console: &Console, asked: &Operation<'_>, found: &mut Found) -> Option<(
             room(found.plugin(registry, id)?.realms(), place, found);
         }
         Operation::Write { size } => {
-            let length = told(registry).len() as u64;
+            let length = Sheet::of(registry).text().len() as u64;
             found.when(size < length, 23, "");
         }
+        Operation::Load { domain, text } => found.0 = refusals(domain, text),
         Operation::SlotAssign(child) => {
             let slot = console.slot();
             found.when(slot.decision != Decision::Pending, 3, "decided");
@@ -232,6 +238,16 @@ fn room(ports: &[Port], place: u64, found: &mut Found) {
     let end = BUFFER as u64;
     found.when(place > end, 23, "past the end");
     found.when(place <= end && end - place < 2 * ports.len() as u64, 23, "too little room");
+}
+
+/// All checks that would refuse to load this text into this domain, in order.
+pub fn refusals(domain: u64, text: &[u8]) -> Vec<Check> {
+    let Some(sheet) = Sheet::read(text) else {
+        return vec![FORM];
+    };
+    let broken = CONDITIONS.iter().filter(|(_, broken)| broken(&sheet)).map(|(check, _)| *check);
+    let same = (sheet.domain == domain).then_some(DOMAIN);
+    broken.chain(same).collect()
 }
 
 fn register(registry: &Registry, new: &Registration<'_>, found: &mut Found) -> Option<()> {

@@ -1,6 +1,7 @@
 //! What a script can reach.
 
 use super::checks::{Check, check};
+use super::conditions::{CONDITIONS, DOMAIN, FORM};
 
 /// An operation, its kinds of acceptance, and the checks that can refuse it.
 pub type Expected = (&'static str, &'static [&'static str], &'static [Check]);
@@ -13,9 +14,20 @@ const LIST: &[Check] = &[check(1, ""), check(23, "past the end"), check(23, "too
 const REALMS: &[Check] =
     &[check(4, "odd"), check(4, "rows"), check(4, "equal keys"), check(4, "falling keys")];
 
-/// Every operation with all that it can answer on a registry built from an
-/// opening. Refusal 16 is in no row: it needs 2^64 - 1 replacements or
-/// generations.
+/// The form, each condition, and the domain.
+const LOAD: [Check; CONDITIONS.len() + 2] = {
+    let mut checks = [FORM; CONDITIONS.len() + 2];
+    let mut n = 0;
+    while n < CONDITIONS.len() {
+        checks[n + 1] = CONDITIONS[n].0;
+        n += 1;
+    }
+    checks[n + 1] = DOMAIN;
+    checks
+};
+
+/// Every operation with all that it can answer on a registry built from an opening
+/// or a load.
 pub const EXPECTED: &[Expected] = &[
     ("open", PLAIN, &[]),
     (
@@ -44,7 +56,7 @@ pub const EXPECTED: &[Expected] = &[
             check(12, ""),
         ],
     ),
-    ("begin", PLAIN, &[check(1, ""), check(2, ""), check(3, ""), check(14, "")]),
+    ("begin", PLAIN, &[check(1, ""), check(2, ""), check(3, ""), check(16, ""), check(14, "")]),
     (
         "ready",
         PLAIN,
@@ -60,7 +72,7 @@ pub const EXPECTED: &[Expected] = &[
     ("fail", PLAIN, &[check(1, ""), check(3, "")]),
     ("unload", PLAIN, &[check(1, ""), check(3, ""), check(15, "provision"), check(15, "anchor")]),
     ("finish", PLAIN, &[check(1, ""), check(3, "")]),
-    ("replace", PLAIN, UNKNOWN),
+    ("replace", PLAIN, &[check(1, ""), check(16, "")]),
     ("fits", YES_NO, UNKNOWN),
     (
         "admit",
@@ -145,6 +157,7 @@ pub const EXPECTED: &[Expected] = &[
     ("next", PLAIN, &[]),
     ("show", PLAIN, UNKNOWN),
     ("write", PLAIN, &[check(23, "")]),
+    ("load", PLAIN, &LOAD),
     ("slot pending", PLAIN, &[]),
     ("slot assigned", PLAIN, &[]),
     (

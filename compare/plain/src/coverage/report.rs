@@ -3,11 +3,13 @@
 use std::collections::BTreeMap;
 use std::fmt;
 
-use super::{BOUNDARIES, Coverage, EXPECTED, Tally};
+use super::{BOUNDARIES, Coverage, EXPECTED, Tally, Texts};
 
 impl fmt::Display for Coverage {
     fn fmt(&self, f: &mut fmt::Formatter<'_>) -> fmt::Result {
         writeln!(f, "{} lines: {} bad, {} passed over", self.lines, self.bad, self.passed_over)?;
+        let Texts { whole, cut, too_long } = self.texts;
+        writeln!(f, "{whole} texts behind them, {cut} cut by the end, {too_long} too long")?;
         writeln!(f, "\nAccepted, and refused by number")?;
         let nothing = Tally::default();
         for (operation, ..) in EXPECTED {
@@ -20,7 +22,8 @@ impl fmt::Display for Coverage {
             let tally = self.tallies.get(operation).unwrap_or(&nothing);
             writeln!(f, "{operation:14} accepted  {}", joined(&kinds(tally)))?;
             for (check, count) in &tally.refused {
-                writeln!(f, "{:14} {:28} {count:>8}", "", check.to_string())?;
+                let alone = tally.alone.get(check).unwrap_or(&0);
+                writeln!(f, "{:14} {:30} {count:>8}, alone {alone:>8}", "", check.to_string())?;
             }
         }
         writeln!(f, "\nRefusals on which later checks held too: first < later numbers")?;

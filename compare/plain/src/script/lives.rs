@@ -64,7 +64,7 @@ impl Script {
         if self.life.left == 0 {
             self.open();
         }
-        match self.rng.below(206) {
+        match self.rng.below(209) {
             0..=69 => self.advance(),
             70..=99 => self.grow(),
             100..=169 => self.probe(),
@@ -76,7 +76,8 @@ impl Script {
             196..=197 => self.passed_over(),
             198 => self.long_line(),
             199 => self.register_bare(),
-            _ => self.write(),
+            200..=205 => self.write(),
+            _ => self.carry(),
         }
     }
 
@@ -431,7 +432,7 @@ impl Script {
     }
 
     /// Tries old tickets and invocations again, as they were.
-    fn replay(&mut self) {
+    pub(super) fn replay(&mut self) {
         let tickets: Vec<_> = self.tickets.iter().copied().collect();
         let invocations: Vec<_> = self.invocations.iter().copied().collect();
         if let Some(ticket) = self.rng.pick(&tickets) {

@@ -1,10 +1,11 @@
 //! Lines that are bad, and lines that only look so.
 
 use super::Script;
-use crate::console::MAX_LINE;
+use super::carry::filler;
+use crate::console::{MAX_LINE, text_length};
 
 /// One good line of every form, to be spoilt.
-const GOOD: [&str; 46] = [
+const GOOD: [&str; 48] = [
     "open 7 0",
     "register none 9 0 40 realms 2 5 deps provs 2",
     "register 0 9 0 40 realms 2 5 9 1 deps 4 provs 3",
@@ -51,6 +52,8 @@ const GOOD: [&str; 46] = [
     "visible 0 0",
     "write 0",
     "write 900",
+    "load 7 0",
+    "load 18446744073709551615 0",
 ];
 
 /// Words that are no numbers, or only just are.
@@ -80,7 +83,7 @@ const WORDS: [&str; 22] = [
 ];
 
 /// Lines that are bad as they are, or good against expectation.
-const LINES: [&[u8]; 30] = [
+const LINES: [&[u8]; 34] = [
     b" ",
     b"   ",
     b"\t",
@@ -105,6 +108,10 @@ const LINES: [&[u8]; 30] = [
     b"register none none 0 5 realms deps provs",
     b"register nothing 1 0 5 realms deps provs",
     b"register 1 0 5 realms deps provs",
+    b"load",
+    b"load 7",
+    b"load 7 9 9",
+    b"load none 9",
     b"begin none",
     b"ROWS",
     b"replay",
@@ -134,7 +141,12 @@ impl Script {
             }
             _ => self.with_strange_byte(good),
         };
-        self.say(line);
+        // Some are good after all and have a text, which may be too long to write.
+        match text_length(&line) {
+            0 => self.say(line),
+            length @ 1..100 => self.say_with(&line, &filler(length as usize)),
+            _ => self.say("load 7 0 0"),
+        };
     }
 
     fn with_strange_word(&mut self, good: &str) -> Vec<u8> {
@@ -174,7 +186,7 @@ impl Script {
     pub(super) fn long_line(&mut self) {
         let length = MAX_LINE - 1 + self.rng.below(3) as usize;
         let id = self.any_id();
-        let line = match self.rng.below(12) {
+        let line = match self.rng.below(13) {
             0 => padded("rows", b" ", length),
             1 => padded(&format!("show {id}"), b" ", length),
             2 => padded("", b" ", length),
@@ -186,6 +198,7 @@ impl Script {
             8 => padded("register none 1 0 5 realms", b" 4 4", length - 12),
             9 => padded("register none 1 0 5 realms deps", b" 4", length - 6),
             10 => padded("register none 1 0 5 realms deps provs", b" 12", length),
+            11 => padded("load 7 0", b" ", length),
             _ => {
                 let mut line = vec![b' '; length - 4];
                 line.extend_from_slice(b"next");

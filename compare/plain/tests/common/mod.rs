@@ -1,6 +1,8 @@
 //! What several tests need.
 #![allow(dead_code)]
 
+pub mod loads;
+
 use plain::{Invocation, Port, Refusal, Registration, Registry};
 
 /// A registration with nothing but an anchor.

@@ -25,7 +25,7 @@ macro_rules! border {
     };
 }
 
-unsafe fn list<'a>(first: *const u64, count: usize) -> &'a [u64] {
+unsafe fn list<'a, T>(first: *const T, count: usize) -> &'a [T] {
     unsafe { from_raw_parts(first, count) }
 }
 
@@ -266,6 +266,10 @@ border! {
 
     fn write_text(m: &Registry, first: *mut u8, length: usize, out: &mut Out) -> u64 {
         number(m.write(unsafe { buffer(first, length) }).map(|length| length as u64), out)
+    }
+
+    fn load(m: &mut Registry, domain: u64, first: *const u8, length: usize) -> u64 {
+        done(m.load(domain, unsafe { list(first, length) }))
     }
 
     fn parent(m: &Registry, id: u64, out: &mut Out) -> u64 {
