@@ -140,7 +140,7 @@ fn names_and_numbers() {
         assert!(!refusal.to_string().is_empty());
     }
     assert_eq!(Refusal::from_number(0), None);
-    assert_eq!(Refusal::from_number(24), None);
+    assert_eq!(Refusal::from_number(26), None);
     assert_eq!(Refusal::from_number(u64::MAX), None);
     assert_eq!(Refusal::Stale.to_string(), "ticket or invocation is not the live one");
     let refused = Refused { refusal: Refusal::Unknown, payload: 9 };
