@@ -2,7 +2,7 @@
 -- that it is one, and nothing else.
 use Prim.Native.Nat.{ℕ, _≤_}
 use mathlib.Core.Path.{_≡_, sym, subst, subst⁻¹}
-use mathlib.Core.List.{List, [], _∷_}
+use mathlib.Core.List.{List}
 use mathlib.Core.Option.{some}
 use mathlib.Core.Logic.{_≢_}
 use lib.ListN.{length}
@@ -18,12 +18,13 @@ use Rattle.rules_load.specs.Meets.{loadable-meets}
 use Rattle.rules_load.specs.Laws.Unqueued.{moved-loadable, moved-formed}
 use Rattle.rules_load.specs.Loaded.{load-opens, opens-built, opens-start}
 use Rattle.memory.specs.View.{view}
-use Rattle.memory.specs.Writes.{puts}
+use Rattle.memory.specs.Writes.{openedWith}
 use Rattle.memory.specs.Layout.{memoryWords}
 use Rattle.memory_rows.specs.Dense.{Dense}
 use Rattle.memory_load.specs.Loading.{wordsOf}
 use Rattle.memory_load.specs.Whole.{words-dense, words-view}
-use Rattle.registry_remove.specs.Refines.{open-refines, open-dense}
+use Rattle.registry_remove.specs.Refines.{open-refines}
+use Rattle.memory_rows.specs.Opened.{opened-dense}
 
 -- Dense words that say a built registry.
 pub record Sound (m : List ℕ) : Type 0 where
@@ -41,7 +42,7 @@ start-view m s = built-start (view m) (s .sound .built) (s .unqueued)
 
 -- The words of an opening.
 abbrev pub blank : List ℕ → ℕ → ℕ → List ℕ
-blank m domain first = puts m 0 0 (domain ∷ first ∷ first ∷ 0 ∷ [])
+blank m domain first = openedWith m domain first first
 
 -- The words of a loaded registry are dense, and say it.
 module _ (domain : ℕ) (text : List ℕ) (r : Registry) (e : load domain text ≡ opens r) where
@@ -66,7 +67,7 @@ pub begun-start : (m : List ℕ) → Begun m → Start m
 begun-start _ (opened m size domain first h) =
     let e = sym (open-refines m domain first size) in
     record {
-      sound = record { dense = open-dense m domain first size; built = subst Built e (opened-built domain first h) };
+      sound = record { dense = opened-dense m domain first first size; built = subst Built e (opened-built domain first h) };
       unqueued = subst three.Start e (three.fresh-start domain first) .unqueued;
     }
 begun-start _ (loaded domain text r h) =

@@ -14,7 +14,7 @@ use Rattle.memory.specs.declared.Parent.{Parent}
 use Rattle.memory.specs.declared.Parent.the-variants as parent
 use Rattle.memory.specs.declared.Place.{Place}
 use Rattle.memory.specs.declared.Place.the-variants.{At, None}
-use Rattle.memory.specs.Layout.{taken, idAt, placeWords, places, revisionWord}
+use Rattle.memory.specs.Layout.{taken, idAt, placeWords, places, domainWord, revisionWord}
 use Rattle.memory.specs.declared.Life.{Life}
 use Rattle.memory.specs.declared.Words.{Words}
 
@@ -38,6 +38,10 @@ findAt m id = findFrom places m id 0
 abbrev pub puts : List ℕ → ℕ → ℕ → List ℕ → List ℕ
 puts m b k [] = m
 puts m b k (v ∷ vs) = puts (set m (b + k) v) b (k + 1) vs
+
+-- the header of a memory with no plugin: all places are free
+abbrev pub openedWith : List ℕ → (domain first next : ℕ) → List ℕ
+openedWith m domain first next = puts m domainWord 0 (domain ∷ first ∷ next ∷ 0 ∷ [])
 
 abbrev pub rootTag : Root → ℕ
 rootTag Unissued = 0

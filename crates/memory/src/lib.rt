@@ -7,7 +7,7 @@ ghost use Rattle.rules.specs.Basics.{holds};
 ghost use Rattle.memory.specs.Layout.{word, occupancy, taken, idAt, memoryWords, places, domainWord, firstWord, nextWord};
 ghost use Rattle.memory.specs.Lives.{changedLife, movedLife, begunLife, finishedLife, rootedLife, markedLife};
 ghost use Rattle.memory.specs.View.{parentOf, parentAt};
-ghost use Rattle.memory.specs.Writes.{parentId, namesAt, findAt};
+ghost use Rattle.memory.specs.Writes.{parentId, namesAt, findAt, openedWith};
 use layout::LOW_HALF;
 use layout::PLACE_WORDS;
 use layout::PLACES;
@@ -190,6 +190,16 @@ pub fn id(m: &[u64; WORDS], place: usize) -> u64
 {
     let b = place % PLACES * PLACE_WORDS;
     m[b + layout::ID]
+}
+
+// The header of a memory with no plugin: all places are free.
+pub fn open_words(m: &mut [u64; WORDS], domain: u64, first: u64, next: u64)
+    ensures { λ _. ⌜ now (m .exit) ≡ openedWith (now (m .entry)) domain first next ⌝ }
+{
+    m[layout::DOMAIN] = domain;
+    m[layout::FIRST] = first;
+    m[layout::NEXT] = next;
+    m[layout::OCCUPANCY] = 0;
 }
 
 // The parent that two words say: a tag of 0 is none.

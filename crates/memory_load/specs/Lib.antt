@@ -2,6 +2,5 @@ pub mod Loading
 pub mod Next
 pub mod Places
 pub mod Step
-pub mod Opened
 pub mod SoFar
 pub mod Whole

@@ -9,8 +9,8 @@ use Rattle.rules.specs.Conditions.{claims}
 use Rattle.rules.specs.Holds.{Plugin, Registry, plugins, rowsOf}
 use Rattle.rules.specs.Ports.{flat}
 use Rattle.memory.specs.Known.{lifeOf}
-use Rattle.memory.specs.Layout.{memoryWords, places, domainWord}
-use Rattle.memory.specs.Writes.{puts, putLife}
+use Rattle.memory.specs.Layout.{memoryWords, places}
+use Rattle.memory.specs.Writes.{putLife, openedWith}
 use Rattle.memory.specs.declared.Life.{Life}
 use Rattle.memory_entry.specs.Entries.{filledPlace}
 use Rattle.memory_entry.specs.declared.Entry.{Entry}
@@ -43,10 +43,6 @@ loadedPlugin m i start next p =
 unfoldable pub loadedInto : List ℕ → (place start next : ℕ) → List Plugin → List ℕ
 loadedInto m i start next [] = m
 loadedInto m i start next (p ∷ ps) = loadedInto (loadedPlugin m i start next p) (i + 1) (start + rowsOf p) next ps
-
--- the header of a memory with no plugin yet
-abbrev pub openedWith : List ℕ → (domain first next : ℕ) → List ℕ
-openedWith m domain first next = puts m domainWord 0 (domain ∷ first ∷ next ∷ 0 ∷ [])
 
 -- shut, so that no proof writes out as many zeros
 unfoldable pub zeros : List ℕ

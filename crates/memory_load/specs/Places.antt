@@ -1,13 +1,13 @@
 -- Places once a plugin was added to them, and places that are filled from the lowest on.
 use Prim.Native.Nat.{ℕ, zero, suc, _+_, _≤_, _<_}
 use native.Mathlib.Omega.{arith}
-use mathlib.Core.Path.{_≡_, refl, sym, ap, _∙_}
+use mathlib.Core.Path.{_≡_, sym, ap, _∙_}
 use mathlib.Core.Bool.{true, false}
 use mathlib.Core.Logic.{_≢_}
-use mathlib.Core.List.{List, [], _∷_, _++_}
+use mathlib.Core.List.{List, [], _∷_}
 use mathlib.Core.Option.{none, some}
 use lib.ListN.{length}
-use Rattle.rules.specs.Holds.{Plugin, held, rowsOf, sumRows}
+use Rattle.rules.specs.Holds.{Plugin}
 use Rattle.rules.specs.Load.{placed}
 use Rattle.rules.specs.Outcomes.{atLowestFree}
 use Rattle.rules_laws.specs.Laws.Tests.{by-test}
@@ -61,29 +61,7 @@ module _ (m m′ : List ℕ) (p : ℕ) (q : Plugin) where
         places-same m′ m″ n (i + 1) (λ j a b. same j (omega arith) (omega arith) (λ y. omega arith)) ∙ cc g in
         rw (free-place m i h, head, tail))
 
-module _ (m : List ℕ) (p : ℕ) (q : Plugin) where
-  pub rows-from : (n i : ℕ) → freeFrom n m i ≡ At p → sumRows (held (atLowestFree q (placesFrom n m i))) ≡ sumRows (held (placesFrom n m i)) + rowsOf q
-  unfolding freeFrom placesFrom
-  rows-from zero i e = let z : _≡_ {A = ℕ} 0 1 = cc in absurd (omega arith)
-  rows-from (suc n) i e =
-      let r = rows-from n (i + 1) in
-      by-test (taken m i)
-      (λ t. let s = r (rw t at e) in rw (taken-place m i t) (omega arith))
-      (λ h. rw (free-place m i h) (omega arith))
-
--- Plugins from the lowest place on: those held, and one more.
-pub held-placed : (n : ℕ) (ps : List Plugin) → length ps ≤ n → held (placed n ps) ≡ ps
-held-placed zero [] h = refl
-held-placed zero (p ∷ ps) h = absurd (omega arith)
-held-placed (suc n) [] h = held-placed n [] (omega arith)
-held-placed (suc n) (p ∷ ps) h = ap (λ l. p ∷ l) (held-placed n ps (omega arith))
-
-pub placed-more : (n : ℕ) (ps : List Plugin) (p : Plugin) → length ps < n → atLowestFree p (placed n ps) ≡ placed n (ps ++ p ∷ [])
-placed-more zero ps p h = absurd (omega arith)
-placed-more (suc n) [] p h = refl
-placed-more (suc n) (q ∷ ps) p h = ap (λ l. some q ∷ l) (placed-more n ps p (omega arith))
-
--- the lowest free place is behind them
+-- where plugins stand from the lowest place on, the lowest free place is behind them
 pub free-placed : (m : List ℕ) (n i : ℕ) (ps : List Plugin) → placesFrom n m i ≡ placed n ps → length ps < n → freeFrom n m i ≡ At (i + length ps)
 unfolding freeFrom placesFrom
 free-placed m zero i ps e h = absurd (omega arith)

@@ -13,15 +13,17 @@ use Rattle.rules.specs.Load.{inPlaces}
 use Rattle.rules.specs.Outcomes.{withPlaces, atLowestFree}
 use Rattle.rules.specs.Text.{Said}
 use Rattle.rules_laws.specs.Laws.Members.{In}
+use Rattle.rules_laws.specs.Laws.Placed.{held-placed, placed-more}
 use Rattle.memory.specs.Layout.{taken, idAt, memoryWords, places}
 use Rattle.memory.specs.View.{pluginAt, view}
 use Rattle.memory.specs.declared.Place.the-variants.{At}
 use Rattle.memory_places.specs.Changes.{freeAt}
 use Rattle.memory_places.specs.Placed.{taken-in}
 use Rattle.memory_rows.specs.Dense.{used, Dense, used-is}
-use Rattle.memory_load.specs.Loading.{loadedPlugin, loadedInto, openedWith, zeros, wordsOf}
-use Rattle.memory_load.specs.Opened.{opened-view, opened-dense}
-use Rattle.memory_load.specs.Places.{held-placed, placed-more, free-placed}
+use Rattle.memory.specs.Writes.{openedWith}
+use Rattle.memory_rows.specs.Opened.{opened-view, opened-dense}
+use Rattle.memory_load.specs.Loading.{loadedPlugin, loadedInto, zeros, wordsOf}
+use Rattle.memory_load.specs.Places.{free-placed}
 use Rattle.memory_load.specs.Step.{loaded-view, loaded-dense}
 
 pub sum-append : (ps qs : List Plugin) → sumRows (ps ++ qs) ≡ sumRows ps + sumRows qs

@@ -11,7 +11,7 @@ use lib.ListN.{length, length-map}
 use borrow.Author.Tests.{leb-true}
 use Rattle.rules.specs.Basics.{isSome, orElse, yesNo}
 use Rattle.rules.specs.Conditions.{listsShort, claims}
-use Rattle.rules.specs.Holds.{Provision, Plugin, provided, rowsOf, rowsInUse, defaultRealm, withProvisions}
+use Rattle.rules.specs.Holds.{Provision, Plugin, provided, rowsOf, defaultRealm, withProvisions}
 use Rattle.rules.specs.declared.Port.{Port}
 use Rattle.rules.specs.Limits.{maxRows, maxDependencies, maxProvisionKeys, maxRealmRows}
 use Rattle.rules.specs.Outcomes.{atLowestFree, withPlaces}
@@ -31,7 +31,7 @@ use Rattle.memory_lists.specs.Listed.{provided-at}
 use Rattle.memory_places.specs.Changes.{freeAt}
 use Rattle.memory_places.specs.Free.{free-at}
 use Rattle.memory_places.specs.Placed.{taken-place}
-use Rattle.memory_rows.specs.Dense.{used, Dense, used-is}
+use Rattle.memory_rows.specs.Dense.{used, Dense}
 use Rattle.memory_rows.specs.Stored.{life-dense, same-dense}
 use Rattle.memory_values.specs.Values.{putValues, maskOf, valuesOf}
 use Rattle.memory_values.specs.After.{Others}
@@ -41,7 +41,7 @@ use Rattle.memory_entry.specs.Addition.{Newcomer, newPluginOf, Sized}
 use Rattle.memory_entry.specs.Filled.{filled-dense}
 use Rattle.memory_load.specs.Loading.{loadedPlace, entryFor, loadedPlugin}
 use Rattle.memory_load.specs.Next.{filled-next}
-use Rattle.memory_load.specs.Places.{place-taken, place-plugin, here-from, again-from, rows-from}
+use Rattle.memory_load.specs.Places.{place-taken, place-plugin, here-from, again-from}
 
 -- what is written of it as of a new one
 abbrev newcomer : Plugin → Newcomer
@@ -60,7 +60,7 @@ newcomer p = record {
 }
 
 -- With its life and its provisions it is the plugin itself.
-parent-back : (o : Option ℕ) → parentOf (yesNo (isSome o)) (orElse o 0) ≡ o
+pub parent-back : (o : Option ℕ) → parentOf (yesNo (isSome o)) (orElse o 0) ≡ o
 parent-back none = refl
 parent-back (some x) = refl
 
@@ -207,9 +207,3 @@ module _ (m : List ℕ) (i next : ℕ) (p : Plugin) (dense : Dense m) (lowest : 
       (λ j. only (j * placeWords + dependenciesWord) (λ a b. omega arith))
       (λ j. only (j * placeWords + provisionsWord) (λ a b. omega arith))
       (λ j. only (j * placeWords + realmsWord) (λ a b. omega arith))
-
-  pub loaded-used : used (loadedPlugin m i (used m) next p) ≡ used m + rowsOf p
-  unfolding view rowsInUse freeAt
-  loaded-used =
-      sym (used-is (loadedPlugin m i (used m) next p) (loaded-dense .size)) ∙ ap rowsInUse loaded-view ∙ rows-from m i p places 0 lowest
-      ∙ ap (λ n. n + rowsOf p) (used-is m (dense .size))

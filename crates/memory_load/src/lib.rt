@@ -1,22 +1,11 @@
-// Words that are read from a text: an opened memory, a plugin with its life and values at its place, and the whole copied.
+// Words that are read from a text: a plugin with its life and values at its place, and the whole copied.
 ghost use mathlib.Core.Path.{_≡_};
 ghost use Prim.Native.Nat.{_%_};
 ghost use Rattle.memory.specs.Layout.{places};
-ghost use Rattle.memory_load.specs.Loading.{loadedPlace, openedWith};
+ghost use Rattle.memory_load.specs.Loading.{loadedPlace};
 use memory::Life;
 use memory::WORDS;
-use memory::layout;
 use memory_entry::Entry;
-
-// The header of a memory with no plugin yet.
-pub fn open_words(m: &mut [u64; WORDS], domain: u64, first: u64, next: u64)
-    ensures { λ _. ⌜ now (m .exit) ≡ openedWith (now (m .entry)) domain first next ⌝ }
-{
-    m[layout::DOMAIN] = domain;
-    m[layout::FIRST] = first;
-    m[layout::NEXT] = next;
-    m[layout::OCCUPANCY] = 0;
-}
 
 // A plugin is written to a place, which is taken then: as a new one, and then its life and its values.
 pub fn load_place(

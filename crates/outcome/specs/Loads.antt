@@ -19,6 +19,9 @@ use Rattle.outcome.specs.Records.{ends-one}
 use Rattle.outcome.specs.One.{One}
 use Rattle.outcome.specs.Equations.{by-equation, memory-alone, one-outcome, one-with-memory}
 
+pub memory-open-words : One memory.«open_words».ended memory.«open_words».Reads.Learnt
+memory-open-words κs a r s ms ns p q = memory-alone p q
+
 pub memory-parent-from : One memory.«parent_from».ended memory.«parent_from».Reads.Learnt
 memory-parent-from κs a r s ms ns p q = one-outcome parent-exact p q
 
@@ -30,9 +33,6 @@ memory-values-put-values κs a r s ms ns p q = memory-alone p q
 
 pub memory-providers-providers-among : One memory_providers.«providers_among».ended memory_providers.«providers_among».Reads.Learnt
 memory-providers-providers-among κs a r s ms ns p q = by-equation p q
-
-pub memory-load-open-words : One memory_load.«open_words».ended memory_load.«open_words».Reads.Learnt
-memory-load-open-words κs a r s ms ns p q = memory-alone p q
 
 pub memory-load-load-place : One memory_load.«load_place».ended memory_load.«load_place».Reads.Learnt
 memory-load-load-place κs a r s ms ns p q = memory-alone p q

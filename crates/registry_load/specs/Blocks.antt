@@ -1,10 +1,8 @@
 -- A block's words, and the plugin that they say: its life with no root Queued, and its ports.
 use Prim.Native.Nat.{ℕ, _≤_}
-use native.Mathlib.Omega.{arith}
 use mathlib.Core.Path.{_≡_, refl, sym, ap, _∙_}
 use mathlib.Core.Bool.{Bool, true, false}
 use mathlib.Core.List.{List, [], _∷_}
-use mathlib.Core.Option.{Option, none, some}
 use lib.Dec.{eqb}
 use lib.ListN.{length}
 use mir.Val.{boolByte}
@@ -14,21 +12,21 @@ use Rattle.rules.specs.declared.Port.{Port}
 use Rattle.rules.specs.declared.Root.{Root}
 use Rattle.rules.specs.declared.Root.the-variants.{Unissued, Queued, Spent}
 use Rattle.rules.specs.Holds.{Realms, Plugin, Registry, provided, defaultRealm}
-use Rattle.rules.specs.Ports.{pairs, oddLength, flat, realmsOf}
+use Rattle.rules.specs.Ports.{oddLength, flat, realmsOf}
 use Rattle.rules.specs.Queries.{phaseNumber}
 use Rattle.rules.specs.Conditions.{claims}
 use Rattle.rules.specs.Load.{unqueuedRoot, unqueued}
 use Rattle.rules_laws.specs.Laws.Pairs.{pairs-flat}
-use Rattle.rules_load.specs.Joining.{portsFit, portsJoin}
+use Rattle.rules_load.specs.Joining.{portsJoin}
 use Rattle.memory.specs.View.{parentOf, decoded}
 use Rattle.memory.specs.Writes.{rootTag, rootRevision, rootArgument, encoded}
 use Rattle.memory.specs.Known.{lifeOf}
 use Rattle.memory.specs.Frames.{decoded-encoded}
-use Rattle.memory.specs.declared.Life.{Life}
 use Rattle.memory.specs.declared.Words.{Words}
 use Rattle.memory_entry.specs.declared.Entry.{Entry}
 use Rattle.text_read_block.specs.declared.Block.{Block}
 use Rattle.registry_joins.specs.Fits.{lentFit, lent-fit}
+use Rattle.memory_load.specs.Step.{parent-back}
 
 -- the root's number with none Queued
 unfoldable pub unqueuedTag : ℕ → ℕ
@@ -96,10 +94,6 @@ life-loaded p =
       «root_argument» = none-argument (p .root) x;
     })
     ∙ decoded-encoded (lifeOf (unqueued p))
-
-parent-back : (o : Option ℕ) → parentOf (yesNo (isSome o)) (orElse o 0) ≡ o
-parent-back none = refl
-parent-back (some x) = refl
 
 flat-even : (l : List Port) → oddLength (flat l) ≡ false
 flat-even [] = refl

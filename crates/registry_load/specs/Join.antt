@@ -1,9 +1,9 @@
 -- What is done with a block, by the tests on its words: refused by one of them, or its plugin is written.
 use Prim.Native.Nat.{ℕ, _+_, _*_, _%_, _<_}
 use native.Mathlib.Omega.{arith}
-use mathlib.Core.Path.{_≡_, refl, sym, ap, _∙_, subst}
-use mathlib.Core.Bool.{Bool, true, false, _&&_, and-false}
-use mathlib.Core.List.{List, [], _∷_}
+use mathlib.Core.Path.{_≡_, sym, ap, _∙_, subst}
+use mathlib.Core.Bool.{true, false}
+use mathlib.Core.List.{List}
 use mathlib.Core.Option.{Option}
 use lib.ListN.{length, getD, take}
 use Rattle.rules.specs.declared.Port.{Port}
@@ -12,14 +12,11 @@ use Rattle.rules.specs.Ports.{pairs, flat}
 use Rattle.rules.specs.Conditions.{claims}
 use Rattle.rules.specs.Text.{block}
 use Rattle.rules.specs.Load.{unqueued}
-use Rattle.rules_laws.specs.Laws.Pairs.{pairs-flat}
 use Rattle.rules_load.specs.Joining.{portsJoin, lifeFits}
 use Rattle.memory.specs.Layout.{places}
 use Rattle.memory.specs.View.{view, parentOf, decoded}
-use Rattle.memory.specs.Known.{lifeOf}
 use Rattle.memory.specs.declared.Life.{Life}
 use Rattle.memory_entry.specs.declared.Entry.{Entry}
-use Rattle.memory_values.specs.Values.{maskOf, valuesOf}
 use Rattle.memory_load.specs.Loading.{loadedPlace, loadedPlugin, loaded-by}
 use Rattle.text_read.specs.declared.Next.the-variants.{At, Torn}
 use Rattle.text_read.specs.Reads.{Reads}

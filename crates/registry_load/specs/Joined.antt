@@ -1,15 +1,14 @@
 -- The next plugin of a text: what is asked of it where those before it stand in the words, and that this is what the conditions ask.
-use Prim.Native.Nat.{ℕ, _+_, _≤_, _<_}
+use Prim.Native.Nat.{ℕ, _+_, _≤_}
 use native.Mathlib.Omega.{arith}
-use mathlib.Core.Path.{_≡_, refl, sym, ap, _∙_}
+use mathlib.Core.Path.{_≡_, sym, ap, _∙_}
 use mathlib.Core.Bool.{Bool, true, false, _&&_, true≢false}
 use mathlib.Core.List.{List, [], _∷_, _++_, map}
 use lib.Dec.{leb, ltb}
 use lib.ListN.{length}
-use borrow.Author.Tests.{ltb-true, lt-ltb}
-use Rattle.rules.specs.Basics.{every}
+use borrow.Author.Tests.{lt-ltb}
 use Rattle.rules.specs.Limits.{maxPlugins, maxRows, maxRealmRows, maxDependencies, maxProvisionKeys}
-use Rattle.rules.specs.Holds.{Plugin, Registry, plugins, rowsOf, sumRows}
+use Rattle.rules.specs.Holds.{Plugin, plugins, rowsOf, sumRows}
 use Rattle.rules.specs.Text.{Said}
 use Rattle.rules.specs.Conditions.{idsRise, listsShort, loadable}
 use Rattle.rules.specs.Load.{unqueued}
@@ -26,13 +25,6 @@ use Rattle.registry_load.specs.Lives.{countsFit}
 -- Its numbers, its life, and its ports beside those of the words.
 unfoldable pub fits : List ℕ → (from next rows : ℕ) → Plugin → Bool
 fits w from next rows p = countsFit from next rows p && lifeFits p && portsJoin (view w) p
-
--- two tests that each say the other
-same-test : (x y : Bool) → (x ≡ true → y ≡ true) → (y ≡ true → x ≡ true) → x ≡ y
-same-test true true f g = refl
-same-test true false f g = absurd (true≢false (sym (f refl)))
-same-test false true f g = absurd (true≢false (sym (g refl)))
-same-test false false f g = refl
 
 module _ (w : List ℕ) (from next : ℕ) (done : List Plugin) (p : Plugin) (few : length done ≤ maxPlugins) (held : plugins (view w) ≡ map unqueued done) where
   same : portsJoin (view w) p ≡ portsJoin (standing done) p
@@ -60,7 +52,8 @@ module _ (w : List ℕ) (from next : ℕ) (done : List Plugin) (p : Plugin) (few
   pub passes-fits : Passes → fits w from next (sumRows done) p ≡ true
   unfolding fits joins
   passes-fits k =
-      let a = chained-true (leb from (p .id)) (leb (sumRows done + rowsOf p) maxRows ∷ listsShort p ∷ portsJoin (standing done) p ∷ lifeFits p ∷ []) (k .joined) in
+      let a = chained-true (leb from (p .id))
+      (leb (sumRows done + rowsOf p) maxRows ∷ listsShort p ∷ portsJoin (standing done) p ∷ lifeFits p ∷ []) (k .joined) in
       let lists = chained-true (leb (length (p .realms .rows)) maxRealmRows)
       (leb (length (p .dependencies)) maxDependencies ∷ leb (length (p .provisions)) maxProvisionKeys ∷ []) (a .1 .1 .0) in
       rw (a .0, k .issued, lists .0, lists .1 .0, lists .1 .1 .0, a .1 .0, a .1 .1 .1 .1 .0) (same ∙ a .1 .1 .1 .0)

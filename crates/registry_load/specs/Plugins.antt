@@ -2,25 +2,28 @@
 use Prim.Native.Nat.{ℕ, _+_, _-_, _≤_, _<_}
 use native.Mathlib.Omega.{arith}
 use mathlib.Core.Path.{_≡_, refl, sym, ap, _∙_, subst}
-use mathlib.Core.Bool.{Bool, true, false, _&&_}
+use mathlib.Core.Bool.{true, false}
 use mathlib.Core.List.{List, [], _∷_, _++_, map, map-append, append-assoc}
-use lib.Dec.{leb, ltb}
+use lib.Dec.{leb}
 use lib.ListN.{length, drop, length-append, length-map}
 use borrow.Author.Tests.{leb-true, ltb-true}
 use Rattle.rules.specs.Limits.{maxPlugins, maxRows}
-use Rattle.rules.specs.Holds.{Plugin, Registry, plugins, rowsOf, sumRows, defaultRealm}
+use Rattle.rules.specs.Holds.{Plugin, plugins, rowsOf, sumRows, defaultRealm}
 use Rattle.rules.specs.Text.{Said, block}
 use Rattle.rules.specs.Conditions.{listsShort, loadable}
-use Rattle.rules.specs.Load.{unqueued, inPlaces}
+use Rattle.rules.specs.Load.{unqueued}
 use Rattle.rules_load.specs.Joining.{portsJoin, lifeFits, standing, joins, joinAll, behindIds}
 use Rattle.rules_load.specs.Joins.{joinAll-snoc, behindIds-snoc, many-refused}
 use Rattle.rules_load.specs.Meets.{loadable-meets}
 use Rattle.rules_load.specs.Laws.Sorting.{rises-end}
 use Rattle.rules_laws.specs.Laws.Tests.{by-test}
 use Rattle.rules_load.specs.Laws.Lists.{chained-true}
-use Rattle.rules_load.specs.Laws.Joining.{held-placed, rows-append}
+use Rattle.rules_laws.specs.Laws.Placed.{held-placed}
+use Rattle.rules_load.specs.Laws.Joining.{rows-append}
+use Rattle.rules_load.specs.Laws.Unqueued.{rows-unqueued}
 use Rattle.memory.specs.View.{view}
-use Rattle.memory_load.specs.Loading.{loadedPlugin, openedWith, zeros}
+use Rattle.memory.specs.Writes.{openedWith}
+use Rattle.memory_load.specs.Loading.{loadedPlugin, zeros}
 use Rattle.memory_load.specs.SoFar.{SoFar, so-far-start, so-far-next}
 use Rattle.text_form.specs.Forms.{Read, found, torn, andThen, torn-found, readMany, many-exact}
 use Rattle.text_read.specs.declared.Next.{Next}
@@ -62,10 +65,6 @@ pub data PluginsRead (t : List ℕ) (at count domain first next : ℕ) : Next �
   stopped : (w : List ℕ) → Unfit t at count first next → PluginsRead t at count domain first next Torn w
   all : {w : List ℕ} {n rows from : ℕ} → PluginsSoFar t at domain first next w n rows from count → PluginsRead t at count domain first next (At n) w
 
-rows-unqueued : (l : List Plugin) → sumRows (map unqueued l) ≡ sumRows l
-rows-unqueued [] = refl
-rows-unqueued (p ∷ l) = ap (λ n. rowsOf p + n) (rows-unqueued l)
-
 -- what follows some that were read
 behind-some : (l m : List Plugin) (r : Read (List Plugin)) (rest : List ℕ) → andThen r (λ k s. found (l ++ k) s) ≡ found m rest
     → (k : List Plugin) × (m ≡ l ++ k)
@@ -87,7 +86,8 @@ module _ (t : List ℕ) (at domain first next : ℕ) where
     join = refl;
   }
 
-  module _ {w : List ℕ} {place rows from k : ℕ} (f : PluginsSoFar t at domain first next w place rows from k) (count : ℕ) (h : k < count) (most : count ≤ maxPlugins) where
+  module _ {w : List ℕ} {place rows from k : ℕ} (f : PluginsSoFar t at domain first next w place rows from k)
+      (count : ℕ) (h : k < count) (most : count ≤ maxPlugins) where
     few : length (f .done) ≤ maxPlugins
     few = omega (arith, f .count)
 

@@ -2,11 +2,10 @@
 use Prim.Native.Nat.{ℕ, _≤_, _<_}
 use native.Mathlib.Omega.{arith}
 use mathlib.Core.Path.{_≡_, refl, sym, ap, _∙_, subst}
-use mathlib.Core.Bool.{Bool, true, false, _&&_, true≢false}
-use mathlib.Core.List.{List, [], _∷_, _++_, map}
+use mathlib.Core.Bool.{Bool, true, false, _&&_}
+use mathlib.Core.List.{List, [], _∷_, map}
 use mathlib.Core.Option.{Option, none, some}
-use lib.Dec.{leb}
-use lib.ListN.{length, drop, length-map}
+use lib.ListN.{length}
 use borrow.Author.Tests.{le-leb, eq-eqb, ne-eqb}
 use Rattle.rules.specs.Basics.{all, _⊃_}
 use Rattle.rules.specs.Limits.{maxPlugins}
@@ -18,12 +17,11 @@ use Rattle.rules.specs.Conditions.{claimsOf, dependenciesServed, noCycles, load
 use Rattle.rules.specs.Load.{unqueued, loaded, opening, load}
 use Rattle.rules.specs.Outcomes.{Refused, Accepted}
 use Rattle.registry_load.specs.Words.{leavesLoad, Opens}
-use Rattle.rules_laws.specs.Laws.Tests.{by-test}
-use Rattle.rules_load.specs.Joining.{joinAll, behindIds, joined}
+use Rattle.rules_load.specs.Joining.{behindIds}
 use Rattle.rules_load.specs.Joins.{joined-loadable, served-unqueued, cycles-unqueued, available-served}
-use Rattle.rules_load.specs.Laws.Joining.{held-placed}
+use Rattle.rules_laws.specs.Laws.Placed.{held-placed}
 use Rattle.rules_load.specs.Laws.JoiningFits.{all-gathered}
-use Rattle.rules_load.specs.Laws.JoiningUnqueued.{claims-unqueued}
+use Rattle.rules_load.specs.Laws.Unqueued.{claims-unqueued}
 use Rattle.memory.specs.View.{view}
 use Rattle.memory_load.specs.Loading.{wordsOf}
 use Rattle.memory_load.specs.SoFar.{so-far-words}

@@ -8,7 +8,8 @@ ghost use Rattle.rules.specs.Load.{load};
 ghost use Rattle.rules.specs.Answers.{doneAnswer};
 ghost use Rattle.memory.specs.Layout.{places};
 ghost use Rattle.memory.specs.View.{decoded};
-ghost use Rattle.memory_load.specs.Loading.{openedWith, zeros};
+ghost use Rattle.memory.specs.Writes.{openedWith};
+ghost use Rattle.memory_load.specs.Loading.{zeros};
 ghost use Rattle.registry_load.specs.Blocks.{unqueuedTag, loadedLife, entryOf};
 ghost use Rattle.registry_load.specs.Lives.{lifeBy, countsBy};
 ghost use Rattle.registry_load.specs.Plugins.{JoinRead, PluginsRead};
@@ -276,7 +277,7 @@ fn read(w: &mut [u64; WORDS], domain: u64, text: &[u8]) -> Text
     if next.value < first.value {
         return Text::Bad;
     }
-    memory_load::open_words(w, domain, first.value, next.value);
+    memory::open_words(w, domain, first.value, next.value);
     let end = plugins(
         w,
         text,

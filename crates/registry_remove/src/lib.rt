@@ -1,32 +1,26 @@
 // Opening, which frees every place, and document 01's removal, which frees one and its rows.
 ghost use mathlib.Core.Path.{_≡_};
 ghost use mathlib.Core.Bool.{_&&_};
-ghost use mathlib.Core.List.{[], _∷_};
 ghost use Rattle.rules.specs.Outcomes.{Meets};
 ghost use Rattle.rules.specs.Basics.{any};
 ghost use Rattle.rules.specs.Holds.{plugins, isIdle};
 ghost use Rattle.rules.specs.Retirement.{isChildOf, remove};
 ghost use Rattle.rules.specs.Answers.{doneAnswer};
-ghost use Rattle.memory.specs.Layout.{domainWord};
 ghost use Rattle.memory.specs.View.{view};
-ghost use Rattle.memory.specs.Writes.{puts};
+ghost use Rattle.memory.specs.Writes.{openedWith};
 ghost use Rattle.registry_remove.specs.Words.{removedFrom};
 use memory::Life;
 use memory::Place;
 use memory::WORDS;
-use memory::layout;
 use memory::layout::PLACES;
 use rules::Done;
 use rules::refusal;
 
 // Open: domain, first id and next id, and all places free.
 pub fn open(m: &mut [u64; WORDS], domain: u64, first: u64)
-    ensures { λ _. ⌜ now (m .exit) ≡ puts (now (m .entry)) domainWord 0 (domain ∷ first ∷ first ∷ 0 ∷ []) ⌝ }
+    ensures { λ _. ⌜ now (m .exit) ≡ openedWith (now (m .entry)) domain first first ⌝ }
 {
-    m[layout::DOMAIN] = domain;
-    m[layout::FIRST] = first;
-    m[layout::NEXT] = first;
-    m[layout::OCCUPANCY] = 0;
+    memory::open_words(m, domain, first, first);
 }
 
 // Whether a registered plugin names the id as parent.

@@ -62,7 +62,7 @@ abbrev pub provisionsResolved : Plugin → Bool
 provisionsResolved p = all (resolvedIn (p .realms)) (provided p)
 
 -- "A dependency list is one that document 01's rule gives from the parent's list and some at most 16 different declared keys."
-abbrev pub givenBy : Realms → List Port → Port → List Port → List Port → List ℕ → Bool
+abbrev pub givenBy : Realms → (provisions : List Port) (anchor : Port) (parents list : List Port) (keys : List ℕ) → Bool
 givenBy z provisions anchor parents list keys =
     leb (length keys) maxDependencyKeys && not (twice keys) && samePorts (dependencyList z provisions anchor keys parents) list
 
@@ -70,7 +70,7 @@ givenBy z provisions anchor parents list keys =
 abbrev pub keysOf : List Port → List ℕ
 keysOf ports = map (λ (q : Port). q .key) ports
 
-unfoldable pub givenWithin : ℕ → Realms → List Port → Port → List Port → List Port → Bool
+unfoldable pub givenWithin : ℕ → Realms → (provisions : List Port) (anchor : Port) (parents list : List Port) → Bool
 givenWithin zero z provisions anchor parents list = givenBy z provisions anchor parents list []
 givenWithin (suc n) z provisions anchor parents list =
     givenBy z provisions anchor parents list (keysOf (take (suc n) list)) || givenWithin n z provisions anchor parents list

@@ -2,6 +2,7 @@ pub mod Tests
 pub mod Quiet
 pub mod Lookups
 pub mod Lowest
+pub mod Placed
 pub mod Members
 pub mod Pairs
 pub mod Realms

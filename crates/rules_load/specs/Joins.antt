@@ -2,7 +2,7 @@
 use Prim.Native.Nat.{ℕ, _+_, _<_}
 use native.Mathlib.Omega.{arith}
 use mathlib.Core.Path.{_≡_, refl, sym, ap, _∙_, subst}
-use mathlib.Core.Bool.{Bool, true, false, _&&_, and-true, and-false, true≢false}
+use mathlib.Core.Bool.{Bool, true, false, _&&_, and-true, true≢false}
 use mathlib.Core.List.{List, [], _∷_, _++_, append-nil}
 use lib.Dec.{leb}
 use lib.ListN.{length, length-append}
@@ -18,12 +18,13 @@ use Rattle.rules.specs.Conditions.{idsRise, parentLower, withinLimits, listsSho
 use Rattle.rules.specs.Conditions.{begunOnce, idleClean, activeWhole, queuedWithin, dependenciesServed, noCycles, loadable}
 use Rattle.rules_laws.specs.Laws.Tests.{by-test, both}
 use Rattle.rules_laws.specs.Laws.Members.{any-append, all-true, same-self}
-use Rattle.rules_load.specs.Joining.{portsJoin, lifeFits, standing, joins, joinAll, behindIds, joined}
+use Rattle.rules_load.specs.Joining.{joins, joinAll, behindIds, joined}
 use Rattle.rules_load.specs.Meets.{Meets, loadable-meets, meets-loadable}
 use Rattle.rules_load.specs.Laws.Lists.{any-intro, any-none, chained-true}
 use Rattle.rules_load.specs.Laws.Claims.{Apart, repeats-split}
 use Rattle.rules_load.specs.Laws.Joining.{claims-append, rows-append, rises-behind, next-above, parent-before, list-before}
-pub use Rattle.rules_load.specs.Laws.JoiningUnqueued.{unqueued-same, served-unqueued, cycles-unqueued}
+pub use Rattle.rules_load.specs.Laws.Unqueued.{served-unqueued, cycles-unqueued}
+pub use Rattle.rules_load.specs.Laws.JoiningUnqueued.{unqueued-same}
 pub use Rattle.rules_load.specs.Laws.JoiningServed.{available-active, available-served}
 use Rattle.rules_load.specs.Laws.JoiningFits.{Fits, fits-joins, joinAll-append, all-rise, all-gathered, in-middle, each-passes}
 
@@ -138,32 +139,11 @@ joined-loadable s = by-test (loadable s)
     (λ m. m ∙ sym n))
 
 -- A reader may stop at the first plugin that does not join.
-module _ (s : Said) (done rest : List Plugin) (p : Plugin) (i : s .plugins ≡ done ++ p ∷ rest) where
-  pub early-refused : joins (behindIds (s .first) done) done p ≡ false → loadable s ≡ false
-  early-refused n = by-test (loadable s)
-      (λ y. absurd (true≢false (sym (meets-joins s (loadable-meets s y) done p rest i) ∙ n)))
-      (λ e. e)
-
-  -- its id is too low, there are too many rows, a list is too long, its ports or its life do not fit
-  pub low-refused : p .id < behindIds (s .first) done → loadable s ≡ false
-  unfolding joins
-  low-refused h = early-refused (rw (lt-leb (behindIds (s .first) done) (p .id) h))
-
-  pub rows-refused : maxRows < sumRows done + rowsOf p → loadable s ≡ false
-  unfolding joins
-  rows-refused h = early-refused (rw (lt-leb (sumRows done + rowsOf p) maxRows h, and-false _))
-
-  pub long-refused : listsShort p ≡ false → loadable s ≡ false
-  unfolding joins
-  long-refused n = early-refused (rw (n, and-false _))
-
-  pub ports-refused : portsJoin (standing done) p ≡ false → loadable s ≡ false
-  unfolding joins
-  ports-refused n = early-refused (rw (n, and-false _))
-
-  pub life-refused : lifeFits p ≡ false → loadable s ≡ false
-  unfolding joins
-  life-refused n = early-refused (rw (n, and-false _))
+pub early-refused : (s : Said) (done rest : List Plugin) (p : Plugin) → s .plugins ≡ done ++ p ∷ rest → joins (behindIds (s .first) done) done p ≡ false
+    → loadable s ≡ false
+early-refused s done rest p i n = by-test (loadable s)
+    (λ y. absurd (true≢false (sym (meets-joins s (loadable-meets s y) done p rest i) ∙ n)))
+    (λ e. e)
 
 -- or where there are too many.
 pub many-refused : (s : Said) → maxPlugins < length (s .plugins) → loadable s ≡ false

@@ -1,10 +1,10 @@
 -- A load: the loaded registry starts runs as an opening does, its text is the old one, and every registry that operations build from
 -- an opening or a load meets the conditions again.
-use Prim.Native.Nat.{ℕ, zero, suc, _≤_}
+use Prim.Native.Nat.{ℕ, _≤_}
 use native.Mathlib.Omega.{arith}
 use mathlib.Core.Path.{_≡_, refl, sym, ap, _∙_, subst, subst⁻¹}
 use mathlib.Core.Bool.{true, false}
-use mathlib.Core.List.{List, [], _∷_, map}
+use mathlib.Core.List.{List, map}
 use mathlib.Core.Option.{Option, none, some}
 use mathlib.Core.Logic.{_≢_}
 use lib.Dec.{eqb, leb}
@@ -14,13 +14,13 @@ use Rattle.rules.specs.declared.Root.{Root}
 use Rattle.rules.specs.declared.Root.the-variants.{Unissued, Queued, Spent}
 use Rattle.rules.specs.Basics.{twice, last}
 use Rattle.rules.specs.Limits.{maxPlugins, maxRows}
-use Rattle.rules.specs.Holds.{Plugin, Registry, held, plugins, opened, lookup, sumRows}
+use Rattle.rules.specs.Holds.{Plugin, Registry, plugins, opened, lookup, sumRows}
 use Rattle.rules.specs.Refusals.{BadText, SameDomain}
-use Rattle.rules.specs.Steps.{Op, Call, Run, afterStep, answerTo, goOn, goOnWith, run}
+use Rattle.rules.specs.Steps.{Op, Call, afterStep, answerTo, run}
 use Rattle.rules.specs.Admission.{Invocation}
 use Rattle.rules.specs.Text.{Said, byId, said, text, textOf, readText, read-written, written-read}
 use Rattle.rules.specs.Conditions.{loadable}
-use Rattle.rules.specs.Load.{unqueuedRoot, unqueued, movedTo, placed, inPlaces, loaded, refused, opens, opening, load}
+use Rattle.rules.specs.Load.{unqueuedRoot, unqueued, movedTo, inPlaces, loaded, refused, opens, opening, load}
 use Rattle.rules_laws.specs.History.{story, Demand3}
 use Rattle.rules_laws.specs.Demand3.{Start, demand-3}
 use Rattle.rules_laws.specs.Laws.Tests.{by-test, both}
@@ -28,23 +28,12 @@ use Rattle.rules_laws.specs.Laws.Members.{In, lookup-in}
 use Rattle.rules_laws.specs.Built.{idsOf, Built}
 use Rattle.rules_laws.specs.Kept.{opened-built, step-built, built-start}
 use Rattle.text_laws.specs.Rising.{by-id-found}
+use Rattle.rules_laws.specs.Laws.Placed.{held-placed, length-placed}
 use Rattle.rules_load.specs.Formed.{Formed, text-formed}
 use Rattle.rules_load.specs.Meets.{loadable-meets}
 use Rattle.rules_load.specs.Laws.Sorting.{rises-strictly, rises-once, rises-sorted}
 use Rattle.rules_load.specs.Laws.Unqueued.{ifUnqueued, among-unqueued, moved-loadable, was, moved-formed}
 use Rattle.rules_load.specs.Twin.{built-loadable, loadable-built}
-
--- Places from the lowest hold the plugins in their order.
-pub held-placed : (n : ℕ) (ps : List Plugin) → length ps ≤ n → held (placed n ps) ≡ ps
-held-placed zero [] h = refl
-held-placed zero (p ∷ ps) h = absurd (omega arith)
-held-placed (suc n) [] h = held-placed n [] (omega arith)
-held-placed (suc n) (p ∷ ps) h = ap (λ l. p ∷ l) (held-placed n ps (omega arith))
-
-pub length-placed : (n : ℕ) (ps : List Plugin) → length (placed n ps) ≡ n
-length-placed zero ps = refl
-length-placed (suc n) [] = ap suc (length-placed n [])
-length-placed (suc n) (p ∷ ps) = ap suc (length-placed n ps)
 
 -- What is in places says what was said, and no id stands in two of them.
 module _ (s : Said) (e : loadable s ≡ true) where
@@ -103,10 +92,6 @@ module _ (d : ℕ) (s : Said) (f : Formed s) (e : loadable s ≡ true) where
 
 -- Exactly the texts that say something loadable open a registry, under another domain than theirs: 24 and then 25 refuse the others.
 module _ (d : ℕ) (t : List ℕ) where
-  pub load-torn : readText t ≡ none → load d t ≡ refused BadText
-  unfolding load
-  load-torn i = rw i
-
   module _ (s : Said) (i : readText t ≡ some s) where
     pub load-unfit : loadable s ≡ false → load d t ≡ refused BadText
     unfolding load
@@ -152,13 +137,6 @@ pub reached-built : {r : Registry} → Reached r → Built r
 reached-built (by-opening d f l) = opened-built d f l
 reached-built (by-load d t {r} e) = opens-built d t r e
 reached-built (by-step {r} k o) = step-built r (reached-built k) o
-
-pub reached-run : {r : Registry} → Reached r → (ops : List Op) → Reached (run r ops .registry)
-reached-run {r} k ops = go (record { registry = r; events = [] }) ops k
-  where
-    go : (s : Run) (os : List Op) → Reached (s .registry) → Reached (goOnWith s os .registry)
-    go s [] k = k
-    go s (o ∷ os) k = go (goOn s o) os (by-step k o)
 
 -- It meets the conditions.
 pub reached-loadable : {r : Registry} → Reached r → loadable (said r) ≡ true

@@ -18,7 +18,7 @@ use Rattle.rules.specs.Conditions.{among, idsRise, parentLower, listsShort, rea
 use Rattle.rules.specs.Conditions.{idleClean, activeWhole, queuedWithin, activeIn, dependenciesServed, loadable}
 use Rattle.rules_laws.specs.Laws.Tests.{by-test, both}
 use Rattle.rules_laws.specs.Laws.Lookups.{lookup-id}
-use Rattle.rules_laws.specs.Laws.Members.{In, all-true, lookup-in}
+use Rattle.rules_laws.specs.Laws.Members.{In, any-some, all-true, lookup-in}
 use Rattle.rules_laws.specs.Laws.Table.{is-active}
 use Rattle.rules_laws.specs.Built.{idsOf, Ruled, Served, Wanted, Member, Built}
 use Rattle.rules_laws.specs.Kept.Places.{distinct}
@@ -26,7 +26,7 @@ use Rattle.text_laws.specs.Rising.{by-id-rises}
 use Rattle.text_laws.specs.Sizes.{held-most}
 use Rattle.rules_load.specs.Formed.{Formed}
 use Rattle.rules_load.specs.Meets.{Meets, loadable-meets, meets-loadable}
-use Rattle.rules_load.specs.Laws.Lists.{all-intro, any-intro, any-some}
+use Rattle.rules_load.specs.Laws.Lists.{all-intro, any-intro}
 use Rattle.rules_load.specs.Laws.One.{shaped-short, shaped-resolved, lively-begun, lively-clean, lively-whole, lively-queued, tests-shaped, tests-lively}
 use Rattle.rules_load.specs.Laws.Sorting.{Lists, lists-sorted, rises-end, rises-within, strictly-rises}
 use Rattle.rules_load.specs.Laws.Cycles.{ranked-acyclic, acyclic-ranked}
@@ -165,9 +165,6 @@ built-loadable r b =
     let l = lists-sorted r (b .once) in
     meets-loadable (said r) (built-meets r ps l b
     (strictly-rises (r .next) (r .first) ps (b .first) (by-id-rises (plugins r)) λ a m. let k = b .members a (l .here a m) in (k .issued, k .below)))
-
-pub built-formed : (r : Registry) → Built r → Formed (said r)
-built-formed r b = formed r (byId (plugins r)) (lists-sorted r (b .once)) b
 
 -- And where they are met, a run can start. That no id stands in two places the text cannot say: it has each id once.
 pub loadable-built : (r : Registry) → length (r .places) ≡ maxPlugins → twice (idsOf (plugins r)) ≡ false → Formed (said r)

@@ -121,7 +121,8 @@ option-one x y = told-one (λ r. parentOf (r .tag) (r .value)) (λ r. r .next) o
 pub pair-one : {t : List ℕ} {at : Next} {read : List ℕ → Read Port} {r s : Pair} → PairRead read t at r → PairRead read t at s → r ≡ s
 pair-one x y = told-one (λ r. port (r .key) (r .realm)) (λ r. r .next) pairSaid (λ a b. refl) x y
 
-pub provision-one : {t : List ℕ} {at : Next} {read : List ℕ → Read holds.Provision} {r s : Provision} → ProvisionRead read t at r → ProvisionRead read t at s → r ≡ s
+pub provision-one : {t : List ℕ} {at : Next} {read : List ℕ → Read holds.Provision} {r s : Provision}
+    → ProvisionRead read t at r → ProvisionRead read t at s → r ≡ s
 provision-one x y = told-one provisionIn (λ r. r .next) provisionSaid (λ a b. refl) x y
 
 pub root-one : {t : List ℕ} {at : Next} {read : List ℕ → Read Root} {r s : Rooted} → RootRead read t at r → RootRead read t at s → r ≡ s

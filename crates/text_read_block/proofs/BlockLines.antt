@@ -1,214 +1,285 @@
--- The lines of a block, each behind the one before: where the last is whole all are, and their numbers are those of the plugin.
-use Prim.Native.Nat.{ℕ, _+_}
-use native.Mathlib.Omega.{arith}
+-- A block from its lines: each line goes on where the one before it ends, and what they say together is a plugin.
+use Prim.Native.Nat.{ℕ}
 use mathlib.Core.Path.{_≡_, refl, sym, ap, _∙_, subst}
 use mathlib.Core.Bool.{Bool, not}
-use mathlib.Core.List.{List, [], _∷_}
+use mathlib.Core.List.{List}
 use mathlib.Core.Option.{Option}
 use lib.Dec.{eqb}
-use lib.ListN.{length, drop, take, replicate}
-use Rattle.rules.specs.Basics.{isSome, orElse, yesNo}
-use Rattle.rules.specs.Limits.{maxProvisionKeys}
-use Rattle.rules.specs.declared.Port.{Port}
+use Rattle.rules.specs.declared.Phase.{Phase}
 use Rattle.rules.specs.declared.Root.{Root}
-use Rattle.rules.specs.Holds.{port, Realms, Plugin, defaultRealm}
-use Rattle.rules.specs.Holds as holds
-use Rattle.rules.specs.Queries.{phaseNumber}
-use Rattle.rules.specs.Conditions.{claims}
-use Rattle.rules.specs.Text.{Lines, lines, realms, pluginOf, block}
-use Rattle.rules.specs.Text.Values.{keyRealm, keyRealmValue, phase, zeroOrOne, rootAndQueued}
-use Rattle.memory.specs.View.{parentOf, phaseOf, rootOf}
-use Rattle.memory.specs.Writes.{rootTag, rootRevision}
-use Rattle.memory_values.specs.Values.{maskOf, valuesOf}
-use Rattle.text_form.specs.Bytes.{bytes}
-use Rattle.text_form.specs.Forms.{Read, torn-found, Form, behind, _then_}
+use lib.ListN.{replicate, drop}
+use Rattle.rules.specs.Holds.{Plugin, port, defaultRealm}
+use Rattle.rules.specs.Text.{Lines, lines, pluginOf, block, realms}
+use Rattle.rules.specs.Text.Values as values
+use Rattle.rules.specs.Text.Values.{keyRealm, keyRealmValue, rootAndQueued, zeroOrOne}
+use Rattle.text_form.specs.Forms.{Read, _then_, torn-found}
 use Rattle.text_form.specs.Lines.{line, list, number, numberOrNone}
+use Rattle.memory.specs.View.{parentOf, phaseOf, rootOf}
 use Rattle.text_read.specs.declared.Next.{Next}
 use Rattle.text_read.specs.declared.Next.the-variants.{At, Torn}
 use Rattle.text_read.specs.declared.Number.{Number}
 use Rattle.text_read.specs.declared.NumberOrNone.{NumberOrNone}
 use Rattle.text_read.specs.declared.Pair.{Pair}
 use Rattle.text_read.specs.declared.Rooted.{Rooted}
-use Rattle.text_read.specs.Reads.{Reads, reads-at, reads-none, next-one}
+use Rattle.text_read.specs.Reads.{Reads, reads-at}
 use Rattle.text_read.specs.Ways.{then-next, like-next}
-use Rattle.text_read.specs.Answers.{NumberRead, OptionRead, PhaseRead, MarkRead, RootRead, PairRead, optionSaid, phaseSaid, markSaid, rootSaid}
-use Rattle.text_read_block.specs.declared.Listed.{Listed}
-use Rattle.text_read_block.specs.declared.Provided.{Provided}
+use Rattle.text_read.specs.Answers.{NumberRead, PhaseRead, MarkRead, OptionRead, PairRead, RootRead, phaseSaid, markSaid, optionSaid, rootSaid}
+use Rattle.text_read_block.specs.declared.Head.{Head}
+use Rattle.text_read_block.specs.declared.Lists.{Lists}
 use Rattle.text_read_block.specs.declared.Block.{Block}
-use Rattle.text_read_block.specs.Rows.{rowPut, rowsPut, allPut}
-use Rattle.text_read_block.specs.Lists.{PortsRead, ProvisionsRead, portsOf, provisionLines}
-use Rattle.text_read_block.specs.Blocks.{BlockRead, whole, torn, blank, blockOf}
+use Rattle.text_read_block.specs.Rows.{rowPut, rowsPut}
+use Rattle.text_read_block.specs.Lists.{portsOf}
+use Rattle.text_read_block.specs.Blocks.{HeadRead, ListsRead, BlockRead, blank, blockOf}
+use Rattle.text_read_block.specs.Blocks.BlockRead.{torn, whole}
 
--- What is whole begins at a place.
-pub still-at : {A : Type 0} {read : List ℕ → Read A} {t : List ℕ} (m : Next) {a : A} {n : ℕ} → Reads read t m a (At n) → (k : ℕ) × (m ≡ At k)
-still-at (At k) x = (k, refl)
-still-at {t = t} Torn {a} {n} x = torn-found a (drop n t) (sym (x .said))
+-- What is whole began at a place.
+came : {A : Type 0} {read : List ℕ → Read A} {t : List ℕ} {at : Next} {a : A} {n : ℕ} → Reads read t at a (At n) → (k : ℕ) × (at ≡ At k)
+came {at = At k} x = (k, refl)
+came {t = t} {at = Torn} {a} {n} x = torn-found a (drop n t) (sym (x .said))
 
-abbrev provs : Form (List holds.Provision)
-provs = list "provs" "prov" keyRealmValue
+module _ (t : List ℕ) (at : Next) (id : Number) (parent : NumberOrNone) (phase retired generation revision payload : Number) (root : Rooted) (anchor : Pair)
+  where
+    abbrev parent-said : Option ℕ
+    parent-said = parentOf (parent .tag) (parent .value)
 
-abbrev fromDeps : Form (List Port × List holds.Provision)
-fromDeps = list "deps" "dep" keyRealm then provs
+    abbrev phase-told : Phase
+    phase-told = phaseOf (phase .value)
 
-abbrev fromRealms : Form (Realms × (List Port × List holds.Provision))
-fromRealms = realms then fromDeps
+    abbrev retired-said : Bool
+    retired-said = not (eqb (retired .value) 0)
 
--- The lines that were read.
-module _ (t : List ℕ) (at : Next) (id : Number) (parent : NumberOrNone) (ph mark generation revision payload : Number) (root : Rooted) (anchor : Pair)
-    (z d : Listed) (v : Provided) (zeros₁ words₁ zeros₂ words₂ claimed zeros₄ words₃ words₄ : List ℕ)
-    (x₁ : NumberRead (line "id" number .read) t at id)
-    (x₂ : OptionRead (line "parent" numberOrNone .read) t (id .next) parent)
-    (x₃ : PhaseRead (line "phase" phase .read) t (parent .next) ph)
-    (x₄ : MarkRead (line "retired" zeroOrOne .read) t (ph .next) mark)
-    (x₅ : NumberRead (line "generation" number .read) t (mark .next) generation)
-    (x₆ : NumberRead (line "revision" number .read) t (generation .next) revision)
-    (x₇ : NumberRead (line "payload" number .read) t (revision .next) payload)
-    (x₈ : RootRead (rootAndQueued .read) t (payload .next) root)
-    (x₉ : PairRead (line "anchor" keyRealm .read) t (root .next) anchor)
-    (y₁ : PortsRead (bytes "realms=") (bytes "realm=") t (anchor .next) zeros₁ z words₁)
-    (y₂ : PortsRead (bytes "deps=") (bytes "dep=") t (z .next) zeros₂ d words₂)
-    (y₃ : ProvisionsRead t (d .next) claimed zeros₄ v words₃ words₄) where
-  abbrev plugin : Plugin
-  plugin = record {
-    id = id .value;
-    parent = parentOf (parent .tag) (parent .value);
-    anchor = port (anchor .key) (anchor .realm);
-    realms = record { rows = y₁ .ports; other = defaultRealm };
-    dependencies = y₂ .ports;
-    provisions = y₃ .provisions;
-    revision = revision .value;
-    payload = payload .value;
-    phase = phaseOf (ph .value);
-    retired = not (eqb (mark .value) 0);
-    generation = generation .value;
-    root = rootOf (root .root) (root .revision) (root .argument);
-  }
+    abbrev root-said : Root
+    root-said = rootOf (root .root) (root .revision) (root .argument)
 
-  tails : Reads (fromRealms .read) t (anchor .next) (plugin .realms, (plugin .dependencies, plugin .provisions)) (v .next)
-  tails =
-      then-next realms fromDeps
-      (like-next (list "realms" "realm" keyRealm) (λ (rows : List Port). record { rows = rows; other = defaultRealm }) (y₁ .reads))
-      (then-next (list "deps" "dep" keyRealm) provs (y₂ .reads) (y₃ .reads))
-
-  abbrev fromRoot : Form (Root × (Port × (Realms × (List Port × List holds.Provision))))
-  fromRoot = rootAndQueued then line "anchor" keyRealm then fromRealms
-
-  rooted : Reads (fromRoot .read) t (payload .next) (plugin .root, (plugin .anchor, (plugin .realms, (plugin .dependencies, plugin .provisions)))) (v .next)
-  rooted = then-next rootAndQueued (line "anchor" keyRealm then fromRealms) (x₈ .reads) (then-next (line "anchor" keyRealm) fromRealms (x₉ .reads) tails)
-
-  abbrev Numbers : Type 0
-  Numbers = ℕ × (ℕ × (ℕ × (Root × (Port × (Realms × (List Port × List holds.Provision))))))
-
-  abbrev fromGeneration : Form Numbers
-  fromGeneration = line "generation" number then line "revision" number then line "payload" number then fromRoot
-
-  numbers : Reads (fromGeneration .read) t (mark .next)
-      (plugin .generation, (plugin .revision, (plugin .payload, (plugin .root, (plugin .anchor, (plugin .realms, (plugin .dependencies, plugin .provisions))))))) (v .next)
-  numbers =
-      then-next (line "generation" number) (line "revision" number then line "payload" number then fromRoot) (x₅ .reads)
-      (then-next (line "revision" number) (line "payload" number then fromRoot) (x₆ .reads) (then-next (line "payload" number) fromRoot (x₇ .reads) rooted))
-
-  all : Reads (block .read) t at plugin (v .next)
-  all = like-next lines pluginOf
-      (then-next (line "id" number) (line "parent" numberOrNone then line "phase" phase then line "retired" zeroOrOne then fromGeneration) (x₁ .reads)
-      (then-next (line "parent" numberOrNone) (line "phase" phase then line "retired" zeroOrOne then fromGeneration) (x₂ .reads)
-      (then-next (line "phase" phase) (line "retired" zeroOrOne then fromGeneration) (x₃ .reads)
-      (then-next (line "retired" zeroOrOne) fromGeneration (x₄ .reads) numbers))))
-
-  pub lines-torn : v .next ≡ Torn → BlockRead t at blank
-  lines-torn e = torn plugin (reads-at all e)
-
-  abbrev told : ℕ → Block
-  told n = record {
-    next = At n;
-    id = id .value;
-    tag = parent .tag;
-    parent = parent .value;
-    phase = ph .value;
-    retired = mark .value;
-    generation = generation .value;
-    revision = revision .value;
-    payload = payload .value;
-    root = root .root;
-    queued = root .revision;
-    realms = z .count;
-    dependencies = d .count;
-    provisions = v .count;
-    valued = v .valued;
-    mask = v .mask;
-    «realm_words» = words₁;
-    «dependency_words» = words₂;
-    «claim_words» = words₃;
-    values = words₄;
-  }
-
-  module _ (n : ℕ) (e : v .next ≡ At n) (a₁ : zeros₁ ≡ replicate 32 0) (a₂ : zeros₂ ≡ replicate 96 0) (a₃ : claimed ≡ rowPut (replicate 32 0) 0 (anchor .key) (anchor .realm)) (a₄ : zeros₄ ≡ replicate 15 0) where
-    atDeps : (k : ℕ) × (d .next ≡ At k)
-    atDeps = still-at (d .next) (reads-at (y₃ .reads) e)
-
-    atRealms : (k : ℕ) × (z .next ≡ At k)
-    atRealms = still-at (z .next) (reads-at (y₂ .reads) (atDeps .1))
-
-    atAnchor : (k : ℕ) × (anchor .next ≡ At k)
-    atAnchor = still-at (anchor .next) (reads-at (y₁ .reads) (atRealms .1))
-
-    atRoot : (k : ℕ) × (root .next ≡ At k)
-    atRoot = still-at (root .next) (reads-at (x₉ .reads) (atAnchor .1))
-
-    atPayload : (k : ℕ) × (payload .next ≡ At k)
-    atPayload = still-at (payload .next) (reads-at (x₈ .reads) (atRoot .1))
-
-    atRevision : (k : ℕ) × (revision .next ≡ At k)
-    atRevision = still-at (revision .next) (reads-at (x₇ .reads) (atPayload .1))
-
-    atGeneration : (k : ℕ) × (generation .next ≡ At k)
-    atGeneration = still-at (generation .next) (reads-at (x₆ .reads) (atRevision .1))
-
-    atMark : (k : ℕ) × (mark .next ≡ At k)
-    atMark = still-at (mark .next) (reads-at (x₅ .reads) (atGeneration .1))
-
-    atPhase : (k : ℕ) × (ph .next ≡ At k)
-    atPhase = still-at (ph .next) (reads-at (x₄ .reads) (atMark .1))
-
-    atParent : (k : ℕ) × (parent .next ≡ At k)
-    atParent = still-at (parent .next) (reads-at (x₃ .reads) (atPhase .1))
-
-    parent-one : parent ≡ optionSaid (plugin .parent) (At (atParent .0))
-    parent-one = x₂ .one ∙ ap (optionSaid (plugin .parent)) (atParent .1)
-
-    phase-one : ph ≡ phaseSaid (plugin .phase) (At (atPhase .0))
-    phase-one = x₃ .one ∙ ap (phaseSaid (plugin .phase)) (atPhase .1)
-
-    mark-one : mark ≡ markSaid (plugin .retired) (At (atMark .0))
-    mark-one = x₄ .one ∙ ap (markSaid (plugin .retired)) (atMark .1)
-
-    root-one : root ≡ rootSaid (plugin .root) (At (atRoot .0))
-    root-one = x₈ .one ∙ ap (rootSaid (plugin .root)) (atRoot .1)
-
-    words : told n ≡ blockOf plugin n
-    unfolding rowsPut
-    words = λ x. record {
-      next = At n;
-      id = id .value;
-      tag = ap (λ (r : NumberOrNone). r .tag) parent-one x;
-      parent = ap (λ (r : NumberOrNone). r .value) parent-one x;
-      phase = ap (λ (r : Number). r .value) phase-one x;
-      retired = ap (λ (r : Number). r .value) mark-one x;
-      generation = generation .value;
-      revision = revision .value;
-      payload = payload .value;
-      root = ap (λ (r : Rooted). r .root) root-one x;
-      queued = ap (λ (r : Rooted). r .revision) root-one x;
-      realms = y₁ .count x;
-      dependencies = y₂ .count x;
-      provisions = y₃ .count x;
-      valued = y₃ .valued x;
-      mask = y₃ .mask x;
-      «realm_words» = (y₁ .stored ∙ ap (λ l. rowsPut l 0 (y₁ .ports)) a₁) x;
-      «dependency_words» = (y₂ .stored ∙ ap (λ l. rowsPut l 0 (y₂ .ports)) a₂) x;
-      «claim_words» = (y₃ .claims-stored ∙ ap (λ l. rowsPut l 1 (portsOf (y₃ .provisions))) a₃) x;
-      values = (y₃ .values-stored ∙ ap (λ l. allPut l 0 (valuesOf (y₃ .provisions))) a₄) x;
+    pub head-read
+        : NumberRead (line "id" number .read) t at id
+        → OptionRead (line "parent" numberOrNone .read) t (id .next) parent
+        → PhaseRead (line "phase" values.phase .read) t (parent .next) phase
+        → MarkRead (line "retired" zeroOrOne .read) t (phase .next) retired
+        → NumberRead (line "generation" number .read) t (retired .next) generation
+        → NumberRead (line "revision" number .read) t (generation .next) revision
+        → NumberRead (line "payload" number .read) t (revision .next) payload
+        → RootRead (rootAndQueued .read) t (payload .next) root
+        → PairRead (line "anchor" keyRealm .read) t (root .next) anchor
+        → HeadRead t at (record {
+          id = id .value;
+          tag = parent .tag;
+          parent = parent .value;
+          phase = phase .value;
+          retired = retired .value;
+          generation = generation .value;
+          revision = revision .value;
+          payload = payload .value;
+          root = root .root;
+          queued = root .revision;
+          key = anchor .key;
+          realm = anchor .realm;
+          next = anchor .next;
+        })
+    head-read i p h m g v l r q = record {
+      id-end = id .next;
+      parent-end = parent .next;
+      phase-end = phase .next;
+      retired-end = retired .next;
+      generation-end = generation .next;
+      revision-end = revision .next;
+      payload-end = payload .next;
+      root-end = root .next;
+      parent = parent-said;
+      phase-said = phase-told;
+      retired = retired-said;
+      root = root-said;
+      id-read = i .reads;
+      parent-read = p .reads;
+      phase-read = h .reads;
+      retired-read = m .reads;
+      generation-read = g .reads;
+      revision-read = v .reads;
+      payload-read = l .reads;
+      root-read = r .reads;
+      anchor-read = q .reads;
+      words = λ n e.
+          let s = came (reads-at (q .reads) e) in
+          let a = came (reads-at (r .reads) (s .1)) in
+          let b = came (reads-at (l .reads) (a .1)) in
+          let c = came (reads-at (v .reads) (b .1)) in
+          let d = came (reads-at (g .reads) (c .1)) in
+          let k = came (reads-at (m .reads) (d .1)) in
+          let o = came (reads-at (h .reads) (k .1)) in
+          let parent-one : parent ≡ optionSaid parent-said (At (o .0)) = p .one ∙ ap (optionSaid parent-said) (o .1) in
+          let phase-one : phase ≡ phaseSaid phase-told (At (k .0)) = h .one ∙ ap (phaseSaid phase-told) (k .1) in
+          let retired-one : retired ≡ markSaid retired-said (At (d .0)) = m .one ∙ ap (markSaid retired-said) (d .1) in
+          let root-one : root ≡ rootSaid root-said (At (s .0)) = r .one ∙ ap (rootSaid root-said) (s .1) in
+          λ x. record {
+            id = id .value;
+            tag = parent-one x .tag;
+            parent = parent-one x .value;
+            phase = phase-one x .value;
+            retired = retired-one x .value;
+            generation = generation .value;
+            revision = revision .value;
+            payload = payload .value;
+            root = root-one x .root;
+            queued = root-one x .revision;
+            key = anchor .key;
+            realm = anchor .realm;
+            next = anchor .next;
+          };
     }
 
-    pub lines-whole : BlockRead t at (told n)
-    lines-whole = subst (BlockRead t at) (sym words) (whole plugin n refl (reads-at all e))
+-- The answer of the lines and the lists, from a place behind them or from none.
+module _ (t : List ℕ) (at : Next) (head : Head) (lists : Lists) (rows needs first claims kept : List ℕ)
+    (h : HeadRead t at head)
+    (f : first ≡ rowPut (replicate 32 0) 0 (head .key) (head .realm))
+    (l : ListsRead t (head .next) (replicate 32 0) (replicate 96 0) first (replicate 15 0) lists rows needs claims kept)
+  where
+    abbrev told : Lines
+    told = (
+      head .id,
+      (
+        h .parent,
+        (
+          h .phase-said,
+          (
+            h .retired,
+            (
+              head .generation,
+              (
+                head .revision,
+                (
+                  head .payload,
+                  (
+                    h .root,
+                    (
+                      port (head .key) (head .realm),
+                      (
+                        record { rows = l .realms-read .ports; other = defaultRealm },
+                        (l .dependencies-read .ports, l .provisions-read .provisions),
+                      ),
+                    ),
+                  ),
+                ),
+              ),
+            ),
+          ),
+        ),
+      ),
+    )
+
+    abbrev plugin : Plugin
+    plugin = pluginOf told
+
+    lines-read : Reads (lines .read) t at told (lists .next)
+    lines-read =
+        let f12 = list "provs" "prov" keyRealmValue in
+        let f11 = list "deps" "dep" keyRealm then f12 in
+        let f10 = realms then f11 in
+        let f9 = line "anchor" keyRealm then f10 in
+        let f8 = rootAndQueued then f9 in
+        let f7 = line "payload" number then f8 in
+        let f6 = line "revision" number then f7 in
+        let f5 = line "generation" number then f6 in
+        let f4 = line "retired" zeroOrOne then f5 in
+        let f3 = line "phase" values.phase then f4 in
+        let f2 = line "parent" numberOrNone then f3 in
+        then-next (line "id" number) f2 (h .id-read)
+        (then-next (line "parent" numberOrNone) f3 (h .parent-read)
+        (then-next (line "phase" values.phase) f4 (h .phase-read)
+        (then-next (line "retired" zeroOrOne) f5 (h .retired-read)
+        (then-next (line "generation" number) f6 (h .generation-read)
+        (then-next (line "revision" number) f7 (h .revision-read)
+        (then-next (line "payload" number) f8 (h .payload-read)
+        (then-next rootAndQueued f9 (h .root-read)
+        (then-next (line "anchor" keyRealm) f10 (h .anchor-read)
+        (then-next realms f11
+        (like-next (list "realms" "realm" keyRealm) (λ rows. record { rows = rows; other = defaultRealm }) (l .realms-read .reads))
+        (then-next (list "deps" "dep" keyRealm) f12 (l .dependencies-read .reads) (l .provisions-read .reads)))))))))))
+
+    all-read : Reads (block .read) t at plugin (lists .next)
+    all-read = like-next lines pluginOf lines-read
+
+    pub block-ends : lists .next ≡ Torn → BlockRead t at blank
+    block-ends e = torn plugin (reads-at all-read e)
+
+    abbrev answer : ℕ → Block
+    answer n = record {
+      next = At n;
+      id = head .id;
+      tag = head .tag;
+      parent = head .parent;
+      phase = head .phase;
+      retired = head .retired;
+      generation = head .generation;
+      revision = head .revision;
+      payload = head .payload;
+      root = head .root;
+      queued = head .queued;
+      realms = lists .realms;
+      dependencies = lists .dependencies;
+      provisions = lists .provisions;
+      valued = lists .valued;
+      mask = lists .mask;
+      «realm_words» = rows;
+      «dependency_words» = needs;
+      «claim_words» = claims;
+      values = kept;
+    }
+
+    said : (n : ℕ) → lists .next ≡ At n → blockOf plugin n ≡ answer n
+    unfolding rowsPut
+    said n e =
+        let z = l .realms-read in
+        let d = l .dependencies-read in
+        let v = l .provisions-read in
+        let b = came (reads-at (v .reads) e) in
+        let c = came (reads-at (d .reads) (b .1)) in
+        let k = came (reads-at (z .reads) (c .1)) in
+        let words = h .words (k .0) (k .1) in
+        let anchored : claims ≡ rowsPut (rowPut (replicate 32 0) 0 (head .key) (head .realm)) 1 (portsOf (v .provisions)) =
+        v .claims-stored ∙ ap (λ (w : List ℕ). rowsPut w 1 (portsOf (v .provisions))) f in
+        sym (λ x. record {
+          next = At n;
+          id = head .id;
+          tag = words x .tag;
+          parent = words x .parent;
+          phase = words x .phase;
+          retired = words x .retired;
+          generation = head .generation;
+          revision = head .revision;
+          payload = head .payload;
+          root = words x .root;
+          queued = words x .queued;
+          realms = z .count x;
+          dependencies = d .count x;
+          provisions = v .count x;
+          valued = v .valued x;
+          mask = v .mask x;
+          «realm_words» = z .stored x;
+          «dependency_words» = d .stored x;
+          «claim_words» = anchored x;
+          values = v .values-stored x;
+        })
+
+    pub block-said : (n : ℕ) → lists .next ≡ At n → BlockRead t at (record {
+      next = At n;
+      id = head .id;
+      tag = head .tag;
+      parent = head .parent;
+      phase = head .phase;
+      retired = head .retired;
+      generation = head .generation;
+      revision = head .revision;
+      payload = head .payload;
+      root = head .root;
+      queued = head .queued;
+      realms = lists .realms;
+      dependencies = lists .dependencies;
+      provisions = lists .provisions;
+      valued = lists .valued;
+      mask = lists .mask;
+      «realm_words» = rows;
+      «dependency_words» = needs;
+      «claim_words» = claims;
+      values = kept;
+    })
+    block-said n e = subst (BlockRead t at) (said n e) (whole plugin n refl (reads-at all-read e))

@@ -16,7 +16,6 @@ use Rattle.text_read.specs.declared.Pair.{Pair}
 use Rattle.text_read.specs.Reads.{Reads, reads-at, reads-none}
 use Rattle.text_read.specs.Lists.{many-none, many-more, many-torn, counted-next}
 use Rattle.text_read.specs.Answers.{NumberRead, PairRead}
-use Rattle.text_read_block.specs.declared.Listed.{Listed}
 use Rattle.text_read_block.specs.Lists.{PortsRead}
 use Rattle.text_read_block.specs.Rows.{rowPut, rowsPut, rows-snoc}
 

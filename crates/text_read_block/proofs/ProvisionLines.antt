@@ -2,7 +2,7 @@
 use Prim.Native.Nat.{ℕ, _+_, _^_, _≤_, _<_}
 use native.Mathlib.Omega.{arith}
 use mathlib.Core.Path.{_≡_, refl, sym, ap, _∙_, subst}
-use mathlib.Core.Bool.{true, false}
+use mathlib.Core.Bool.{false}
 use mathlib.Core.List.{List, [], _∷_, _++_, map-append}
 use mathlib.Core.Option.{Option, none, some}
 use lib.Dec.{ltb}
@@ -27,7 +27,6 @@ use Rattle.text_read.specs.Lists.{many-none, many-more, many-torn, counted-next
 use Rattle.text_read.specs.Answers.{NumberRead, ProvisionRead, provisionIn, provisionSaid}
 use Rattle.memory_values.specs.Values.{maskOf, valuesOf}
 use Rattle.memory_values.specs.Given.{mask-below, mask-none, mask-some, values-more}
-use Rattle.text_read_block.specs.declared.Provided.{Provided}
 use Rattle.text_read_block.specs.Lists.{ProvisionsRead, maskWith, portsOf}
 use Rattle.text_read_block.specs.Rows.{rowPut, rowsPut, rows-snoc, onePut, allPut, all-snoc}
 use Rattle.text_read_block.specs.Valued.{valuedOf, valued-snoc, valued-most}

@@ -2,25 +2,86 @@
 use Prim.Native.Nat.{ℕ, suc, _+_, _*_, _≤_}
 use native.Mathlib.Omega.{arith}
 use mathlib.Core.Path.{_≡_, refl, ap, _∙_, subst}
+use mathlib.Core.Bool.{Bool}
 use mathlib.Core.List.{List}
+use mathlib.Core.Option.{Option}
 use lib.ListN.{length, take, replicate, length-map, length-replicate}
 use lib.Seq.{take-all}
 use Rattle.rules.specs.Basics.{isSome, orElse, yesNo}
 use Rattle.rules.specs.Limits.{maxProvisionKeys, maxRealmRows, maxDependencies}
-use Rattle.rules.specs.Holds.{Plugin, provided, defaultRealm}
+use Rattle.rules.specs.declared.Phase.{Phase}
+use Rattle.rules.specs.declared.Root.{Root}
+use Rattle.rules.specs.Holds.{Plugin, port, provided, defaultRealm}
 use Rattle.rules.specs.Ports.{flat}
 use Rattle.rules.specs.Queries.{phaseNumber}
 use Rattle.rules.specs.Conditions.{claims}
 use Rattle.rules.specs.Text.{block}
+use Rattle.rules.specs.Text.Values.{phase, zeroOrOne, rootAndQueued, keyRealm}
+use Rattle.text_form.specs.Bytes.{bytes}
+use Rattle.text_form.specs.Lines.{line, number, numberOrNone}
 use Rattle.memory.specs.Writes.{rootTag, rootRevision}
 use Rattle.memory_values.specs.Values.{maskOf, valuesOf}
 use Rattle.text_read.specs.declared.Next.{Next}
 use Rattle.text_read.specs.declared.Next.the-variants.{At, Torn}
 use Rattle.text_read.specs.Reads.{Reads, next-one, value-one}
+use Rattle.text_read_block.specs.declared.Head.{Head}
+use Rattle.text_read_block.specs.declared.Lists.{Lists}
 use Rattle.text_read_block.specs.declared.Block.{Block}
 use Rattle.text_read_block.specs.Rows.{rowsPut, allPut, rows-front, all-front, rows-length, all-length}
+use Rattle.text_read_block.specs.Lists.{PortsRead, ProvisionsRead}
 use Rattle.text_read_block.specs.Valued.{valuedOf}
 
+-- The lines before the lists, each from the place behind the one before it.
+pub record HeadRead (t : List ℕ) (at : Next) (r : Head) : Type 0 where
+  pub id-end : Next
+  pub parent-end : Next
+  pub phase-end : Next
+  pub retired-end : Next
+  pub generation-end : Next
+  pub revision-end : Next
+  pub payload-end : Next
+  pub root-end : Next
+  pub parent : Option ℕ
+  pub phase-said : Phase
+  pub retired : Bool
+  pub root : Root
+  pub id-read : Reads (line "id" number .read) t at (r .id) id-end
+  pub parent-read : Reads (line "parent" numberOrNone .read) t id-end parent parent-end
+  pub phase-read : Reads (line "phase" phase .read) t parent-end phase-said phase-end
+  pub retired-read : Reads (line "retired" zeroOrOne .read) t phase-end retired retired-end
+  pub generation-read : Reads (line "generation" number .read) t retired-end (r .generation) generation-end
+  pub revision-read : Reads (line "revision" number .read) t generation-end (r .revision) revision-end
+  pub payload-read : Reads (line "payload" number .read) t revision-end (r .payload) payload-end
+  pub root-read : Reads (rootAndQueued .read) t payload-end root root-end
+  pub anchor-read : Reads (line "anchor" keyRealm .read) t root-end (port (r .key) (r .realm)) (r .next)
+  -- where they are whole, the numbers say their values
+  pub words : (n : ℕ) → r .next ≡ At n → r ≡ record {
+    id = r .id;
+    tag = yesNo (isSome parent);
+    parent = orElse parent 0;
+    phase = phaseNumber phase-said;
+    retired = yesNo retired;
+    generation = r .generation;
+    revision = r .revision;
+    payload = r .payload;
+    root = rootTag root;
+    queued = rootRevision root;
+    key = r .key;
+    realm = r .realm;
+    next = r .next;
+  }
+
+-- The lists behind them, and where they went.
+pub record ListsRead (t : List ℕ) (at : Next) (rows needs claims values : List ℕ) (r : Lists) (rows′ needs′ claims′ values′ : List ℕ) : Type 0 where
+  pub realms-end : Next
+  pub dependencies-end : Next
+  pub realms-read : PortsRead (bytes "realms=") (bytes "realm=") t at rows (record { count = r .realms; next = realms-end }) rows′
+  pub dependencies-read
+      : PortsRead (bytes "deps=") (bytes "dep=") t realms-end needs (record { count = r .dependencies; next = dependencies-end }) needs′
+  pub provisions-read : ProvisionsRead t dependencies-end claims values
+      (record { count = r .provisions; valued = r .valued; mask = r .mask; next = r .next }) claims′ values′
+
+-- a block that is torn
 abbrev pub blank : Block
 blank = record {
   next = Torn;

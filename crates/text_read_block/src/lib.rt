@@ -2,8 +2,8 @@
 ghost use mathlib.Core.Path.{_≡_};
 ghost use Rattle.text_read_block.specs.Rows.{rowPut, onePut};
 ghost use Prim.Native.Nat.{_<_, _^_};
-ghost use Rattle.text_read_block.specs.Blocks.{BlockRead, blank};
 ghost use Rattle.text_read_block.specs.Lists.{PortsRead, ProvisionsRead, maskWith};
+ghost use Rattle.text_read_block.specs.Blocks.{HeadRead, ListsRead, BlockRead, blank};
 use rules::limits;
 use text_read::Next;
 
@@ -14,8 +14,8 @@ pub const DEPENDENCY_WORDS: usize = limits::DEPENDENCIES * 2;
 
 pub const CLAIM_WORDS: usize = limits::PROVISION_KEYS * 2 + 2;
 
-// What a block says. Each list stands at the front of its words as far as it has room, and how long it is beside it; the anchor leads
-// the claims. A block that is torn says nothing: all is 0.
+// What a block says. Tag 0 is no parent; queued is the revision of a queued root, and 0 of any other. Each list stands at the front of
+// its words as far as it has room, and how long it is beside it; the anchor leads the claims. A torn block says nothing: all is 0.
 pub struct Block {
     pub next: Next,
     pub id: u64,
@@ -39,6 +39,23 @@ pub struct Block {
     pub values: [u64; limits::PROVISION_KEYS],
 }
 
+// The lines before the lists, the anchor last, and the place behind them.
+struct Head {
+    id: u64,
+    tag: u64,
+    parent: u64,
+    phase: u64,
+    retired: u64,
+    generation: u64,
+    revision: u64,
+    payload: u64,
+    root: u64,
+    queued: u64,
+    key: u64,
+    realm: u64,
+    next: Next,
+}
+
 // How many lines of a list were read, and the place behind them.
 struct Listed {
     count: u64,
@@ -48,6 +65,16 @@ struct Listed {
 // The same of provisions: how many of them have a value, and which.
 struct Provided {
     count: u64,
+    valued: u64,
+    mask: u64,
+    next: Next,
+}
+
+// What the three lists of a block come to, and the place behind them.
+struct Lists {
+    realms: u64,
+    dependencies: u64,
+    provisions: u64,
     valued: u64,
     mask: u64,
     next: Next,
@@ -126,7 +153,7 @@ fn provisions(text: &[u8], at: Next, claims: &mut [u64], values: &mut [u64]) -> 
     ensures { λ r. ⌜ ProvisionsRead (now (text .entry)) at (now (claims .entry)) (now (values .entry)) r (now (claims .exit)) (now (values .exit)) ⌝ }
 {
     let count = text_read::number_line(text, at, b"provs=");
-    let lines = count.value;
+    let all = count.value;
     let start = count.next;
     let Next::At(first) = start else {
         return told(0, 0, 0, Next::Torn);
@@ -135,7 +162,7 @@ fn provisions(text: &[u8], at: Next, claims: &mut [u64], values: &mut [u64]) -> 
     let mut valued: u64 = 0;
     let mut mask: u64 = 0;
     let mut i: u64 = 0;
-    while i < lines {
+    while i < all {
         let line = text_read::provision_line(text, Next::At(behind), b"prov=");
         let end = line.next;
         let Next::At(next) = end else {
@@ -148,7 +175,7 @@ fn provisions(text: &[u8], at: Next, claims: &mut [u64], values: &mut [u64]) -> 
         behind = next;
         i += 1;
     }
-    told(lines, valued, mask, Next::At(behind))
+    told(all, valued, mask, Next::At(behind))
 }
 
 fn told(count: u64, valued: u64, mask: u64, next: Next) -> Provided
@@ -162,7 +189,74 @@ fn told(count: u64, valued: u64, mask: u64, next: Next) -> Provided
     }
 }
 
-// What a torn block says.
+// The lines before the lists.
+fn before_lists(text: &[u8], at: Next) -> Head
+    ensures { λ r. ⌜ HeadRead (now (text .entry)) at r ⌝ }
+{
+    let id = text_read::number_line(text, at, b"id=");
+    let second = id.next;
+    let parent = text_read::option_line(text, second, b"parent=");
+    let third = parent.next;
+    let phase = text_read::phase_line(text, third);
+    let fourth = phase.next;
+    let retired = text_read::mark_line(text, fourth);
+    let fifth = retired.next;
+    let generation = text_read::number_line(text, fifth, b"generation=");
+    let sixth = generation.next;
+    let revision = text_read::number_line(text, sixth, b"revision=");
+    let seventh = revision.next;
+    let payload = text_read::number_line(text, seventh, b"payload=");
+    let eighth = payload.next;
+    let root = text_read::root_lines(text, eighth);
+    let ninth = root.next;
+    let anchor = text_read::pair_line(text, ninth, b"anchor=");
+    let next = anchor.next;
+    Head {
+        id: id.value,
+        tag: parent.tag,
+        parent: parent.value,
+        phase: phase.value,
+        retired: retired.value,
+        generation: generation.value,
+        revision: revision.value,
+        payload: payload.value,
+        root: root.root,
+        queued: root.revision,
+        key: anchor.key,
+        realm: anchor.realm,
+        next,
+    }
+}
+
+// The lists, each to the front of lent words; the claims' first row is the anchor's.
+fn read_lists(
+    text: &[u8],
+    at: Next,
+    rows: &mut [u64],
+    needs: &mut [u64],
+    claims: &mut [u64],
+    values: &mut [u64],
+) -> Lists
+    ensures { λ r. ⌜ ListsRead (now (text .entry)) at (now (rows .entry)) (now (needs .entry)) (now (claims .entry)) (now (values .entry)) r
+        (now (rows .exit)) (now (needs .exit)) (now (claims .exit)) (now (values .exit)) ⌝ }
+{
+    let realms = ports(text, at, b"realms=", b"realm=", rows);
+    let second = realms.next;
+    let dependencies = ports(text, second, b"deps=", b"dep=", needs);
+    let third = dependencies.next;
+    let listed = provisions(text, third, claims, values);
+    let next = listed.next;
+    Lists {
+        realms: realms.count,
+        dependencies: dependencies.count,
+        provisions: listed.count,
+        valued: listed.valued,
+        mask: listed.mask,
+        next,
+    }
+}
+
+// Nothing is said.
 fn torn() -> Block
     ensures { λ r. ⌜ r ≡ blank ⌝ }
 {
@@ -183,10 +277,10 @@ fn torn() -> Block
         provisions: 0,
         valued: 0,
         mask: 0,
-        realm_words: [0u64; REALM_WORDS],
-        dependency_words: [0u64; DEPENDENCY_WORDS],
-        claim_words: [0u64; CLAIM_WORDS],
-        values: [0u64; limits::PROVISION_KEYS],
+        realm_words: [0; REALM_WORDS],
+        dependency_words: [0; DEPENDENCY_WORDS],
+        claim_words: [0; CLAIM_WORDS],
+        values: [0; limits::PROVISION_KEYS],
     }
 }
 
@@ -194,64 +288,38 @@ fn torn() -> Block
 pub fn read_block(text: &[u8], at: Next) -> Block
     ensures { λ r. ⌜ BlockRead (now (text .entry)) at r ⌝ }
 {
-    let mut realm_words = [0u64; REALM_WORDS];
-    let mut dependency_words = [0u64; DEPENDENCY_WORDS];
-    let mut claim_words = [0u64; CLAIM_WORDS];
+    let mut rows = [0u64; REALM_WORDS];
+    let mut needs = [0u64; DEPENDENCY_WORDS];
+    let mut claims = [0u64; CLAIM_WORDS];
     let mut values = [0u64; limits::PROVISION_KEYS];
-    let id = text_read::number_line(text, at, b"id=");
-    let behind_id = id.next;
-    let parent = text_read::option_line(text, behind_id, b"parent=");
-    let behind_parent = parent.next;
-    let phase = text_read::phase_line(text, behind_parent);
-    let behind_phase = phase.next;
-    let retired = text_read::mark_line(text, behind_phase);
-    let behind_retired = retired.next;
-    let generation = text_read::number_line(text, behind_retired, b"generation=");
-    let behind_generation = generation.next;
-    let revision = text_read::number_line(text, behind_generation, b"revision=");
-    let behind_revision = revision.next;
-    let payload = text_read::number_line(text, behind_revision, b"payload=");
-    let behind_payload = payload.next;
-    let root = text_read::root_lines(text, behind_payload);
-    let behind_root = root.next;
-    let anchor = text_read::pair_line(text, behind_root, b"anchor=");
-    let behind_anchor = anchor.next;
-    let realms = ports(text, behind_anchor, b"realms=", b"realm=", &mut realm_words);
-    let behind_realms = realms.next;
-    let dependencies = ports(
-        text,
-        behind_realms,
-        b"deps=",
-        b"dep=",
-        &mut dependency_words,
-    );
-    let behind_dependencies = dependencies.next;
-    put_row(&mut claim_words, 0, anchor.key, anchor.realm);
-    let provided = provisions(text, behind_dependencies, &mut claim_words, &mut values);
-    let end = provided.next;
+    let head = before_lists(text, at);
+    put_row(&mut claims, 0, head.key, head.realm);
+    let from = head.next;
+    let lists = read_lists(text, from, &mut rows, &mut needs, &mut claims, &mut values);
+    let end = lists.next;
     let Next::At(next) = end else {
         return torn();
     };
     Block {
         next: Next::At(next),
-        id: id.value,
-        tag: parent.tag,
-        parent: parent.value,
-        phase: phase.value,
-        retired: retired.value,
-        generation: generation.value,
-        revision: revision.value,
-        payload: payload.value,
-        root: root.root,
-        queued: root.revision,
-        realms: realms.count,
-        dependencies: dependencies.count,
-        provisions: provided.count,
-        valued: provided.valued,
-        mask: provided.mask,
-        realm_words,
-        dependency_words,
-        claim_words,
+        id: head.id,
+        tag: head.tag,
+        parent: head.parent,
+        phase: head.phase,
+        retired: head.retired,
+        generation: head.generation,
+        revision: head.revision,
+        payload: head.payload,
+        root: head.root,
+        queued: head.queued,
+        realms: lists.realms,
+        dependencies: lists.dependencies,
+        provisions: lists.provisions,
+        valued: lists.valued,
+        mask: lists.mask,
+        realm_words: rows,
+        dependency_words: needs,
+        claim_words: claims,
         values,
     }
 }

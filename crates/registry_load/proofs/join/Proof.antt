@@ -1,27 +1,13 @@
 -- Each way out by its test; where all hold, the plugin is written.
 use native.Mathlib.Omega.{arith}
-use mathlib.Core.Path.{sym, _∙_, subst}
+use mathlib.Core.Path.{sym, _∙_}
 use borrow.Author.Tests.{not-true, not-false}
 use Rattle.text_read_block.specs.Blocks.{block-rooms}
 use Rattle.registry_load.specs.Lives.{counts-within}
-use Rattle.registry_load.specs.Plugins.{JoinRead}
 use Rattle.registry_load.specs.Join.{torn-join, counts-join, life-join, ports-join, plugin-joins}
 use borrow.Author.Needs.{needs}
 use Rattle.registry_load.proofs.join.Statement.{statement}
 use Rattle.registry_load.proofs.join.Tie as tie
-use Rattle.registry_load.proofs.join.Reads as reads
-use Rattle.registry_load.proofs.join.Lts as lts
-use Rattle.memory.proofs.parent_from.Reads as parent-from-reads
-use Rattle.memory_lists.proofs.some_words.Reads as some-words-reads
-use Rattle.memory_load.proofs.load_place.Reads as load-place-reads
-use Rattle.ports.proofs.port_at.Reads as port-at-reads
-use Rattle.registry_joins.proofs.ports_fit.Reads as ports-fit-reads
-use Rattle.registry_load.proofs.counts_fit.Reads as counts-fit-reads
-use Rattle.registry_load.proofs.entry.Reads as entry-reads
-use Rattle.registry_load.proofs.life.Reads as life-reads
-use Rattle.registry_load.proofs.life_fits.Reads as life-fits-reads
-use Rattle.registry_load.proofs.refused.Reads as refused-reads
-use Rattle.text_read_block.proofs.read_block.Reads as read-block-reads
 
 read-block-requires : tie.Need-read-block-requires
 read-block-requires c κs = search needs

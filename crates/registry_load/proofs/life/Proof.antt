@@ -1,11 +1,6 @@
-use native.Mathlib.Omega.{arith}
 use borrow.Author.Needs.{needs}
 use Rattle.registry_load.proofs.life.Statement.{statement}
 use Rattle.registry_load.proofs.life.Tie as tie
-use Rattle.registry_load.proofs.life.Reads as reads
-use Rattle.registry_load.proofs.life.Lts as lts
-use Rattle.memory_life.proofs.decode.Reads as decode-reads
-use Rattle.registry_load.proofs.unqueued.Reads as unqueued-reads
 
 -- src/lib.rt:148:15
 unqueued-requires : tie.Need-unqueued-requires

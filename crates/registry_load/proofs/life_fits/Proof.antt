@@ -27,28 +27,48 @@ unfolding lifeBy
 returns-4 c =
     let at = c .before .before in
     let a = at .before .before .args in
-    rw (ne-eqb (a .phase) 0 (at .before .if1 .left), ne-eqb (a .generation) 0 (at .if3 .left), eq-eqb (a .phase) 2 (c .before .if4 .taken), eq-eqb (a .root) 2 (c .if5 .taken))
+    rw (
+      ne-eqb (a .phase) 0 (at .before .if1 .left),
+      ne-eqb (a .generation) 0 (at .if3 .left),
+      eq-eqb (a .phase) 2 (c .before .if4 .taken),
+      eq-eqb (a .root) 2 (c .if5 .taken),
+    )
 
 returns-5 : tie.Need-returns-5
 unfolding lifeBy
 returns-5 c =
     let at = c .before .before in
     let a = at .before .before .args in
-    rw (ne-eqb (a .phase) 0 (at .before .if1 .left), ne-eqb (a .generation) 0 (at .if3 .left), eq-eqb (a .phase) 2 (c .before .if4 .taken), ne-eqb (a .root) 2 (c .if5 .left))
+    rw (
+      ne-eqb (a .phase) 0 (at .before .if1 .left),
+      ne-eqb (a .generation) 0 (at .if3 .left),
+      eq-eqb (a .phase) 2 (c .before .if4 .taken),
+      ne-eqb (a .root) 2 (c .if5 .left),
+    )
 
 returns-6 : tie.Need-returns-6
 unfolding lifeBy
 returns-6 c =
     let at = c .before .before in
     let a = at .before .before .args in
-    rw (ne-eqb (a .phase) 0 (at .before .if1 .left), ne-eqb (a .generation) 0 (at .if3 .left), ne-eqb (a .phase) 2 (c .before .if4 .left), eq-eqb (a .root) 1 (c .if6 .taken))
+    rw (
+      ne-eqb (a .phase) 0 (at .before .if1 .left),
+      ne-eqb (a .generation) 0 (at .if3 .left),
+      ne-eqb (a .phase) 2 (c .before .if4 .left),
+      eq-eqb (a .root) 1 (c .if6 .taken),
+    )
 
 returns-7 : tie.Need-returns-7
 unfolding lifeBy
 returns-7 c =
     let at = c .before .before in
     let a = at .before .before .args in
-    rw (ne-eqb (a .phase) 0 (at .before .if1 .left), ne-eqb (a .generation) 0 (at .if3 .left), ne-eqb (a .phase) 2 (c .before .if4 .left), ne-eqb (a .root) 1 (c .if6 .left))
+    rw (
+      ne-eqb (a .phase) 0 (at .before .if1 .left),
+      ne-eqb (a .generation) 0 (at .if3 .left),
+      ne-eqb (a .phase) 2 (c .before .if4 .left),
+      ne-eqb (a .root) 1 (c .if6 .left),
+    )
 
 pub life-fits-spec : {M : Type 1} → statement M
 life-fits-spec = tie.close (tie.spec returns returns-2 returns-3 returns-4 returns-5 returns-6 returns-7)

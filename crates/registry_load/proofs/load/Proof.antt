@@ -1,15 +1,10 @@
 -- The answer and the words by what the text says.
-use native.Mathlib.Omega.{arith}
 use mathlib.Core.Path.{refl, _∙_}
 use Rattle.memory_load.specs.Loading.{zeros}
 use Rattle.registry_load.specs.Whole.{load-bad, load-same, load-good}
 use borrow.Author.Needs.{needs}
 use Rattle.registry_load.proofs.load.Statement.{statement}
 use Rattle.registry_load.proofs.load.Tie as tie
-use Rattle.registry_load.proofs.load.Reads as reads
-use Rattle.registry_load.proofs.load.Lts as lts
-use Rattle.memory_load.proofs.copy_words.Reads as copy-words-reads
-use Rattle.registry_load.proofs.read.Reads as read-reads
 
 read-requires : tie.Need-read-requires
 unfolding zeros
@@ -37,7 +32,9 @@ copy-words-requires c κs = search needs
 returns-3 : tie.Need-returns-3
 returns-3 c =
     let a = c .before .before .before .before .before .before .before .before .before .before .args in
-    let done = load-good (a .text .now) (a .domain) (a .m .now) (c .before .before .before .before .before .before .before .read .ensures) (c .before .before .before .before .before .said .given .1) (c .before .before .before .if1 .left) in
+    let tested = c .before .before .before in
+    let told = tested .before .before in
+    let done = load-good (a .text .now) (a .domain) (a .m .now) (told .before .before .read .ensures) (told .said .given .1) (tested .if1 .left) in
     (done .0, c .copy-words .ensures ∙ done .1)
 
 pub load-spec : {M : Type 1} → statement M

@@ -3,7 +3,7 @@ use Prim.Native.Nat.{_-_, _≤_}
 use native.Mathlib.Omega.{arith}
 use mathlib.Core.Path.{_≡_, subst, sym}
 use borrow.Author.Needs.{needs}
-use Rattle.registry_load.specs.Plugins.{PluginsSoFar, PluginsRead, all, plugins-start, plugins-torn, plugins-next}
+use Rattle.registry_load.specs.Plugins.{PluginsSoFar, all, plugins-start, plugins-torn, plugins-next}
 use Rattle.registry_load.proofs.plugins.Statement.{statement}
 use Rattle.registry_load.proofs.plugins.Tie as tie
 
@@ -62,7 +62,8 @@ returns-2 c =
     let at = c .before in
     let a = at .before .before .args in
     let e : at .loop .k ≡ a .count = omega (arith, at .loop .inv .1, c .loop-test .left) in
-    all (subst (λ k. PluginsSoFar (a .text .now) (a .at) (a .domain) (a .first) (a .next) (at .loop .w) (at .loop .behind) (at .loop .rows) (at .loop .from) k) e
+    all (subst (λ k. PluginsSoFar (a .text .now) (a .at) (a .domain) (a .first) (a .next)
+    (at .loop .w) (at .loop .behind) (at .loop .rows) (at .loop .from) k) e
     (at .loop .inv .0))
 
 pub plugins-spec : {M : Type 1} → statement M

@@ -2,20 +2,13 @@
 use native.Mathlib.Omega.{arith}
 use mathlib.Core.Path.{sym, ap, _∙_}
 use borrow.Author.Tests.{not-true, not-false}
-use Rattle.memory_load.specs.Loading.{openedWith}
+use Rattle.memory.specs.Writes.{openedWith}
 use Rattle.text_read.specs.Reads.{reads-at}
 use Rattle.registry_load.specs.Plugins.{many-unfit, order-unfit, plugins-unfit, plugins-all}
 use Rattle.registry_load.specs.Whole.{bad, count-torn, plugins-refused, too-long, unserved, cyclic, accepted}
 use borrow.Author.Needs.{needs}
 use Rattle.registry_load.proofs.read.Statement.{statement}
 use Rattle.registry_load.proofs.read.Tie as tie
-use Rattle.registry_load.proofs.read.Reads as reads
-use Rattle.registry_load.proofs.read.Lts as lts
-use Rattle.memory_load.proofs.open_words.Reads as open-words-reads
-use Rattle.registry_cycles.proofs.acyclic.Reads as acyclic-reads
-use Rattle.registry_cycles.proofs.served.Reads as served-reads
-use Rattle.registry_load.proofs.plugins.Reads as plugins-reads
-use Rattle.text_read.proofs.number_line.Reads as number-line-reads
 
 slice-aggregate-number-line : tie.Need-slice-aggregate-number-line
 slice-aggregate-number-line c = search needs

@@ -2,7 +2,7 @@
 use Prim.Native.Nat.{ℕ, suc, _+_, _<_, _≤_}
 use native.Mathlib.Omega.{arith}
 use mathlib.Core.Path.{_≡_, refl, sym, ap, _∙_, subst}
-use mathlib.Core.Bool.{Bool, true, false, true≢false}
+use mathlib.Core.Bool.{true, false, true≢false}
 use mathlib.Core.List.{List, [], _∷_}
 use mathlib.Core.Option.{Option, some}
 use mathlib.Core.Logic.{_⊎_, inl, inr, ⊎-elim}
@@ -14,7 +14,7 @@ use Rattle.rules.specs.Holds.{Plugin, Registry, plugins, lookup, provides, runn
 use Rattle.rules.specs.Phases.{available}
 use Rattle.rules.specs.Conditions.{needs}
 use Rattle.rules_laws.specs.Laws.Tests.{by-test}
-use Rattle.rules_laws.specs.Laws.Members.{In, all-true, lookup-in}
+use Rattle.rules_laws.specs.Laws.Members.{In, any-some, all-true, lookup-in}
 use Rattle.rules_laws.specs.Built.{Served, Wanted, Ranked, Built}
 use Rattle.rules_laws.specs.Kept.Places.{Only, distinct}
 use Rattle.rules_laws.specs.Kept.Plugins.{Alike, alike-provides}
@@ -74,13 +74,6 @@ module _ (r r′ : Registry) (q : Plugin) (u : Option Plugin) (o : Only r r′ (
       (λ y _. true≢false (sym y ∙ n))
       (λ b _ y _ _. absurd (true≢false (sym y ∙ n)))
       (λ a _ _ y _. absurd (true≢false (sym y ∙ n)))
-
--- where one passes, there is one that does
-any-some : {A : Type 0} (f : A → Bool) (l : List A) → any f l ≡ true → (a : A) × In a l × (f a ≡ true)
-any-some f [] e = absurd (true≢false (sym e))
-any-some f (x ∷ l) e = by-test (f x)
-    (λ y. (x, inl refl, y))
-    (λ n. let s = any-some f l (rw n at e) in (s .0, inr (s .1), s .2))
 
 -- The plugin p, registered, becomes q; it comes to run only if each dependency has an Active provider.
 module _ (r : Registry) (b : Built r) (p q : Plugin) (e : lookup r (q .id) ≡ some p) (s : Alike p q)

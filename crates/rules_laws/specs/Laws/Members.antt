@@ -45,6 +45,13 @@ pub any-append : {A : Type 0} (f : A → Bool) (l m : List A) → any f (l ++ m)
 any-append f [] m = refl
 any-append f (x ∷ l) m = rw (any-append f l m, or-assoc)
 
+-- where one passes, there is one that does
+pub any-some : {A : Type 0} (f : A → Bool) (l : List A) → any f l ≡ true → (a : A) × In a l × (f a ≡ true)
+any-some f [] e = absurd (true≢false (sym e))
+any-some f (x ∷ l) e = by-test (f x)
+    (λ y. (x, inl refl, y))
+    (λ n. let s = any-some f l (rw n at e) in (s .0, inr (s .1), s .2))
+
 pub any-false : {A : Type 0} (f : A → Bool) (l : List A) (a : A) → any f l ≡ false → In a l → f a ≡ false
 any-false f (x ∷ l) a e (inl i) = by-test (f x)
     (λ y. let j : true ≡ false = rw y at e in cc)

@@ -12,9 +12,9 @@ use Rattle.rules.specs.Holds.{Plugin, running}
 use Rattle.rules.specs.Limits.{maxPlugins}
 use Rattle.rules.specs.Conditions.{needs, waits, stillWaiting, noneLeftAfter, noCycles}
 use Rattle.rules_laws.specs.Laws.Tests.{by-test}
-use Rattle.rules_laws.specs.Laws.Members.{In, all-true}
+use Rattle.rules_laws.specs.Laws.Members.{In, any-some, all-true}
 use Rattle.rules_laws.specs.Built.{Ranked}
-use Rattle.rules_load.specs.Laws.Lists.{any-some, only-in}
+use Rattle.rules_load.specs.Laws.Lists.{only-in}
 use Rattle.rules_load.specs.Laws.Cycles.{only-fewer, only-less, acyclic-ranked}
 
 -- a depends on a port that b provides, and both are Loading or Active

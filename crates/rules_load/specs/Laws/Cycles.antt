@@ -14,9 +14,9 @@ use Rattle.rules.specs.Holds.{Plugin, running}
 use Rattle.rules.specs.Limits.{maxPlugins}
 use Rattle.rules.specs.Conditions.{needs, waits, stillWaiting, noneLeftAfter, noCycles}
 use Rattle.rules_laws.specs.Laws.Tests.{by-test}
-use Rattle.rules_laws.specs.Laws.Members.{In}
+use Rattle.rules_laws.specs.Laws.Members.{In, any-some}
 use Rattle.rules_laws.specs.Built.{Ranked}
-use Rattle.rules_load.specs.Laws.Lists.{any-intro, any-some, only-in, in-only}
+use Rattle.rules_load.specs.Laws.Lists.{any-intro, only-in, in-only}
 
 -- the rank falls along every need in the list
 abbrev Falls : (Plugin → ℕ) → List Plugin → Type 0

@@ -1,5 +1,5 @@
 -- Plugins before, one, and plugins behind: what ids that rise, rows, claims and a search in the whole list say of the parts.
-use Prim.Native.Nat.{ℕ, zero, suc, _+_, _≤_, _<_}
+use Prim.Native.Nat.{ℕ, _+_, _≤_, _<_}
 use native.Mathlib.Omega.{arith}
 use native.Mathlib.Nat.{le-refl}
 use mathlib.Core.Path.{_≡_, refl, sym, ap, _∙_}
@@ -13,21 +13,14 @@ use borrow.Author.Tests.{ne-eqb, leb-true, ltb-true, ltb-false}
 use Rattle.rules.specs.declared.Port.{Port}
 use Rattle.rules.specs.Basics.{any, first, isSome, orNone}
 use Rattle.rules.specs.Limits.{maxPlugins}
-use Rattle.rules.specs.Holds.{Plugin, Registry, held, plugins, lookup, provider, provides, samePort, isIn, sumRows}
+use Rattle.rules.specs.Holds.{Plugin, Registry, plugins, lookup, provider, provides, samePort, isIn, sumRows}
 use Rattle.rules.specs.Registration.{parentOf, repeats}
-use Rattle.rules.specs.Load.{placed}
 use Rattle.rules.specs.Conditions.{among, idsRise, realmsRise, claims, claimsOf, provisionsResolved, parentIn, byRule}
 use Rattle.rules_laws.specs.Laws.Tests.{by-test, both}
 use Rattle.rules_laws.specs.Laws.Members.{In, any-append}
+use Rattle.rules_laws.specs.Laws.Placed.{held-placed}
 use Rattle.rules_load.specs.Joining.{portsFit, portsJoin, standing, behindIds}
 use Rattle.rules_load.specs.Laws.Claims.{provides-claims}
-
--- places from the lowest hold the plugins in their order
-pub held-placed : (n : ℕ) (ps : List Plugin) → length ps ≤ n → held (placed n ps) ≡ ps
-held-placed zero [] h = refl
-held-placed zero (p ∷ ps) h = absurd (omega arith)
-held-placed (suc n) [] h = held-placed n [] (omega arith)
-held-placed (suc n) (p ∷ ps) h = ap (λ l. p ∷ l) (held-placed n ps (omega arith))
 
 pub standing-plugins : (done : List Plugin) → length done ≤ maxPlugins → plugins (standing done) ≡ done
 standing-plugins done h = held-placed maxPlugins done h

@@ -1,6 +1,6 @@
 -- Tests over lists, and what they say of the members.
-use mathlib.Core.Path.{_≡_, refl, sym, ap, _∙_, subst}
-use mathlib.Core.Bool.{Bool, true, false, _&&_, or-true, true≢false}
+use mathlib.Core.Path.{_≡_, refl, ap, _∙_, subst}
+use mathlib.Core.Bool.{Bool, true, false, _&&_, or-true}
 use mathlib.Core.List.{List, [], _∷_}
 use mathlib.Core.Logic.{inl, inr}
 use Rattle.rules.specs.Basics.{any, all, only, every}
@@ -15,12 +15,6 @@ module _ {A : Type 0} where
   pub any-intro : (f : A → Bool) (l : List A) (a : A) → In a l → f a ≡ true → any f l ≡ true
   any-intro f (x ∷ l) a (inl i) e = rw (ap f i ∙ e)
   any-intro f (x ∷ l) a (inr m) e = rw (any-intro f l a m e) (or-true (f x))
-
-  pub any-some : (f : A → Bool) (l : List A) → any f l ≡ true → (a : A) × In a l × (f a ≡ true)
-  any-some f [] e = absurd (true≢false (sym e))
-  any-some f (x ∷ l) e = by-test (f x)
-      (λ y. (x, inl refl, y))
-      (λ n. let s = any-some f l (rw n at e) in (s .0, inr (s .1), s .2))
 
   pub any-none : (f : A → Bool) (l : List A) → ((a : A) → In a l → f a ≡ false) → any f l ≡ false
   any-none f [] h = refl
@@ -50,10 +44,6 @@ Every (b ∷ bs) = (b ≡ true) × Every bs
 pub every-true : (bs : List Bool) → every bs ≡ true → Every bs
 every-true [] e = tt
 every-true (b ∷ bs) e = let h = both b (every bs) e in (h .0, every-true bs (h .1))
-
-pub true-every : (bs : List Bool) → Every bs → every bs ≡ true
-true-every [] h = refl
-true-every (b ∷ bs) h = rw (h .0, true-every bs (h .1))
 
 -- tests joined from the left, as `a && b && c` is
 abbrev pub chained : Bool → List Bool → Bool

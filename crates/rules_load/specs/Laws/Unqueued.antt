@@ -7,9 +7,10 @@ use mathlib.Core.Option.{Option, none, some}
 use mathlib.Core.Logic.{inl, inr}
 use lib.Dec.{eqb, ltb}
 use lib.ListN.{length-map}
+use Rattle.rules.specs.declared.Port.{Port}
 use Rattle.rules.specs.declared.Root.{Root}
 use Rattle.rules.specs.declared.Root.the-variants.{Unissued, Queued, Spent}
-use Rattle.rules.specs.Basics.{any, all, only, orNone, isNone, isSome, last}
+use Rattle.rules.specs.Basics.{any, all, only, orNone, isNone, isSome, last, _⊃_}
 use Rattle.rules.specs.Holds.{Provision, Plugin, provides, running, sumRows, rowsOf, isIdle, isActive, defaultRealm}
 use Rattle.rules.specs.Phases.{isSpent}
 use Rattle.rules.specs.Admission.{isUnissued}
@@ -19,7 +20,7 @@ use Rattle.rules.specs.Load.{unqueuedRoot, unqueued, movedTo}
 use Rattle.rules.specs.Limits.{maxPlugins}
 use Rattle.rules.specs.Conditions.{among, idsRise, parentLower, listsShort, realmsRise, claimsOf, provisionsResolved, parentIn}
 use Rattle.rules.specs.Conditions.{byRule, begunOnce, idleClean, activeWhole, queuedBy, queuedWithin, activeIn, dependenciesServed}
-use Rattle.rules.specs.Conditions.{needs, waits, stillWaiting, noneLeftAfter, loadable}
+use Rattle.rules.specs.Conditions.{needs, waits, stillWaiting, noneLeftAfter, noCycles, loadable}
 use Rattle.rules_laws.specs.Laws.Tests.{by-test, both}
 use Rattle.rules_laws.specs.Laws.Members.{In}
 use Rattle.rules_load.specs.Formed.{Formed}
@@ -28,6 +29,10 @@ use Rattle.rules_load.specs.Meets.{loadable-meets, meets-loadable}
 any-map : {A B : Type 0} (f : B → Bool) (g : A → B) (l : List A) → any f (map g l) ≡ any (λ a. f (g a)) l
 any-map f g [] = refl
 any-map f g (x ∷ l) = rw (any-map f g l)
+
+all-map : {A B : Type 0} (f : B → Bool) (g : A → B) (l : List A) → all f (map g l) ≡ all (λ a. f (g a)) l
+all-map f g [] = refl
+all-map f g (x ∷ l) = rw (all-map f g l)
 
 -- a test that each plugin passed, and passes still
 still : (f g : Plugin → Bool) → ((a : Plugin) → f a ≡ true → g (unqueued a) ≡ true) → (l : List Plugin) → all f l ≡ true → all g (map unqueued l) ≡ true
@@ -43,23 +48,30 @@ pub among-unqueued : (l : List Plugin) (x : ℕ) → among (map unqueued l) x �
 among-unqueued [] x = refl
 among-unqueued (p ∷ l) x = by-test (eqb (p .id) x) (λ y. rw y) (λ n. rw (n, among-unqueued l x))
 
-there-unqueued : (u : Option Plugin) → isSome (ifUnqueued u) ≡ isSome u
-there-unqueued none = refl
-there-unqueued (some p) = refl
+pub there-unqueued : (l : List Plugin) (x : ℕ) → isSome (among (map unqueued l) x) ≡ isSome (among l x)
+there-unqueued l x = rw (among-unqueued l x) (go (among l x))
+  where
+    go : (u : Option Plugin) → isSome (ifUnqueued u) ≡ isSome u
+    go none = refl
+    go (some p) = refl
 
-list-unqueued : (u : Option Plugin) → inheritedFrom (ifUnqueued u) ≡ inheritedFrom u
-list-unqueued none = refl
-list-unqueued (some p) = refl
+pub parents-unqueued : (l : List Plugin) (v : Option ℕ) → inheritedFrom (parentIn (map unqueued l) v) ≡ inheritedFrom (parentIn l v)
+parents-unqueued l none = refl
+parents-unqueued l (some x) = rw (among-unqueued l x) (go (among l x))
+  where
+    go : (u : Option Plugin) → inheritedFrom (ifUnqueued u) ≡ inheritedFrom u
+    go none = refl
+    go (some p) = refl
 
 rise-unqueued : (f n : ℕ) (l : List Plugin) → idsRise f n (map unqueued l) ≡ idsRise f n l
 rise-unqueued f n [] = refl
 rise-unqueued f n (p ∷ l) = rw (rise-unqueued (p .id + 1) n l)
 
-rows-unqueued : (l : List Plugin) → sumRows (map unqueued l) ≡ sumRows l
+pub rows-unqueued : (l : List Plugin) → sumRows (map unqueued l) ≡ sumRows l
 rows-unqueued [] = refl
 rows-unqueued (p ∷ l) = ap (λ n. rowsOf p + n) (rows-unqueued l)
 
-claims-unqueued : (l : List Plugin) → claimsOf (map unqueued l) ≡ claimsOf l
+pub claims-unqueued : (l : List Plugin) → claimsOf (map unqueued l) ≡ claimsOf l
 claims-unqueued [] = refl
 claims-unqueued (p ∷ l) = rw (claims-unqueued l)
 
@@ -68,11 +80,7 @@ lower-unqueued l a e = go (a .parent) e
   where
     go : (v : Option ℕ) → orNone (λ x. ltb x (a .id) && isSome (among l x)) v ≡ true → orNone (λ x. ltb x (a .id) && isSome (among (map unqueued l) x)) v ≡ true
     go none h = refl
-    go (some x) h = rw (among-unqueued l x, there-unqueued (among l x)) h
-
-parents-unqueued : (l : List Plugin) (v : Option ℕ) → inheritedFrom (parentIn (map unqueued l) v) ≡ inheritedFrom (parentIn l v)
-parents-unqueued l none = refl
-parents-unqueued l (some x) = rw (among-unqueued l x) (list-unqueued (among l x))
+    go (some x) h = rw (there-unqueued l x) h
 
 clean-unqueued : (a : Plugin) → idleClean a ≡ true → idleClean (unqueued a) ≡ true
 clean-unqueued a e = by-test (isIdle (a .phase))
@@ -101,16 +109,13 @@ none-queued Unissued v = refl
 none-queued (Queued w a) v = refl
 none-queued Spent v = refl
 
-active-unqueued : (l ks : _) → all (activeIn l) ks ≡ true → all (activeIn (map unqueued l)) ks ≡ true
-active-unqueued l [] e = refl
-active-unqueued l (k ∷ ks) e =
-    let w = both (activeIn l k) (all (activeIn l) ks) e in
-    rw (any-map (λ (q : Plugin). isActive (q .phase) && provides q k) unqueued l ∙ w .0, active-unqueued l ks (w .1))
+active-unqueued : (l : List Plugin) (k : Port) → activeIn (map unqueued l) k ≡ activeIn l k
+active-unqueued l k = any-map (λ (q : Plugin). isActive (q .phase) && provides q k) unqueued l
 
-served-unqueued : (l : List Plugin) (a : Plugin) → dependenciesServed l a ≡ true → dependenciesServed (map unqueued l) (unqueued a) ≡ true
-served-unqueued l a e = by-test (running a)
-    (λ y. rw y (active-unqueued l (a .dependencies) (rw y at e)))
-    (λ n. rw n)
+pub served-unqueued : (l : List Plugin) → all (dependenciesServed (map unqueued l)) (map unqueued l) ≡ all (dependenciesServed l) l
+served-unqueued l =
+    all-map (dependenciesServed (map unqueued l)) unqueued l
+    ∙ ap (λ (f : Port → Bool). all (λ (p : Plugin). running p ⊃ all f (p .dependencies)) l) (λ i k. active-unqueued l k i)
 
 -- the same are left in each round
 only-unqueued : (f g : Plugin → Bool) → ((a : Plugin) → f (unqueued a) ≡ g a) → (l : List Plugin) → only f (map unqueued l) ≡ map unqueued (only g l)
@@ -124,6 +129,9 @@ unfolding noneLeftAfter
 left-unqueued zero l = rw (length-map l unqueued)
 left-unqueued (suc n) l =
     rw (only-unqueued (waits (map unqueued l)) (waits l) (λ a. any-map (needs (unqueued a)) unqueued l) l) (left-unqueued n (stillWaiting l))
+
+pub cycles-unqueued : (l : List Plugin) → noCycles (map unqueued l) ≡ noCycles l
+cycles-unqueued l = ap (noneLeftAfter maxPlugins) (only-unqueued running running (λ a. refl) l) ∙ left-unqueued maxPlugins (only running l)
 
 pub moved-loadable : (d : ℕ) (s : Said) → loadable s ≡ true → loadable (movedTo d s) ≡ true
 moved-loadable d s e =
@@ -142,8 +150,8 @@ moved-loadable d s e =
       idle = still idleClean idleClean clean-unqueued ps (c .idle);
       active = still activeWhole activeWhole whole-unqueued ps (c .active);
       queued = still queuedWithin queuedWithin (λ a h. none-queued (a .root) (a .revision)) ps (c .queued);
-      served = still (dependenciesServed ps) (dependenciesServed (map unqueued ps)) (served-unqueued ps) ps (c .served);
-      acyclic = rw (only-unqueued running running (λ a. refl) ps) (left-unqueued maxPlugins (only running ps) ∙ c .acyclic);
+      served = served-unqueued ps ∙ c .served;
+      acyclic = cycles-unqueued ps ∙ c .acyclic;
     }
 
 -- a plugin of the moved text is one of the text, but for its root

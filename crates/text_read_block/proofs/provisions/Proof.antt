@@ -6,7 +6,8 @@ use lib.ListN.{length}
 use Rattle.memory_values.specs.Values.{valuesOf}
 use Rattle.text_read_block.specs.Lists.{portsOf}
 use Rattle.text_read_block.specs.Rows.{rows-length, all-length}
-use Rattle.text_read_block.proofs.ProvisionLines.{ProvisionsSoFar, head-torn, provisions-start, provisions-torn, provisions-more, provisions-end, valued-room, mask-room}
+use Rattle.text_read_block.proofs.ProvisionLines.{ProvisionsSoFar, head-torn, provisions-start, provisions-torn, provisions-more, provisions-end}
+use Rattle.text_read_block.proofs.ProvisionLines.{valued-room, mask-room}
 use borrow.Author.Needs.{needs}
 use Rattle.text_read_block.proofs.provisions.Statement.{statement}
 use Rattle.text_read_block.proofs.provisions.Tie as tie
@@ -36,12 +37,16 @@ told-requires c κs = search needs
 returns : tie.Need-returns Inv-loop μ-loop
 returns c =
     let a = c .before .before .before .before .before .before .before .before .args in
-    rw (c .told .ensures) (head-torn (a .text .now) (a .at) (a .claims .now) (a .values .now) _ (c .before .before .before .number-line .ensures) (c .before .enum-told .given .1))
+    rw (c .told .ensures) (head-torn (a .text .now) (a .at) (a .claims .now) (a .values .now) _
+    (c .before .before .before .number-line .ensures) (c .before .enum-told .given .1))
 
 loop-holds : tie.Need-loop-holds Inv-loop μ-loop
 loop-holds c =
-    let a = c .before .before .before .before .before .before .before .before .args in
-    (provisions-start (a .text .now) (a .at) (a .claims .now) (a .values .now) _ (c .before .before .before .number-line .ensures) _ (c .before .start .given .1), omega arith)
+    let a = c .before .before .before .before .before .before .before .before .args in (
+      provisions-start (a .text .now) (a .at) (a .claims .now) (a .values .now) _ (c .before .before .before .number-line .ensures) _
+          (c .before .start .given .1),
+      omega arith,
+    )
 
 slice-aggregate-provision-line : tie.Need-slice-aggregate-provision-line Inv-loop μ-loop
 slice-aggregate-provision-line c = search needs
@@ -74,7 +79,8 @@ returns-2 c =
     let d = at .before in
     let a = d .before .before .before .before .before .before .before .before .args in
     rw (c .told2 .ensures)
-    (provisions-torn (a .text .now) (a .at) (a .claims .now) (a .values .now) _ (d .before .before .before .number-line .ensures) _ (d .before .start .given .1) _ _ _ _ _ _ (at .loop .inv .0) _
+    (provisions-torn (a .text .now) (a .at) (a .claims .now) (a .values .now) _ (d .before .before .before .number-line .ensures) _
+    (d .before .start .given .1) _ _ _ _ _ _ (at .loop .inv .0) _
     (c .before .before .before .provision-line .ensures) (c .before .before .before .before .before .loop-test .taken) (c .before .enum-told2 .given .1))
 
 add-put-row : tie.Need-add-put-row Inv-loop μ-loop
@@ -93,27 +99,39 @@ masked-requires c κs =
 
 add-valued : tie.Need-add-valued Inv-loop μ-loop
 add-valued c =
-    let at = c .before .before .before .before .before .before .before .before .before .before .before .before .before .before .before .before in
+    let end = c .before .before .before .before .before .before .before .before .before .before .before in
+    let line = end .before .before in
+    let at = line .before .before .before in
     let d = at .before in
     let a = d .before .before .before .before .before .before .before .before .args in
-    let room = valued-room (a .text .now) (a .at) (a .claims .now) (a .values .now) _ (d .before .before .before .number-line .ensures) _ (d .before .start .given .1) _ _ _ _ _ _ (at .loop .inv .0) _
-    (c .before .before .before .before .before .before .before .before .before .before .before .before .before .provision-line .ensures) _ (c .before .before .before .before .before .before .before .before .before .before .before .end .given .1) (c .before .before .before .before .before .before .before .before .before .before .before .before .before .before .before .loop-test .taken) in
+    let room = valued-room (a .text .now) (a .at) (a .claims .now) (a .values .now) _ (d .before .before .before .number-line .ensures) _
+    (d .before .start .given .1) _ _ _ _ _ _ (at .loop .inv .0) _
+    (line .provision-line .ensures) _ (end .end .given .1) (line .before .before .loop-test .taken) in
     omega (arith, room, d .before .before .before .number-line .ok)
 
 add-i : tie.Need-add-i Inv-loop μ-loop
-add-i c = omega (arith, c .before .before .before .before .before .before .before .before .before .before .before .before .before .before .before .loop-test .taken, c .before .before .before .before .before .before .before .before .before .before .before .before .before .before .before .before .before .before .before .before .number-line .ok)
+add-i c =
+    let test = c .before .before .before .before .before .before .before .before .before .before .before .before .before .before .before in
+    omega (arith, test .loop-test .taken, test .before .before .before .before .before .number-line .ok)
 
 loop-less : tie.Need-loop-less Inv-loop μ-loop
 loop-less c = search needs
 
 loop-again : tie.Need-loop-again Inv-loop μ-loop
 loop-again c =
-    let at = c .before .before .before .before .before .before .before .before .before .before .before .before .before .before .before .before in
+    let end = c .before .before .before .before .before .before .before .before .before .before .before in
+    let line = end .before .before in
+    let at = line .before .before .before in
     let d = at .before in
     let a = d .before .before .before .before .before .before .before .before .args in
-    let one = provisions-more (a .text .now) (a .at) (a .claims .now) (a .values .now) _ (d .before .before .before .number-line .ensures) _ (d .before .start .given .1) _ _ _ _ _ _ (at .loop .inv .0) _
-    (c .before .before .before .before .before .before .before .before .before .before .before .before .before .provision-line .ensures) _ (c .before .before .before .before .before .before .before .before .before .before .before .end .given .1) in
-    (rw (c .before .before .before .before .before .before .before .before .put-row .ensures, c .before .before .before .before .put-one .ensures, c .before .masked .ensures) one, omega (arith, c .before .before .before .before .before .before .before .before .before .before .before .before .before .before .before .loop-test .taken))
+    let one = provisions-more (a .text .now) (a .at) (a .claims .now) (a .values .now) _ (d .before .before .before .number-line .ensures) _
+    (d .before .start .given .1) _ _ _ _ _ _ (at .loop .inv .0) _
+    (line .provision-line .ensures) _ (end .end .given .1) in
+    let values = c .before .before .before .before in
+    let claims = values .before .before .before .before in (
+      rw (claims .put-row .ensures, values .put-one .ensures, c .before .masked .ensures) one,
+      omega (arith, line .before .before .loop-test .taken),
+    )
 
 told-requires-3 : tie.Need-told-requires-3 Inv-loop μ-loop
 told-requires-3 c κs = search needs
@@ -134,7 +152,8 @@ returns-3 c =
     let d = at .before in
     let a = d .before .before .before .before .before .before .before .before .args in
     rw (c .told3 .ensures)
-    (provisions-end (a .text .now) (a .at) (a .claims .now) (a .values .now) _ (d .before .before .before .number-line .ensures) _ (d .before .start .given .1) _ _ _ _ _ _ (at .loop .inv .0) (at .loop .inv .1)
+    (provisions-end (a .text .now) (a .at) (a .claims .now) (a .values .now) _ (d .before .before .before .number-line .ensures) _
+    (d .before .start .given .1) _ _ _ _ _ _ (at .loop .inv .0) (at .loop .inv .1)
     (c .before .loop-test .left))
 
 pub provisions-spec : {M : Type 1} → statement M

@@ -10,11 +10,11 @@ use lib.ListN.{length, getD}
 use Rattle.rules.specs.Load.{placed, inPlaces}
 use Rattle.memory.specs.Layout.{word, occupancy, taken, memoryWords, places}
 use Rattle.memory.specs.View.{placeAt, placesFrom, view}
+use Rattle.memory.specs.Writes.{openedWith}
 use Rattle.memory.specs.Frames.{puts-length, puts-same}
 use Rattle.memory_places.specs.Rows.{rowsAt}
 use Rattle.memory_rows.specs.Tiles.{sum, share, sum-same}
 use Rattle.memory_rows.specs.Dense.{used, Dense}
-use Rattle.memory_load.specs.Loading.{openedWith}
 
 module _ (m : List ℕ) (domain first next : ℕ) (size : length m ≡ memoryWords) where
   abbrev blank : List ℕ
