@@ -18,7 +18,8 @@ use Rattle.memory.specs.View.{anchorAt, pluginAt, placesFrom, view}
 use Rattle.memory.specs.Lookups.{placed, searchFrom, search-first}
 use Rattle.memory.specs.declared.Place.{Place}
 use Rattle.memory_lists.specs.Listed.{provided-at}
-use Rattle.memory_providers.specs.Providers.{offeredPart, keyBits, wanted}
+use Rattle.memory_providers.specs.declared.KeyBits.{KeyBits}
+use Rattle.memory_providers.specs.Providers.{offeredPart, noBits, keyBits, wanted}
 use Rattle.memory_providers.proofs.Exchange.{any-same, exchange, is-first}
 use Rattle.memory_providers.proofs.Keys.{wanted-is}
 
@@ -53,14 +54,14 @@ module _ (m : List ℕ) (i : ℕ) (size : length m ≡ memoryWords) where
       ∙ ap (λ l. isIn q l || samePort q (anchorAt m i)) (sym (provided-at m i))
 
   -- whichever of the two lists is gone through
-  met : (qs : List Port) → any (λ q. wanted (keyBits 0 qs) qs q) (pairs (offeredPart m i)) ≡ any (λ q. provides (pluginAt m i) q) qs
+  met : (qs : List Port) → any (λ q. wanted (keyBits noBits qs) qs q) (pairs (offeredPart m i)) ≡ any (λ q. provides (pluginAt m i) q) qs
   met qs =
       any-same _ _ (wanted-is qs) (pairs (offeredPart m i))
       ∙ exchange (λ (p q : Port). samePort q p) qs (pairs (offeredPart m i))
       ∙ any-same _ _ (λ q. any-same _ _ (λ p. same-swap p q) (pairs (offeredPart m i)) ∙ offered-is q) qs
 
   -- where a test of the place passed
-  pub offers-claimed : (t : Bool) (qs : List Port) (w : ℕ) (b : Bool) → w ≡ keyBits 0 qs → b ≡ (t && any (λ q. wanted w qs q) (pairs (offeredPart m i)))
+  pub offers-claimed : (t : Bool) (qs : List Port) (w : KeyBits) (b : Bool) → w ≡ keyBits noBits qs → b ≡ (t && any (λ q. wanted w qs q) (pairs (offeredPart m i)))
       → b ≡ (t && any (λ q. provides (pluginAt m i) q) qs)
   offers-claimed t qs w b e f =
       f ∙ ap (λ x. t && any (λ q. wanted x qs q) (pairs (offeredPart m i))) e ∙ ap (λ x. t && x) (met qs)

@@ -2,17 +2,18 @@
 use Prim.Native.Nat.{ℕ, _*_, _/_, _%_, _^_, _<_, max}
 use native.Mathlib.Omega.{arith}
 use native.Mathlib.Nat.{one-mul, mod-eq-of-lt, div-self}
-use mathlib.Core.Path.{_≡_, ap, _∙_}
-use mathlib.Core.Bool.{Bool, true, false, and-false}
+use mathlib.Core.Path.{_≡_, refl, ap, _∙_}
+use mathlib.Core.Bool.{Bool, true, false, _&&_, and-false}
 use mathlib.Core.List.{List, [], _∷_}
 use lib.Bits.{bitOr, or-step, or-shr}
 use lib.Dec.{eqb}
 use lib.Pow.{pow-lt, pow-pos}
-use borrow.Author.Tests.{eqb-true, eq-eqb, ne-eqb}
+use borrow.Author.Tests.{eqb-true}
 use Rattle.rules.specs.declared.Port.{Port}
 use Rattle.rules.specs.Holds.{samePort, isIn}
 use Rattle.rules_laws.specs.Laws.Tests.{by-test, both}
-use Rattle.memory_providers.specs.Providers.{keyBits, wanted}
+use Rattle.memory_providers.specs.declared.KeyBits.{KeyBits}
+use Rattle.memory_providers.specs.Providers.{noBits, withBit, hasBit, withKey, keyBits, wanted}
 
 abbrev bit : ℕ → ℕ → ℕ
 bit w j = w / 2 ^ j % 2
@@ -23,52 +24,71 @@ bit-or w x j =
     let s = or-step (w / 2 ^ j) (x / 2 ^ j) in
     rw u (omega (arith, s))
 
-own-bit : (k : ℕ) → bit ((1 * 2 ^ (k % 64)) % 2 ^ 64) (k % 64) ≡ 1
-own-bit k =
-    let h : k % 64 < 64 = omega arith in
-    let e : (1 * 2 ^ (k % 64)) % 2 ^ 64 ≡ 2 ^ (k % 64) = ap (λ x. x % 2 ^ 64) (one-mul (2 ^ (k % 64))) ∙ mod-eq-of-lt (pow-lt h) in
-    rw e (one-there (k % 64))
+own-bit : (n : ℕ) → bit ((1 * 2 ^ (n % 64)) % 2 ^ 64) (n % 64) ≡ 1
+own-bit n =
+    let h : n % 64 < 64 = omega arith in
+    let e : (1 * 2 ^ (n % 64)) % 2 ^ 64 ≡ 2 ^ (n % 64) = ap (λ x. x % 2 ^ 64) (one-mul (2 ^ (n % 64))) ∙ mod-eq-of-lt (pow-lt h) in
+    rw e (one-there (n % 64))
   where
     one-there : (j : ℕ) → bit (2 ^ j) j ≡ 1
     one-there j = ap (λ x. x % 2) (div-self (pow-pos j))
 
+-- a bit that is there stays, and a number's own comes
+bit-stays : (w x j : ℕ) → bit w j ≡ 1 → bit (withBit w x) j ≡ 1
+bit-stays w x j e = bit-or w ((1 * 2 ^ (x % 64)) % 2 ^ 64) j ∙ omega arith
+
+bit-comes : (w n : ℕ) → bit (withBit w n) (n % 64) ≡ 1
+bit-comes w n = bit-or w ((1 * 2 ^ (n % 64)) % 2 ^ 64) (n % 64) ∙ omega (arith, own-bit n)
+
 -- a list of claims, one on
-pub bits-next : (w : ℕ) {l qs : List Port} {q : Port} → l ≡ q ∷ qs → keyBits w l ≡ keyBits (bitOr w ((1 * 2 ^ (q .key % 64)) % 2 ^ 64)) qs
+pub bits-next : (b : KeyBits) {l qs : List Port} {q : Port} {w x : ℕ} → l ≡ q ∷ qs → w ≡ withBit (b .low) (q .key) → x ≡ withBit (b .high) (q .key / 64)
+    → keyBits b l ≡ keyBits (record { low = w; high = x }) qs
 unfolding keyBits
-bits-next w s = rw s
+bits-next b s e f = rw (s, e, f)
 
-pub bits-end : (w : ℕ) {l : List Port} → l ≡ [] → keyBits w l ≡ w
+pub bits-end : (b : KeyBits) {l : List Port} → l ≡ [] → keyBits b l ≡ b
 unfolding keyBits
-bits-end w s = rw s
+bits-end b s = rw s
 
--- the bit, then the claims
-module _ (w : ℕ) (qs : List Port) (q : Port) where
-  pub wanted-there : (b : Bool) → bit w (q .key % 64) ≡ 1 → b ≡ isIn q qs → b ≡ wanted w qs q
-  wanted-there b e f = rw (eq-eqb _ _ e) f
+-- the bits, then the claims
+module _ (b : KeyBits) (qs : List Port) (q : Port) where
+  pub wanted-low : hasBit (b .low) (q .key) ≡ false → false ≡ wanted b qs q
+  wanted-low e = rw e
 
-  pub wanted-not : (bit w (q .key % 64) ≡ 1 → ⊥) → false ≡ wanted w qs q
-  wanted-not n = rw (ne-eqb _ _ n)
+  pub wanted-high : hasBit (b .high) (q .key / 64) ≡ false → false ≡ wanted b qs q
+  wanted-high e = rw e (middle-false (hasBit (b .low) (q .key)) (isIn q qs))
+    where
+      middle-false : (a x : Bool) → false ≡ (a && false && x)
+      middle-false true x = refl
+      middle-false false x = refl
 
--- a bit that is there stays
-stays : (w : ℕ) (qs : List Port) (j : ℕ) → bit w j ≡ 1 → bit (keyBits w qs) j ≡ 1
+  pub wanted-both : (t : Bool) → hasBit (b .low) (q .key) ≡ true → hasBit (b .high) (q .key / 64) ≡ true → t ≡ isIn q qs → t ≡ wanted b qs q
+  wanted-both t e f g = rw (e, f) g
+
+-- the bits of a key in both words
+abbrev Has : KeyBits → ℕ → Type 0
+Has b k = (bit (b .low) (k % 64) ≡ 1) × (bit (b .high) (k / 64 % 64) ≡ 1)
+
+stays : (b : KeyBits) (qs : List Port) (k : ℕ) → Has b k → Has (keyBits b qs) k
 unfolding keyBits
-stays w [] j e = e
-stays w (q ∷ qs) j e =
-    let x = (1 * 2 ^ (q .key % 64)) % 2 ^ 64 in
-    stays (bitOr w x) qs j (bit-or w x j ∙ omega arith)
+stays b [] k e = e
+stays b (q ∷ qs) k e =
+    stays (withKey b (q .key)) qs k (bit-stays (b .low) (q .key) (k % 64) (e .0), bit-stays (b .high) (q .key / 64) (k / 64 % 64) (e .1))
 
-covers : (w : ℕ) (qs : List Port) (q : Port) → isIn q qs ≡ true → bit (keyBits w qs) (q .key % 64) ≡ 1
+covers : (b : KeyBits) (qs : List Port) (q : Port) → isIn q qs ≡ true → Has (keyBits b qs) (q .key)
 unfolding keyBits
-covers w [] q e = cc
-covers w (p ∷ qs) q e =
-    let x = (1 * 2 ^ (p .key % 64)) % 2 ^ 64 in
-    let ih = covers (bitOr w x) qs q in
+covers b [] q e = (cc, cc)
+covers b (p ∷ qs) q e =
     by-test (samePort q p)
     (λ t. let k : q .key ≡ p .key = eqb-true _ _ (both _ _ t .0) in
-    stays (bitOr w x) qs (q .key % 64) (bit-or w x (q .key % 64) ∙ let o = ap (λ n. bit x (n % 64)) k ∙ own-bit (p .key) in omega arith))
-    (λ f. ih (rw f at e))
+    stays (withKey b (p .key)) qs (q .key) (rw k (bit-comes (b .low) (p .key), bit-comes (b .high) (p .key / 64))))
+    (λ f. covers (withKey b (p .key)) qs q (rw f at e))
 
-pub wanted-is : (qs : List Port) (q : Port) → wanted (keyBits 0 qs) qs q ≡ isIn q qs
+pub wanted-is : (qs : List Port) (q : Port) → wanted (keyBits noBits qs) qs q ≡ isIn q qs
 wanted-is qs q = by-test (isIn q qs)
-    (λ t. rw (covers 0 qs q t))
-    (λ f. rw f (and-false (eqb (bit (keyBits 0 qs) (q .key % 64)) 1)))
+    (λ t. let h = covers noBits qs q t in rw (h .0, h .1, t))
+    (λ f. rw f (both-false (hasBit (keyBits noBits qs .low) (q .key)) (hasBit (keyBits noBits qs .high) (q .key / 64))))
+  where
+    both-false : (a b : Bool) → (a && b && false) ≡ false
+    both-false true b = and-false b
+    both-false false b = refl

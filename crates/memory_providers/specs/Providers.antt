@@ -12,6 +12,7 @@ use Rattle.memory.specs.View.{view}
 use Rattle.memory.specs.Lookups.{placed, searchFrom, search-first, search-found}
 use Rattle.memory.specs.declared.Place.{Place}
 use Rattle.memory.specs.declared.Place.the-variants.{At}
+use Rattle.memory_providers.specs.declared.KeyBits.{KeyBits}
 
 -- the first place whose plugin has the port as provision or anchor
 unfoldable pub providerAt : List ℕ → Port → Place
@@ -29,10 +30,23 @@ provider-below m q i e = search-found (λ (p : Plugin). provides p q) places m 0
 abbrev pub offeredPart : List ℕ → ℕ → List ℕ
 offeredPart m i = part m (anchorWord m i) ((provsAt m i + 1) * rowWords)
 
--- a word with a bit for each key, by its remainder; and whether a port's bit is there and the port too
-unfoldable pub keyBits : ℕ → List Port → ℕ
-keyBits w [] = w
-keyBits w (q ∷ qs) = keyBits (bitOr w ((1 * 2 ^ (q .key % 64)) % 2 ^ 64)) qs
+-- a bit for each number's remainder by 64
+abbrev pub withBit : ℕ → ℕ → ℕ
+withBit w n = bitOr w ((1 * 2 ^ (n % 64)) % 2 ^ 64)
 
-abbrev pub wanted : ℕ → List Port → Port → Bool
-wanted w qs q = eqb (w / 2 ^ (q .key % 64) % 2) 1 && isIn q qs
+abbrev pub hasBit : ℕ → ℕ → Bool
+hasBit w n = eqb (w / 2 ^ (n % 64) % 2) 1
+
+-- the bits of the keys and of their quotients by 64; and whether a port's bits are there and the port too
+abbrev pub noBits : KeyBits
+noBits = record { low = 0; high = 0 }
+
+abbrev pub withKey : KeyBits → ℕ → KeyBits
+withKey b k = record { low = withBit (b .low) k; high = withBit (b .high) (k / 64) }
+
+unfoldable pub keyBits : KeyBits → List Port → KeyBits
+keyBits b [] = b
+keyBits b (q ∷ qs) = keyBits (withKey b (q .key)) qs
+
+abbrev pub wanted : KeyBits → List Port → Port → Bool
+wanted b qs q = hasBit (b .low) (q .key) && hasBit (b .high) (q .key / 64) && isIn q qs

@@ -7,13 +7,19 @@ ghost use Rattle.rules.specs.Holds.{port, provides, provider};
 ghost use Rattle.rules.specs.Ports.{pairs};
 ghost use Rattle.memory.specs.Layout.{taken, places};
 ghost use Rattle.memory.specs.View.{pluginAt, view};
-ghost use Rattle.memory_providers.specs.Providers.{providerAt, offeredPart, keyBits, wanted};
+ghost use Rattle.memory_providers.specs.Providers.{providerAt, offeredPart, noBits, withBit, hasBit, keyBits, wanted};
 ghost use Rattle.memory_providers.specs.Words.{isAmong, wordOf};
 use memory::Place;
 use memory::WORDS;
 use memory::layout::PLACES;
 use memory::layout::ROW_WORDS;
 use memory::layout::ROWS_START;
+
+// The claimed keys: a bit for each key's remainder by 64, and one for that of its quotient by 64. Two plugins' ports rarely share both.
+struct KeyBits {
+    low: u64,
+    high: u64,
+}
 
 // Whether the plugin of a place has the port as provision or anchor.
 pub fn provides(m: &[u64; WORDS], place: usize, key: u64, realm: u64) -> bool
@@ -57,7 +63,7 @@ pub fn provider(m: &[u64; WORDS], key: u64, realm: u64) -> Place
 }
 
 // The anchor's words and, right behind it, those of the provisions.
-fn offered_words(m: &[u64; WORDS], place: usize) -> &[u64]
+pub fn offered_words(m: &[u64; WORDS], place: usize) -> &[u64]
     ensures { λ r. ⌜ now r ≡ offeredPart (now (m .entry)) (place % places) ⌝ }
 {
     let from = (memory_lists::start(m, place) + memory_lists::dependencies(m, place)) * ROW_WORDS
@@ -66,32 +72,50 @@ fn offered_words(m: &[u64; WORDS], place: usize) -> &[u64]
     memory_lists::some_words(m, from, count)
 }
 
-// A word that has, for each claimed key, the bit of the key's remainder by 64.
-fn key_bits(claims: &[u64]) -> u64
-    ensures { λ r. ⌜ r ≡ keyBits 0 (pairs (now (claims .entry))) ⌝ }
+// The word with the bit of a number's remainder by 64.
+fn with_bit(word: u64, n: u64) -> u64
+    ensures { λ r. ⌜ r ≡ withBit word n ⌝ }
 {
-    let mut bits: u64 = 0;
-    let mut i: usize = 1;
-    while i < claims.len() {
-        bits = bits | 1 << (claims[i - 1] % 64);
-        i += 2;
-    }
-    bits
+    word | 1 << (n % 64)
 }
 
-// Whether a port is claimed; a key whose bit is 0 is not looked for.
-fn is_claimed(bits: u64, key: u64, realm: u64, claims: &[u64]) -> bool
+// Whether the word has that bit.
+fn has_bit(word: u64, n: u64) -> bool
+    ensures { λ r. ⌜ r ≡ hasBit word n ⌝ }
+{
+    (word >> (n % 64)) % 2 == 1
+}
+
+fn key_bits(claims: &[u64]) -> KeyBits
+    ensures { λ r. ⌜ r ≡ keyBits noBits (pairs (now (claims .entry))) ⌝ }
+{
+    let mut low: u64 = 0;
+    let mut high: u64 = 0;
+    let mut i: usize = 1;
+    while i < claims.len() {
+        let key = claims[i - 1];
+        low = with_bit(low, key);
+        high = with_bit(high, key / 64);
+        i += 2;
+    }
+    KeyBits { low, high }
+}
+
+// Whether a port is claimed; a key that lacks one of its bits is not looked for.
+fn is_claimed(bits: KeyBits, key: u64, realm: u64, claims: &[u64]) -> bool
     ensures { λ r. ⌜ r ≡ wanted bits (pairs (now (claims .entry))) (port key realm) ⌝ }
 {
-    if (bits >> (key % 64)) % 2 == 1 {
-        ports::has_port(claims, key, realm)
-    } else {
-        false
+    if !has_bit(bits.low, key) {
+        return false;
     }
+    if !has_bit(bits.high, key / 64) {
+        return false;
+    }
+    ports::has_port(claims, key, realm)
 }
 
 // Whether one of the offered ports is claimed.
-fn meets(bits: u64, claims: &[u64], offered: &[u64]) -> bool
+fn meets(bits: KeyBits, claims: &[u64], offered: &[u64]) -> bool
     ensures { λ r. ⌜ r ≡ any (λ q. wanted bits (pairs (now (claims .entry))) q) (pairs (now (offered .entry))) ⌝ }
 {
     let mut row: usize = 1;
@@ -105,7 +129,7 @@ fn meets(bits: u64, claims: &[u64], offered: &[u64]) -> bool
 }
 
 // Whether this place is taken and one of the ports of its plugin is claimed.
-fn offers_one(m: &[u64; WORDS], place: usize, bits: u64, claims: &[u64]) -> bool
+fn offers_one(m: &[u64; WORDS], place: usize, bits: KeyBits, claims: &[u64]) -> bool
     requires { ⌜ place < places ⌝ }
     ensures { λ r. ⌜ r ≡ (taken (now (m .entry)) place
         && any (λ q. wanted bits (pairs (now (claims .entry))) q) (pairs (offeredPart (now (m .entry)) place))) ⌝ }
@@ -134,7 +158,7 @@ pub fn one_provided(m: &[u64; WORDS], claims: &[u64]) -> bool
 }
 
 // Whether this place is among those of a word and one of the ports of its plugin is claimed.
-fn meets_among(m: &[u64; WORDS], among: u32, place: usize, bits: u64, claims: &[u64]) -> bool
+fn meets_among(m: &[u64; WORDS], among: u32, place: usize, bits: KeyBits, claims: &[u64]) -> bool
     requires { ⌜ place < places ⌝ }
     ensures { λ r. ⌜ r ≡ (isAmong among place
         && any (λ q. wanted bits (pairs (now (claims .entry))) q) (pairs (offeredPart (now (m .entry)) place))) ⌝ }
