@@ -1,15 +1,15 @@
 -- Bytes and digits, place by place. Assumes nothing.
-use Prim.Native.Nat.{ℕ, suc, _+_, _-_, _≤_, _<_}
+use Prim.Native.Nat.{ℕ, suc, _+_, _-_, _*_, _^_, _≤_, _<_}
 use mathlib.Core.Path.{_≡_, refl, sym, ap, _∙_}
-use mathlib.Core.Bool.{true, false, _||_, or-true, true≢false}
+use mathlib.Core.Bool.{Bool, true, false, _||_, or-true, true≢false}
 use mathlib.Core.Option.{none}
 use mathlib.Core.List.{List, [], _∷_}
 use native.Mathlib.Numerals.{add-one}
 use native.Mathlib.Omega.{arith}
-use lib.Dec.{eqb, ltb}
+use lib.Dec.{eqb, ltb, leb}
 use lib.ListN.{length, getD, drop, length-drop, drop-of-length-le}
 use lib.Seq.{drop-cons}
-use borrow.Author.Tests.{lt-ltb, le-ltb, eq-eqb, ne-eqb}
+use borrow.Author.Tests.{leb-true, leb-false, lt-ltb, le-ltb, eq-eqb, ne-eqb}
 use Rattle.rules_basics.specs.Basics.{pick, last}
 use Rattle.rules_basics.specs.Tests.{by-test}
 use Rattle.text_form.specs.Forms.{Read, found, torn, andThen, expect}
@@ -108,6 +108,13 @@ module _ (stop : ℕ) (t : List ℕ) (i n : ℕ) where
 
     pub value-next : with n (getD t i 0) ≤ last → valueTo stop n (drop i t) ≡ valueTo stop (with n (getD t i 0)) (drop (i + 1) t)
     value-next l = step h ∙ rw (other, le-ltb (getD t i 0) 48 low, le-ltb 57 (getD t i 0) high, le-ltb last (with n (getD t i 0)) l)
+
+-- Whether it is past 2^64 − 1, by the answer.
+pub past : (n d : ℕ) {b : Bool} → b ≡ leb (2 ^ 64) (n * 10 + d) → b ≡ true → 2 ^ 64 ≤ n * 10 + d
+past n d e y = leb-true (2 ^ 64) (n * 10 + d) (sym e ∙ y)
+
+pub not-past : (n d : ℕ) {b : Bool} → b ≡ leb (2 ^ 64) (n * 10 + d) → b ≡ false → n * 10 + d < 2 ^ 64
+not-past n d e f = leb-false (2 ^ 64) (n * 10 + d) (sym e ∙ f)
 
 -- The first byte of a number.
 number-step : (stop b : ℕ) (s : List ℕ) → readNumber stop (b ∷ s) ≡ pick (eqb b stop) torn (andThen (upTo stop s) (λ w r. orTorn (numberOf (b ∷ w)) r))

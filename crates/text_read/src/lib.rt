@@ -2,7 +2,8 @@
 // Torn goes in and comes out again, so that a whole block is read as one straight line of calls.
 ghost use mathlib.Core.Path.{_≡_};
 ghost use mathlib.Core.Bool.{true};
-ghost use Prim.Native.Nat.{_≤_};
+ghost use Prim.Native.Nat.{_≤_, _<_, _+_, _*_, _^_};
+ghost use lib.Dec.{leb};
 ghost use lib.ListN.{length};
 ghost use Rattle.text_form.specs.Forms.{expect, behind};
 ghost use Rattle.text_form.specs.Words.{noDigit};
@@ -103,7 +104,18 @@ fn ended(text: &[u8], at: usize, stop: u8, value: u64) -> Number
     }
 }
 
-// The digits behind a number, up to the byte that ends it: one pass. Behind a tenth of 2^64 − 1 no digit fits from 6 on.
+// Whether a digit more makes a number past 2^64 − 1: behind a tenth of that none fits from 6 on.
+fn is_past(n: u64, digit: u64) -> bool
+    requires { ⌜ digit < 10 ⌝ }
+    ensures { λ r. ⌜ r ≡ leb (2 ^ 64) (n * 10 + digit) ⌝ }
+{
+    if n < LAST_TENTH {
+        return false;
+    }
+    LAST_TENTH - digit / 6 < n
+}
+
+// The digits behind a number, up to the byte that ends it: one pass.
 fn digits(text: &[u8], from: usize, stop: u8, value: u64) -> Number
     requires { ⌜ from ≤ length (now text) ⌝ ∗ ⌜ noDigit stop ≡ true ⌝ }
     ensures { λ r. ⌜ NumberRead (valueTo stop value) (now (text .entry)) (Next.At from) r ⌝ }
@@ -119,7 +131,7 @@ fn digits(text: &[u8], from: usize, stop: u8, value: u64) -> Number
             return ended(text, i, stop, n);
         }
         let digit = (byte - 48) as u64;
-        if LAST_TENTH - digit / 6 < n {
+        if is_past(n, digit) {
             return Number {
                 value: 0,
                 next: Next::Torn,

@@ -1,11 +1,11 @@
 -- The digits from place i on, behind the number so far, are those from the first place on.
 use Prim.Native.Nat.{_-_, _≤_}
 use mathlib.Core.Path.{_≡_, refl, _∙_}
-use lib.ListN.{length, drop}
+use lib.ListN.{length, drop, getD}
 use Rattle.text_read.specs.declared.Next.the-variants.{At}
 use Rattle.text_read.specs.Numbers.{stopAt, valueTo}
 use Rattle.text_read.specs.Reads.{reads-torn}
-use Rattle.text_read.proofs.Laws.{value-end, value-low, value-high, value-over, value-next, number-from}
+use Rattle.text_read.proofs.Laws.{value-end, value-low, value-high, value-over, value-next, past, not-past, number-from}
 use native.Mathlib.Omega.{arith}
 use borrow.Author.Needs.{needs}
 use Rattle.text_read.proofs.digits.Statement.{statement}
@@ -56,26 +56,35 @@ returns-2 c =
 cast-digit : tie.Need-cast-digit Inv-loop μ-loop
 cast-digit c = search needs
 
-sub-if3 : tie.Need-sub-if3 Inv-loop μ-loop
-sub-if3 c = search needs
+is-past-requires : tie.Need-is-past-requires Inv-loop μ-loop
+is-past-requires c κs = search needs
 
 returns-3 : tie.Need-returns-3 Inv-loop μ-loop
 returns-3 c =
-    let l = c .before .before .before .before .before in
+    let l = c .before .before .before .before .before .before in
     let st = l .before .before in
     let t = st .args .text .now in
     let stop = st .args .stop in
     let from = st .args .from in
     let i = l .loop .i in
     let n = l .loop .n in
-    let over = value-over stop t i n (omega arith) (c .before .before .if1 .left) (c .before .if2 .left) (st .pre .1) (omega arith) in
+    let over = value-over stop t i n (omega arith) (c .before .before .before .if1 .left) (c .before .before .if2 .left) (st .pre .1)
+    (omega (arith, past n (getD t i 0 - 48) (c .before .is-past .ensures) (c .if3 .taken))) in
     record { reads = reads-torn (valueTo stop (st .args .value)) t (At from) 0 from refl (omega arith) (l .loop .inv .1 ∙ over); one = refl }
 
 mul-n : tie.Need-mul-n Inv-loop μ-loop
-mul-n c = search needs
+mul-n c =
+    let l = c .before .before .before .before .before .before in
+    let i = l .loop .i in
+    let t = l .before .before .args .text .now in
+    record { fits = omega (arith, not-past (l .loop .n) (getD t i 0 - 48) (c .before .is-past .ensures) (c .if3 .left)) }
 
 add-n : tie.Need-add-n Inv-loop μ-loop
-add-n c = search needs
+add-n c =
+    let l = c .before .before .before .before .before .before in
+    let i = l .loop .i in
+    let t = l .before .before .args .text .now in
+    record { fits = omega (arith, not-past (l .loop .n) (getD t i 0 - 48) (c .before .is-past .ensures) (c .if3 .left)) }
 
 add-i : tie.Need-add-i Inv-loop μ-loop
 add-i c = search needs
@@ -85,13 +94,17 @@ loop-less c = search needs
 
 loop-again : tie.Need-loop-again Inv-loop μ-loop
 loop-again c =
-    let l = c .before .before .before .before .before in
+    let l = c .before .before .before .before .before .before in
     let st = l .before .before in
     let t = st .args .text .now in
     let stop = st .args .stop in
     let i = l .loop .i in
-    let n = l .loop .n in
-    (omega arith, l .loop .inv .1 ∙ value-next stop t i n (omega arith) (c .before .before .if1 .left) (c .before .if2 .left) (st .pre .1) (omega arith))
+    let n = l .loop .n in (
+      omega arith,
+      l .loop .inv .1
+          ∙ value-next stop t i n (omega arith) (c .before .before .before .if1 .left) (c .before .before .if2 .left) (st .pre .1)
+          (omega (arith, not-past n (getD t i 0 - 48) (c .before .is-past .ensures) (c .if3 .left))),
+    )
 
 returns-4 : tie.Need-returns-4 Inv-loop μ-loop
 returns-4 c =
@@ -118,7 +131,7 @@ digits-spec =
     ended-requires-2
     returns-2
     cast-digit
-    sub-if3
+    is-past-requires
     returns-3
     mul-n
     add-n
