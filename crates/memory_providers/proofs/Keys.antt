@@ -6,7 +6,6 @@ use mathlib.Core.Path.{_≡_, refl, ap, _∙_}
 use mathlib.Core.Bool.{Bool, true, false, _&&_, and-false}
 use mathlib.Core.List.{List, [], _∷_}
 use lib.Bits.{bitOr, or-step, or-shr}
-use lib.Dec.{eqb}
 use lib.Pow.{pow-lt, pow-pos}
 use borrow.Author.Tests.{eqb-true}
 use Rattle.rules.specs.declared.Port.{Port}

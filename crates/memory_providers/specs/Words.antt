@@ -27,6 +27,11 @@ unfolding wordOf
 word-lt f zero i = omega arith
 word-lt f (suc n) i = omega (arith, word-lt f n (i + 1), yes-no (f i), pow-suc 2 n)
 
+pub word-none : (f : ℕ → Bool) → ((j : ℕ) → f j ≡ false) → (n i : ℕ) → 0 ≡ wordOf f n i
+unfolding wordOf
+word-none f h zero i = refl
+word-none f h (suc n) i = rw (h i, ← word-none f h n (i + 1))
+
 -- A word is made from the last place down: the places from i on are in it.
 abbrev pub Made : (ℕ → Bool) → ℕ → ℕ → Type 0
 Made f w i = (i ≤ places) × (w ≡ wordOf f (places - i) i)
