@@ -1,6 +1,5 @@
 // Document 02 [4]: whether the ports of a text's plugin fit those that stand in the registry's memory already.
 ghost use mathlib.Core.Path.{_≡_};
-ghost use lib.ListN.{drop};
 ghost use Rattle.rules.specs.Holds.{defaultRealm};
 ghost use Rattle.rules.specs.Ports.{pairs};
 ghost use Rattle.memory.specs.View.{view};
@@ -12,26 +11,17 @@ use memory::Place;
 use memory::WORDS;
 use rules::Port;
 
-// The claims, anchor and provisions, are different and no one else's; the provisions are resolved; and the rule gives the dependency
-// list from the parent's.
+// The provisions are resolved, and the rule gives the dependency list from the parent's.
 fn lists_fit(
-    m: &[u64; WORDS],
     anchor: Port,
     realms: &[u64],
     parents: &[u64],
-    claims: &[u64],
+    provisions: &[u64],
     dependencies: &[u64],
 ) -> bool
-    ensures { λ r. ⌜ r ≡ listsFit (view (now (m .entry))) (reachedWith defaultRealm (now (realms .entry))) anchor (pairs (now (parents .entry)))
-        (pairs (now (claims .entry))) (pairs (drop 2 (now (claims .entry)))) (pairs (now (dependencies .entry))) ⌝ }
+    ensures { λ r. ⌜ r ≡ listsFit (reachedWith defaultRealm (now (realms .entry))) anchor (pairs (now (parents .entry)))
+        (pairs (now (provisions .entry))) (pairs (now (dependencies .entry))) ⌝ }
 {
-    if ports::repeated(claims) {
-        return false;
-    }
-    if memory_providers::one_provided(m, claims) {
-        return false;
-    }
-    let provisions = memory_lists::some_words(claims, 2, claims.len());
     if !ports_given::resolved(Port::DEFAULT_REALM, realms, provisions) {
         return false;
     }
@@ -45,27 +35,27 @@ fn lists_fit(
     )
 }
 
-// Its realm list passes row 4, its parent stands there, and its lists fit. The claims are the anchor and then the provisions.
+// Its realm list passes row 4, its parent stands there, and its lists fit.
 pub fn ports_fit(
     m: &[u64; WORDS],
     parent: Parent,
     anchor: Port,
     realms: &[u64],
-    claims: &[u64],
+    provisions: &[u64],
     dependencies: &[u64],
 ) -> bool
-    ensures { λ r. ⌜ r ≡ lentFit (view (now (m .entry))) (parentId parent) anchor (now (realms .entry)) (now (claims .entry)) (now (dependencies .entry)) ⌝ }
+    ensures { λ r. ⌜ r ≡ lentFit (view (now (m .entry))) (parentId parent) anchor (now (realms .entry)) (now (provisions .entry)) (now (dependencies .entry)) ⌝ }
 {
     if ports_realms::bad_realms(realms) {
         return false;
     }
     let Parent::Of(id) = parent else {
         let none = memory_lists::some_words(m, 0, 0);
-        return lists_fit(m, anchor, realms, none, claims, dependencies);
+        return lists_fit(anchor, realms, none, provisions, dependencies);
     };
     let Place::At(at) = memory::find(m, id) else {
         return false;
     };
     let parents = memory_lists::dependency_words(m, at);
-    lists_fit(m, anchor, realms, parents, claims, dependencies)
+    lists_fit(anchor, realms, parents, provisions, dependencies)
 }

@@ -1,4 +1,4 @@
--- A reader may ask document 02 [4]'s conditions plugin by plugin: a text meets them exactly if each plugin joins those before it.
+-- A reader may ask document 02 [4]'s conditions plugin by plugin, and then of all: a text meets them exactly if its plugins are joined.
 use Prim.Native.Nat.{ℕ, _+_, _<_}
 use native.Mathlib.Omega.{arith}
 use mathlib.Core.Path.{_≡_, refl, sym, ap, _∙_, subst}
@@ -7,26 +7,23 @@ use mathlib.Core.List.{List, [], _∷_, _++_, append-nil}
 use lib.Dec.{leb}
 use lib.ListN.{length, length-append}
 use lib.Seq.{append-snoc}
-use borrow.Author.Tests.{leb-true, le-leb, lt-leb, not-true}
-use Rattle.rules.specs.declared.Port.{Port}
-use Rattle.rules.specs.Basics.{any, all}
+use borrow.Author.Tests.{leb-true, le-leb, lt-leb}
+use Rattle.rules.specs.Basics.{all}
 use Rattle.rules.specs.Limits.{maxPlugins, maxRows}
-use Rattle.rules.specs.Holds.{Plugin, isIn, samePort, rowsOf, sumRows}
-use Rattle.rules.specs.Registration.{repeats}
+use Rattle.rules.specs.Holds.{Plugin, rowsOf, sumRows}
 use Rattle.rules.specs.Text.{Said}
-use Rattle.rules.specs.Conditions.{idsRise, parentLower, withinLimits, listsShort, realmsRise, claims, claimsOf, provisionsResolved, byRule}
+use Rattle.rules.specs.Conditions.{idsRise, parentLower, withinLimits, listsShort, realmsRise, portsDiffer, provisionsResolved, byRule}
 use Rattle.rules.specs.Conditions.{begunOnce, idleClean, activeWhole, queuedWithin, dependenciesServed, noCycles, loadable}
 use Rattle.rules_laws.specs.Laws.Tests.{by-test, both}
-use Rattle.rules_laws.specs.Laws.Members.{any-append, all-true, same-self}
+use Rattle.rules_laws.specs.Laws.Members.{all-true}
 use Rattle.rules_load.specs.Joining.{joins, joinAll, behindIds, joined}
 use Rattle.rules_load.specs.Meets.{Meets, loadable-meets, meets-loadable}
-use Rattle.rules_load.specs.Laws.Lists.{any-intro, any-none, chained-true}
-use Rattle.rules_load.specs.Laws.Claims.{Apart, repeats-split}
-use Rattle.rules_load.specs.Laws.Joining.{claims-append, rows-append, rises-behind, next-above, parent-before, list-before}
+use Rattle.rules_load.specs.Laws.Lists.{chained-true}
+use Rattle.rules_load.specs.Laws.Joining.{rows-append, rises-behind, next-above, parent-before, list-before}
 pub use Rattle.rules_load.specs.Laws.Unqueued.{served-unqueued, cycles-unqueued}
 pub use Rattle.rules_load.specs.Laws.JoiningUnqueued.{unqueued-same}
 pub use Rattle.rules_load.specs.Laws.JoiningServed.{available-active, available-served}
-use Rattle.rules_load.specs.Laws.JoiningFits.{Fits, fits-joins, joinAll-append, all-rise, all-gathered, in-middle, each-passes}
+use Rattle.rules_load.specs.Laws.JoiningFits.{Fits, fits-joins, joinAll-append, all-rise, all-rows, in-middle, each-passes}
 
 -- One more behind.
 pub joinAll-snoc : (from : ℕ) (done : List Plugin) (p : Plugin)
@@ -45,36 +42,30 @@ joined-meets s e =
     let f = s .first in
     let n = s .next in
     let ps = s .plugins in
-    let asked = joinAll f [] ps ∷ leb (behindIds f ps) n ∷ all (dependenciesServed ps) ps ∷ noCycles ps ∷ [] in
+    let asked = joinAll f [] ps ∷ leb (behindIds f ps) n ∷ portsDiffer ps ∷ all (dependenciesServed ps) ps ∷ noCycles ps ∷ [] in
     let w = chained-true (leb (length ps) maxPlugins) asked e in
     let few = leb-true (length ps) maxPlugins (w .0) in
     let rise = all-rise f n [] ps few (w .1 .0) (w .1 .1 .0) in
-    let g = all-gathered f [] ps few (w .1 .0) refl refl in
     let each = each-passes f n ps few (w .1 .0) rise in
     record {
       rise = rise;
       parents = each parentLower (λ done p rest i h. sym (parent-before f n done p rest i (p .parent)) ∙ h .parent);
-      limits = rw (w .0, g .0);
+      limits = rw (w .0, all-rows f [] ps few (w .1 .0) refl);
       short = each (λ _. listsShort) (λ done p rest i h. h .short);
       realms = each (λ _. realmsRise) (λ done p rest i h. h .realms);
-      ports = rw (g .1);
+      ports = w .1 .1 .1 .0;
       resolved = each (λ _. provisionsResolved) (λ done p rest i h. h .resolved);
       ruled = each byRule (λ done p rest i h. rw (list-before f n done p rest i (p .parent) (h .parent)) (h .ruled));
       begun = each (λ _. begunOnce) (λ done p rest i h. h .begun);
       idle = each (λ _. idleClean) (λ done p rest i h. h .idle);
       active = each (λ _. activeWhole) (λ done p rest i h. h .active);
       queued = each (λ _. queuedWithin) (λ done p rest i h. h .queued);
-      served = w .1 .1 .1 .0;
-      acyclic = w .1 .1 .1 .1 .0;
+      served = w .1 .1 .1 .1 .0;
+      acyclic = w .1 .1 .1 .1 .1 .0;
     }
 
 within : (s : Said) → withinLimits (s .plugins) ≡ true → (leb (length (s .plugins)) maxPlugins ≡ true) × (leb (sumRows (s .plugins)) maxRows ≡ true)
 within s e = both (leb (length (s .plugins)) maxPlugins) (leb (sumRows (s .plugins)) maxRows) e
-
-unclaimed : (l m n : List Port) → Apart l (m ++ n) → any (λ q. isIn q l) m ≡ false
-unclaimed l m n h = any-none (λ q. isIn q l) m λ q k. by-test (isIn q l)
-    (λ y. absurd (h q y (any-append (samePort q) m n ∙ rw (any-intro (samePort q) m q k (same-self q)))))
-    (λ e. e)
 
 -- and those that meet them join.
 module _ (s : Said) (c : Meets s) (done : List Plugin) (p : Plugin) (rest : List Plugin) (i : s .plugins ≡ done ++ p ∷ rest) where
@@ -87,17 +78,12 @@ module _ (s : Said) (c : Meets s) (done : List Plugin) (p : Plugin) (rest : List
       let parent = parent-before (s .first) (s .next) done p rest rise (p .parent) ∙ passes parentLower (c .parents) in
       let most = leb-true (sumRows (s .plugins)) maxRows (within s (c .limits) .1) in
       let sum = ap sumRows i ∙ rows-append done (p ∷ rest) in
-      let differ = not-true _ (c .ports) in
-      let parted = ap claimsOf i ∙ claims-append done (p ∷ rest) in
-      let claimed = repeats-split (claimsOf done) (claims p ++ claimsOf rest) (sym (ap repeats parted) ∙ differ) in
       record {
         above = le-leb _ _ (next-above (s .first) (s .next) done p rest rise);
         rows = le-leb (sumRows done + rowsOf p) maxRows (omega arith);
         short = passes (λ _. listsShort) (c .short);
         parent = parent;
         realms = passes (λ _. realmsRise) (c .realms);
-        own = repeats-split (claims p) (claimsOf rest) (claimed .1) .0;
-        free = unclaimed (claimsOf done) (claims p) (claimsOf rest) (claimed .2);
         resolved = passes (λ _. provisionsResolved) (c .resolved);
         ruled = rw (list-before (s .first) (s .next) done p rest rise (p .parent) parent) at (passes byRule (c .ruled));
         begun = passes (λ _. begunOnce) (c .begun);
@@ -129,7 +115,7 @@ meets-joined s c =
     let ps = s .plugins in
     let few = within s (c .limits) .0 in
     let end = rises-behind f (s .next) ps [] (rw (append-nil ps) (c .rise)) in
-    rw (few, all-join f [] ps (meets-joins s c), end, c .served, c .acyclic)
+    rw (few, all-join f [] ps (meets-joins s c), end, c .ports, c .served, c .acyclic)
 
 pub joined-loadable : (s : Said) → joined s ≡ loadable s
 joined-loadable s = by-test (loadable s)

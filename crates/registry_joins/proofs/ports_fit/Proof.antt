@@ -12,7 +12,7 @@ returns : tie.Need-returns
 returns c =
     let b = c .before in
     let a = b .before .before .before .before .args in
-    fit-bad (a .m .now) (a .parent) (a .anchor) (a .realms .now) (a .claims .now) (a .dependencies .now) (sym (b .bad-realms .ensures) ∙ c .if1 .taken)
+    fit-bad (a .m .now) (a .parent) (a .anchor) (a .realms .now) (a .provisions .now) (a .dependencies .now) (sym (b .bad-realms .ensures) ∙ c .if1 .taken)
 
 enum-known-parent : tie.Need-enum-known-parent
 enum-known-parent c = search needs
@@ -33,7 +33,7 @@ returns-2 c =
     let e = t .before .before in
     let b = e .before in
     let a = b .before .before .before .before .args in
-    fit-alone (a .m .now) (a .parent) (a .anchor) (a .realms .now) (a .claims .now) (a .dependencies .now)
+    fit-alone (a .m .now) (a .parent) (a .anchor) (a .realms .now) (a .provisions .now) (a .dependencies .now)
     (sym (b .bad-realms .ensures) ∙ e .if1 .left) (t .enum-told .given .1) _ (w .some-words .ensures) (c .lists-fit .ensures)
 
 find-requires : tie.Need-find-requires
@@ -52,7 +52,7 @@ returns-3 c =
     let e = p .before .before in
     let b = e .before in
     let a = b .before .before .before .before .args in
-    fit-orphan (a .m .now) (a .parent) (a .anchor) (a .realms .now) (a .claims .now) (a .dependencies .now)
+    fit-orphan (a .m .now) (a .parent) (a .anchor) (a .realms .now) (a .provisions .now) (a .dependencies .now)
     (sym (b .bad-realms .ensures) ∙ e .if1 .left) _ (p .parent .given .1) (sym (f .find .ensures) ∙ c .enum-told2 .given .1)
 
 dependency-words-requires : tie.Need-dependency-words-requires
@@ -70,7 +70,7 @@ returns-4 c =
     let e = p .before .before in
     let b = e .before in
     let a = b .before .before .before .before .args in
-    fit-child (a .m .now) (a .parent) (a .anchor) (a .realms .now) (a .claims .now) (a .dependencies .now)
+    fit-child (a .m .now) (a .parent) (a .anchor) (a .realms .now) (a .provisions .now) (a .dependencies .now)
     (sym (b .bad-realms .ensures) ∙ e .if1 .left) _ (p .parent .given .1) _ (sym (f .find .ensures) ∙ q .at .given .1)
     _ (w .dependency-words .ensures) (c .lists-fit2 .ensures)
 

@@ -1,47 +1,27 @@
--- Plugins before, one, and plugins behind: what ids that rise, rows, claims and a search in the whole list say of the parts.
+-- Plugins before, one, and plugins behind: what ids that rise, rows and a search in the whole list say of the parts.
 use Prim.Native.Nat.{ℕ, _+_, _≤_, _<_}
 use native.Mathlib.Omega.{arith}
 use native.Mathlib.Nat.{le-refl}
 use mathlib.Core.Path.{_≡_, refl, sym, ap, _∙_}
-use mathlib.Core.Bool.{Bool, true, not, _&&_}
-use mathlib.Core.List.{List, [], _∷_, _++_, append-assoc}
+use mathlib.Core.Bool.{Bool, true, _&&_}
+use mathlib.Core.List.{List, [], _∷_, _++_}
 use mathlib.Core.Option.{Option, none, some}
 use mathlib.Core.Logic.{inl, inr}
 use lib.Dec.{eqb, ltb, leb}
 use lib.ListN.{length}
 use borrow.Author.Tests.{ne-eqb, leb-true, ltb-true, ltb-false}
-use Rattle.rules.specs.declared.Port.{Port}
-use Rattle.rules.specs.Basics.{any, first, isSome, orNone}
+use Rattle.rules.specs.Basics.{isSome, orNone}
 use Rattle.rules.specs.Limits.{maxPlugins}
-use Rattle.rules.specs.Holds.{Plugin, Registry, plugins, lookup, provider, provides, samePort, isIn, sumRows}
-use Rattle.rules.specs.Registration.{parentOf, repeats}
-use Rattle.rules.specs.Conditions.{among, idsRise, realmsRise, claims, claimsOf, provisionsResolved, parentIn, byRule}
+use Rattle.rules.specs.Holds.{Plugin, Registry, plugins, lookup, sumRows}
+use Rattle.rules.specs.Registration.{parentOf}
+use Rattle.rules.specs.Conditions.{among, idsRise, realmsRise, provisionsResolved, parentIn, byRule}
 use Rattle.rules_laws.specs.Laws.Tests.{by-test, both}
-use Rattle.rules_laws.specs.Laws.Members.{In, any-append}
+use Rattle.rules_laws.specs.Laws.Members.{In}
 use Rattle.rules_laws.specs.Laws.Placed.{held-placed}
 use Rattle.rules_load.specs.Joining.{portsFit, portsJoin, standing, behindIds}
-use Rattle.rules_load.specs.Laws.Claims.{provides-claims}
 
 pub standing-plugins : (done : List Plugin) → length done ≤ maxPlugins → plugins (standing done) ≡ done
 standing-plugins done h = held-placed maxPlugins done h
-
--- one that passes is found exactly if there is one
-found-any : {A : Type 0} (f : A → Bool) (l : List A) → isSome (first f l) ≡ any f l
-found-any f [] = refl
-found-any f (x ∷ l) = by-test (f x) (λ y. rw y) (λ n. rw (n, found-any f l))
-
-pub any-same : {A : Type 0} (f g : A → Bool) → ((a : A) → f a ≡ g a) → (l : List A) → any f l ≡ any g l
-any-same f g h [] = refl
-any-same f g h (x ∷ l) = rw (h x, any-same f g h l)
-
--- a port is provided by one of them exactly if it is claimed
-provided-claimed : (l : List Plugin) (k : Port) → any (λ (p : Plugin). provides p k) l ≡ isIn k (claimsOf l)
-provided-claimed [] k = refl
-provided-claimed (p ∷ l) k = rw (provides-claims p k, provided-claimed l k) (sym (any-append (samePort k) (claims p) (claimsOf l)))
-
-pub claims-append : (l m : List Plugin) → claimsOf (l ++ m) ≡ claimsOf l ++ claimsOf m
-claims-append [] m = refl
-claims-append (p ∷ l) m = ap (λ c. claims p ++ c) (claims-append l m) ∙ sym (append-assoc (claims p) (claimsOf l) (claimsOf m))
 
 pub rows-append : (l m : List Plugin) → sumRows (l ++ m) ≡ sumRows l + sumRows m
 rows-append [] m = omega arith
@@ -49,29 +29,15 @@ rows-append (p ∷ l) m = let i = rows-append l m in omega arith
 
 -- What is asked of a plugin's ports reads no more of a registry than its plugins.
 abbrev pub portsAmong : List Plugin → Plugin → Bool
-portsAmong ps p =
-    orNone (λ x. isSome (among ps x)) (p .parent)
-    && realmsRise p
-    && not (repeats (claims p))
-    && not (any (λ q. isIn q (claimsOf ps)) (claims p))
-    && provisionsResolved p
-    && byRule ps p
+portsAmong ps p = orNone (λ x. isSome (among ps x)) (p .parent) && realmsRise p && provisionsResolved p && byRule ps p
 
 pub ports-among : (r : Registry) (p : Plugin) → portsJoin r p ≡ portsAmong (plugins r) p
-unfolding portsFit lookup provider
-ports-among r p =
-    let i : (v : Option ℕ) → parentOf r v ≡ parentIn (plugins r) v = parent in
-    rw (
-      any-same (λ q. isSome (provider r q)) (λ q. isIn q (claimsOf (plugins r))) taken (claims p),
-      i (p .parent),
-    )
+unfolding portsFit lookup
+ports-among r p = rw (parent (p .parent))
   where
     parent : (v : Option ℕ) → parentOf r v ≡ parentIn (plugins r) v
     parent none = refl
     parent (some x) = refl
-
-    taken : (q : Port) → isSome (provider r q) ≡ isIn q (claimsOf (plugins r))
-    taken q = found-any (λ (p : Plugin). provides p q) (plugins r) ∙ provided-claimed (plugins r) q
 
 pub ports-standing : (done : List Plugin) → length done ≤ maxPlugins → (p : Plugin) → portsJoin (standing done) p ≡ portsAmong done p
 ports-standing done h p = ports-among (standing done) p ∙ ap (λ l. portsAmong l p) (standing-plugins done h)

@@ -2,25 +2,22 @@
 use Prim.Native.Nat.{ℕ, _+_, _≤_}
 use native.Mathlib.Omega.{arith}
 use mathlib.Core.Path.{_≡_, refl, sym, ap, _∙_}
-use mathlib.Core.Bool.{Bool, true, false, not, _&&_, and-assoc, true≢false}
+use mathlib.Core.Bool.{Bool, true, _&&_, and-assoc}
 use mathlib.Core.List.{List, [], _∷_, _++_, append-nil}
 use mathlib.Core.Logic.{inl, inr}
 use lib.Dec.{leb}
 use lib.ListN.{length, length-append}
 use lib.Seq.{append-snoc}
-use borrow.Author.Tests.{not-true}
-use Rattle.rules.specs.Basics.{any, all, isSome, orNone}
+use Rattle.rules.specs.Basics.{all, isSome, orNone}
 use Rattle.rules.specs.Limits.{maxPlugins, maxRows}
-use Rattle.rules.specs.Holds.{Plugin, isIn, rowsOf, sumRows}
-use Rattle.rules.specs.Registration.{repeats}
-use Rattle.rules.specs.Conditions.{among, idsRise, listsShort, realmsRise, claims, claimsOf, provisionsResolved, byRule}
+use Rattle.rules.specs.Holds.{Plugin, rowsOf, sumRows}
+use Rattle.rules.specs.Conditions.{among, idsRise, listsShort, realmsRise, provisionsResolved, byRule}
 use Rattle.rules.specs.Conditions.{begunOnce, idleClean, activeWhole, queuedWithin}
 use Rattle.rules_laws.specs.Laws.Tests.{both}
-use Rattle.rules_laws.specs.Laws.Members.{In, any-false, is-in}
+use Rattle.rules_laws.specs.Laws.Members.{In}
 use Rattle.rules_load.specs.Joining.{lifeFits, joins, joinAll, behindIds}
 use Rattle.rules_load.specs.Laws.Lists.{all-intro, chained-true}
-use Rattle.rules_load.specs.Laws.Claims.{Apart, repeats-append}
-use Rattle.rules_load.specs.Laws.Joining.{portsAmong, ports-standing, claims-append, rows-append}
+use Rattle.rules_load.specs.Laws.Joining.{portsAmong, ports-standing, rows-append}
 
 -- What is asked of a plugin that joins, by name.
 pub record Fits (from : ℕ) (done : List Plugin) (p : Plugin) : Type 0 where
@@ -29,8 +26,6 @@ pub record Fits (from : ℕ) (done : List Plugin) (p : Plugin) : Type 0 where
   pub short : listsShort p ≡ true
   pub parent : orNone (λ x. isSome (among done x)) (p .parent) ≡ true
   pub realms : realmsRise p ≡ true
-  pub own : repeats (claims p) ≡ false
-  pub free : any (λ q. isIn q (claimsOf done)) (claims p) ≡ false
   pub resolved : provisionsResolved p ≡ true
   pub ruled : byRule done p ≡ true
   pub begun : begunOnce p ≡ true
@@ -44,8 +39,7 @@ module _ (from : ℕ) (done : List Plugin) (p : Plugin) (few : length done ≤ m
   joins-fits e =
       let e′ = rw (ports-standing done few p) at e in
       let a = chained-true (leb from (p .id)) (leb (sumRows done + rowsOf p) maxRows ∷ listsShort p ∷ portsAmong done p ∷ lifeFits p ∷ []) e′ in
-      let free = any (λ q. isIn q (claimsOf done)) (claims p) in
-      let asked = realmsRise p ∷ not (repeats (claims p)) ∷ not free ∷ provisionsResolved p ∷ byRule done p ∷ [] in
+      let asked = realmsRise p ∷ provisionsResolved p ∷ byRule done p ∷ [] in
       let b = chained-true (orNone (λ x. isSome (among done x)) (p .parent)) asked (a .1 .1 .1 .0) in
       let c = chained-true (begunOnce p) (idleClean p ∷ activeWhole p ∷ queuedWithin p ∷ []) (a .1 .1 .1 .1 .0) in
       record {
@@ -54,10 +48,8 @@ module _ (from : ℕ) (done : List Plugin) (p : Plugin) (few : length done ≤ m
         short = a .1 .1 .0;
         parent = b .0;
         realms = b .1 .0;
-        own = not-true _ (b .1 .1 .0);
-        free = not-true _ (b .1 .1 .1 .0);
-        resolved = b .1 .1 .1 .1 .0;
-        ruled = b .1 .1 .1 .1 .1 .0;
+        resolved = b .1 .1 .0;
+        ruled = b .1 .1 .1 .0;
         begun = c .0;
         idle = c .1 .0;
         active = c .1 .1 .0;
@@ -74,8 +66,6 @@ module _ (from : ℕ) (done : List Plugin) (p : Plugin) (few : length done ≤ m
         f .short,
         f .parent,
         f .realms,
-        f .own,
-        f .free,
         f .resolved,
         f .ruled,
         f .begun,
@@ -104,7 +94,7 @@ all-fit from done p rest few e =
     joins-fits (behindIds from done) done p (omega arith)
     (both (joins (behindIds from done) done p) (joinAll (p .id + 1) (done ++ p ∷ []) rest) (w .1) .0)
 
--- Ids rise, rows sum up, and claims stay apart.
+-- Ids rise, and rows sum up.
 pub all-rise : (from n : ℕ) (done l : List Plugin) → length (done ++ l) ≤ maxPlugins → joinAll from done l ≡ true
     → leb (behindIds from l) n ≡ true → idsRise from n l ≡ true
 unfolding joinAll
@@ -114,23 +104,16 @@ all-rise from n done (p ∷ l) few e h =
     let k = length-append done (p ∷ l) in
     rw (joins-fits from done p (omega arith) (w .0) .above) (all-rise (p .id + 1) n (done ++ p ∷ []) l (rw (append-snoc done p l) few) (w .1) h)
 
-apart : (done : List Plugin) (p : Plugin) → any (λ q. isIn q (claimsOf done)) (claims p) ≡ false → Apart (claimsOf done) (claims p)
-apart done p e k x y = true≢false (sym x ∙ any-false (λ q. isIn q (claimsOf done)) (claims p) k e (is-in k (claims p) y))
-
-pub all-gathered : (from : ℕ) (done l : List Plugin) → length (done ++ l) ≤ maxPlugins → joinAll from done l ≡ true
-    → leb (sumRows done) maxRows ≡ true → repeats (claimsOf done) ≡ false
-    → (leb (sumRows (done ++ l)) maxRows ≡ true) × (repeats (claimsOf (done ++ l)) ≡ false)
+pub all-rows : (from : ℕ) (done l : List Plugin) → length (done ++ l) ≤ maxPlugins → joinAll from done l ≡ true
+    → leb (sumRows done) maxRows ≡ true → leb (sumRows (done ++ l)) maxRows ≡ true
 unfolding joinAll
-all-gathered from done [] few e rows claimed = rw (append-nil done) (rows, claimed)
-all-gathered from done (p ∷ l) few e rows claimed =
+all-rows from done [] few e rows = rw (append-nil done) rows
+all-rows from done (p ∷ l) few e rows =
     let w = both (joins from done p) (joinAll (p .id + 1) (done ++ p ∷ []) l) e in
     let k = length-append done (p ∷ l) in
     let f = joins-fits from done p (omega arith) (w .0) in
     let i : sumRows (done ++ p ∷ []) ≡ sumRows done + rowsOf p = omega (arith, rows-append done (p ∷ [])) in
-    let j = claims-append done (p ∷ []) ∙ ap (λ c. claimsOf done ++ c) (append-nil (claims p)) in
-    rw (append-snoc done p l) at
-    (all-gathered (p .id + 1) (done ++ p ∷ []) l (rw (append-snoc done p l) few) (w .1) (rw i (f .rows))
-    (rw j (repeats-append (claimsOf done) (claims p) claimed (f .own) (apart done p (f .free)))))
+    rw (append-snoc done p l) at (all-rows (p .id + 1) (done ++ p ∷ []) l (rw (append-snoc done p l) few) (w .1) (rw i (f .rows)))
 
 -- Everyone of a list has those before it.
 split-at : (l : List Plugin) (a : Plugin) → In a l → (done : List Plugin) × (rest : List Plugin) × (l ≡ done ++ a ∷ rest)

@@ -9,12 +9,12 @@ use Rattle.rules.specs.Limits.{maxPlugins}
 use Rattle.rules.specs.Holds.{Plugin, Registry, plugins}
 use Rattle.rules.specs.Load.{unqueued}
 use Rattle.rules.specs.Conditions.{among}
-use Rattle.rules_load.specs.Laws.Unqueued.{claims-unqueued, there-unqueued, parents-unqueued}
+use Rattle.rules_load.specs.Laws.Unqueued.{there-unqueued, parents-unqueued}
 use Rattle.rules_load.specs.Joining.{portsJoin, standing}
 use Rattle.rules_load.specs.Laws.Joining.{portsAmong, ports-among, ports-standing}
 
 ports-unqueued : (ps : List Plugin) (p : Plugin) → portsAmong (map unqueued ps) p ≡ portsAmong ps p
-ports-unqueued ps p = rw (parent (p .parent), claims-unqueued ps, parents-unqueued ps (p .parent))
+ports-unqueued ps p = rw (parent (p .parent), parents-unqueued ps (p .parent))
   where
     parent : (v : Option ℕ) → orNone (λ x. isSome (among (map unqueued ps) x)) v ≡ orNone (λ x. isSome (among ps x)) v
     parent none = refl
