@@ -14,7 +14,6 @@ use Rattle.rules.specs.declared.Root.the-variants.{Unissued, Queued, Spent}
 use Rattle.rules.specs.Holds.{Realms, Plugin, Registry, provided, defaultRealm}
 use Rattle.rules.specs.Ports.{oddLength, flat, realmsOf}
 use Rattle.rules.specs.Queries.{phaseNumber}
-use Rattle.rules.specs.Conditions.{claims}
 use Rattle.rules.specs.Load.{unqueuedRoot, unqueued}
 use Rattle.rules_laws.specs.Laws.Pairs.{pairs-flat}
 use Rattle.rules_load.specs.Joining.{portsJoin}
@@ -25,6 +24,7 @@ use Rattle.memory.specs.Frames.{decoded-encoded}
 use Rattle.memory.specs.declared.Words.{Words}
 use Rattle.memory_entry.specs.declared.Entry.{Entry}
 use Rattle.text_read_block.specs.declared.Block.{Block}
+use Rattle.text_read_block.specs.Blocks.{blockOf}
 use Rattle.registry_joins.specs.Fits.{lentFit, lent-fit}
 use Rattle.memory_load.specs.Step.{parent-back}
 
@@ -47,14 +47,14 @@ entryOf b rows next = record {
 }
 
 -- the words of a life as it is loaded
-abbrev pub loadedLife : (revision payload phase retired generation root : ℕ) → Words
-loadedLife revision payload phase retired generation root = record {
-  revision = revision;
-  payload = payload;
-  phase = phase;
-  retired = retired;
-  generation = generation;
-  root = unqueuedTag root;
+abbrev pub loadedLife : Block → Words
+loadedLife b = record {
+  revision = b .revision;
+  payload = b .payload;
+  phase = b .phase;
+  retired = b .retired;
+  generation = b .generation;
+  root = unqueuedTag (b .root);
   «root_revision» = 0;
   «root_argument» = 0;
 }
@@ -79,10 +79,9 @@ as-byte : (b : Bool) → yesNo b ≡ boolByte b
 as-byte true = refl
 as-byte false = refl
 
-pub life-loaded : (p : Plugin)
-    → decoded (loadedLife (p .revision) (p .payload) (phaseNumber (p .phase)) (yesNo (p .retired)) (p .generation) (rootTag (p .root))) ≡ lifeOf (unqueued p)
+pub life-loaded : (p : Plugin) (n : ℕ) → decoded (loadedLife (blockOf p n)) ≡ lifeOf (unqueued p)
 unfolding encoded
-life-loaded p =
+life-loaded p n =
     ap decoded (λ x. record {
       revision = p .revision;
       payload = p .payload;
@@ -104,9 +103,9 @@ realms-back z e = λ x. record { rows = pairs-flat (z .rows) x; other = sym e x 
 
 pub ports-loaded : (r : Registry) (p : Plugin) → p .realms .other ≡ defaultRealm → length (p .realms .rows) ≤ maxRealmRows
     → length (p .dependencies) ≤ maxDependencies
-    → lentFit r (parentOf (yesNo (isSome (p .parent))) (orElse (p .parent) 0)) (p .anchor) (flat (p .realms .rows)) (flat (claims p)) (flat (p .dependencies))
+    → lentFit r (parentOf (yesNo (isSome (p .parent))) (orElse (p .parent) 0)) (p .anchor) (flat (p .realms .rows)) (flat (provided p)) (flat (p .dependencies))
     ≡ portsJoin r p
 ports-loaded r p default realms dependencies =
-    lent-fit r (parentOf (yesNo (isSome (p .parent))) (orElse (p .parent) 0)) (p .anchor) (flat (p .realms .rows)) (flat (claims p)) (flat (p .dependencies))
+    lent-fit r (parentOf (yesNo (isSome (p .parent))) (orElse (p .parent) 0)) (p .anchor) (flat (p .realms .rows)) (flat (provided p)) (flat (p .dependencies))
     (flat-even (p .realms .rows)) (rw (pairs-flat (p .realms .rows)) realms) (rw (pairs-flat (p .dependencies)) dependencies)
-    ∙ rw (parent-back (p .parent), realms-back (p .realms) default, pairs-flat (claims p), pairs-flat (provided p), pairs-flat (p .dependencies))
+    ∙ rw (parent-back (p .parent), realms-back (p .realms) default, pairs-flat (provided p), pairs-flat (p .dependencies))

@@ -1,27 +1,30 @@
--- What is done with a block, by the tests on its words: refused by one of them, or its plugin is written.
+-- What is asked of a block and what is written of it, by its numbers and the words that its lists went to; and that this is its plugin's.
 use Prim.Native.Nat.{ℕ, _+_, _*_, _%_, _<_}
 use native.Mathlib.Omega.{arith}
+use native.Mathlib.Nat.{mod-eq-of-lt}
 use mathlib.Core.Path.{_≡_, sym, ap, _∙_, subst}
-use mathlib.Core.Bool.{true, false}
-use mathlib.Core.List.{List}
+use mathlib.Core.Bool.{Bool, true, false, _&&_}
+use mathlib.Core.List.{List, [], _∷_}
 use mathlib.Core.Option.{Option}
-use lib.ListN.{length, getD, take}
+use lib.ListN.{length, getD, take, drop, length-drop}
+use lib.Seq.{take-all}
 use Rattle.rules.specs.declared.Port.{Port}
-use Rattle.rules.specs.Holds.{port, Plugin, rowsOf, defaultRealm}
+use Rattle.rules.specs.Holds.{port, Plugin, Registry, rowsOf, defaultRealm}
 use Rattle.rules.specs.Ports.{pairs, flat}
 use Rattle.rules.specs.Conditions.{claims}
-use Rattle.rules.specs.Text.{block}
 use Rattle.rules.specs.Load.{unqueued}
+use Rattle.rules_laws.specs.Laws.Tests.{by-test}
 use Rattle.rules_load.specs.Joining.{portsJoin, lifeFits}
-use Rattle.memory.specs.Layout.{places}
+use Rattle.rules_load.specs.Laws.Lists.{chained-true}
+use Rattle.memory.specs.Layout.{part, places}
 use Rattle.memory.specs.View.{view, parentOf, decoded}
 use Rattle.memory.specs.declared.Life.{Life}
 use Rattle.memory_entry.specs.declared.Entry.{Entry}
-use Rattle.memory_load.specs.Loading.{loadedPlace, loadedPlugin, loaded-by}
+use Rattle.memory_load.specs.Loading.{loadedPlace, loadedPlugin}
 use Rattle.text_read.specs.declared.Next.the-variants.{At, Torn}
-use Rattle.text_read.specs.Reads.{Reads}
 use Rattle.text_read_block.specs.declared.Block.{Block}
-use Rattle.text_read_block.specs.Blocks.{BlockRead, blockOf, block-torn, block-whole, realms-front, dependencies-front, claims-front, values-front, mask-whole}
+use Rattle.text_read_block.specs.Blocks.{Lent, BlockRead, blockOf, listsOf, block-torn, block-whole}
+use Rattle.text_read_block.specs.Blocks.{realms-front, dependencies-front, claims-front, values-front, mask-whole}
 use Rattle.registry_joins.specs.Fits.{lentFit}
 use Rattle.registry_load.specs.declared.Joined.{Joined}
 use Rattle.registry_load.specs.Lives.{lifeBy, life-by, countsBy, countsFit, counts-by, Within, counts-within}
@@ -29,99 +32,152 @@ use Rattle.registry_load.specs.Blocks.{entryOf, loadedLife, life-loaded,
 use Rattle.registry_load.specs.Joined.{fits}
 use Rattle.registry_load.specs.Plugins.{Apart, tornBlock, unfitBlock, JoinRead, refused, joined}
 
+-- A block's lists stand in front of the words that they went to; the anchor leads the claims.
+abbrev pub realmsIn : Block → List ℕ → List ℕ
+realmsIn b words = take (b .realms * 2) words
+
+abbrev pub neededIn : Block → List ℕ → List ℕ
+neededIn b words = take (b .dependencies * 2) words
+
+abbrev pub claimedIn : Block → List ℕ → List ℕ
+claimedIn b words = take (b .provisions * 2 + 2) words
+
+-- its numbers, its life and its ports beside those of a registry
+abbrev portsBy : Registry → Block → (realms dependencies claims : List ℕ) → Bool
+portsBy r b realms dependencies claims =
+    lentFit r (parentOf (b .tag) (b .parent)) (getD (pairs (claimedIn b claims)) 0 (port 0 0)) (realmsIn b realms) (drop 2 (claimedIn b claims))
+    (neededIn b dependencies)
+
+unfoldable pub blockFits : Registry → Block → (realms dependencies claims : List ℕ) → (from next rows : ℕ) → Bool
+blockFits r b realms dependencies claims from next rows = countsBy b from next rows && lifeBy b && portsBy r b realms dependencies claims
+
+-- by its tests, in their order
+module _ (r : Registry) (b : Block) (realms dependencies claims : List ℕ) (from next rows : ℕ) where
+  pub fits-counts : countsBy b from next rows ≡ false → false ≡ blockFits r b realms dependencies claims from next rows
+  unfolding blockFits
+  fits-counts e = rw e
+
+  module _ (c : countsBy b from next rows ≡ true) where
+    pub fits-life : lifeBy b ≡ false → false ≡ blockFits r b realms dependencies claims from next rows
+    unfolding blockFits
+    fits-life e = rw (c, e)
+
+    pub fits-ports : lifeBy b ≡ true → {claimed rows₁ rows₂ rows₃ : List ℕ} {parent : Option ℕ} {anchor : Port} {x : Bool} → claimed ≡ claimedIn b claims
+        → parent ≡ parentOf (b .tag) (b .parent) → anchor ≡ getD (pairs claimed) 0 (port 0 0) → rows₁ ≡ realmsIn b realms
+        → rows₂ ≡ part claimed 2 (length claimed) → rows₃ ≡ neededIn b dependencies → x ≡ lentFit r parent anchor rows₁ rows₂ rows₃
+        → x ≡ blockFits r b realms dependencies claims from next rows
+    unfolding blockFits
+    fits-ports e {claimed = claimed} w p a f g h y =
+        let behind : part claimed 2 (length claimed) ≡ drop 2 claimed = take-all (length claimed) (drop 2 claimed) (omega (arith, length-drop 2 claimed)) in
+        y ∙ rw (c, e, p, a, f, g ∙ behind, h, w)
+
+unfoldable pub blockPut : List ℕ → Block → (realms dependencies claims values : List ℕ) → (place rows next : ℕ) → List ℕ
+blockPut w b realms dependencies claims values place rows next =
+    loadedPlace w place (entryOf b rows next) (decoded (loadedLife b)) (realmsIn b realms) (neededIn b dependencies) (claimedIn b claims) (b .mask)
+    (take (b .provisions) values)
+
+pub put-by : (w : List ℕ) (b : Block) (realms dependencies claims values : List ℕ) (place rows next : ℕ) {e : Entry} {life : Life} {r d c v w′ : List ℕ}
+    → e ≡ entryOf b rows next → life ≡ decoded (loadedLife b) → r ≡ realmsIn b realms → d ≡ neededIn b dependencies → c ≡ claimedIn b claims
+    → v ≡ take (b .provisions) values → w′ ≡ loadedPlace w place e life r d c (b .mask) v → w′ ≡ blockPut w b realms dependencies claims values place rows next
+unfolding blockPut
+put-by w b realms dependencies claims values place rows next e l r d c v put = put ∙ rw (e, l, r, d, c, v)
+
+-- the lent words are as many as the lists have room for
+pub record Rooms (l : Lent) : Type 0 where
+  pub realms : length (l .realms) ≡ 32
+  pub dependencies : length (l .dependencies) ≡ 96
+  pub claims : length (l .claims) ≡ 32
+  pub values : length (l .values) ≡ 15
+
+-- of a block whose numbers fit
+module _ (p : Plugin) (n from next rows : ℕ) (before : Lent) (size : Rooms before) (fit : countsFit from next rows p ≡ true) where
+  within : Within (blockOf p n) next rows
+  within = counts-within (blockOf p n) from next rows (counts-by from next rows p n ∙ fit)
+
+  realms-are : realmsIn (blockOf p n) (listsOf before p .realms) ≡ flat (p .realms .rows)
+  realms-are = realms-front p (before .realms) (size .realms) (within .few-realms)
+
+  needed-are : neededIn (blockOf p n) (listsOf before p .dependencies) ≡ flat (p .dependencies)
+  needed-are = dependencies-front p (before .dependencies) (size .dependencies) (within .few-dependencies)
+
+  claimed-are : claimedIn (blockOf p n) (listsOf before p .claims) ≡ flat (claims p)
+  claimed-are = claims-front p (before .claims) (size .claims) (within .few-provisions)
+
+  ports-are : (r : Registry) → p .realms .other ≡ defaultRealm
+      → portsBy r (blockOf p n) (listsOf before p .realms) (listsOf before p .dependencies) (listsOf before p .claims) ≡ portsJoin r p
+  ports-are r default = rw (realms-are, needed-are, claimed-are) (ports-loaded r p default (within .few-realms) (within .few-dependencies))
+
+  put-is : (w : List ℕ) (place : ℕ) → place < places
+      → blockPut w (blockOf p n) (listsOf before p .realms) (listsOf before p .dependencies) (listsOf before p .claims) (listsOf before p .values)
+      (place % places) rows next
+      ≡ loadedPlugin w place rows next (unqueued p)
+  unfolding blockPut
+  put-is w place h = rw (
+    mod-eq-of-lt h,
+    life-loaded p n,
+    realms-are,
+    needed-are,
+    claimed-are,
+    mask-whole p (within .few-provisions),
+    values-front p (before .values) (size .values) (within .few-provisions),
+  )
+
+fits-are : (w : List ℕ) (p : Plugin) (n from next rows : ℕ) (before : Lent) → Rooms before → p .realms .other ≡ defaultRealm
+    → blockFits (view w) (blockOf p n) (listsOf before p .realms) (listsOf before p .dependencies) (listsOf before p .claims) from next rows
+    ≡ fits w from next rows p
+unfolding blockFits fits
+fits-are w p n from next rows before size default = by-test (countsFit from next rows p)
+    (λ y. rw (counts-by from next rows p n, y, life-by p n, ports-are p n from next rows before size y (view w) default))
+    (λ f. rw (counts-by from next rows p n, f))
+
 abbrev refusal : Joined
 refusal = record { next = Torn; rows = 0; from = 0 }
 
-module _ (t : List ℕ) (at : ℕ) (w : List ℕ) (place from next rows : ℕ) {b : Block} (x : BlockRead t (At at) b) where
+-- What is done with a block that was read into lent words.
+module _ (t : List ℕ) (at : ℕ) (w : List ℕ) (place from next rows : ℕ) (before after : Lent) (b : Block) (x : BlockRead t (At at) before b after) where
   refuses : {r : Joined} {w′ : List ℕ} → r ≡ refusal → Apart t at w from next rows → JoinRead t at w place from next rows r w′
   refuses {r} {w′} i u = subst (λ (r : Joined). JoinRead t at w place from next rows r w′) (sym i) (refused w′ u)
 
-  pub torn-join : {r : Joined} {w′ : List ℕ} → r ≡ refusal → b .next ≡ Torn → JoinRead t at w place from next rows r w′
-  torn-join i e = let k = block-torn x e in refuses i (tornBlock (k .0) (k .1))
+  pub join-torn : {r : Joined} {w′ : List ℕ} → r ≡ refusal → b .next ≡ Torn → JoinRead t at w place from next rows r w′
+  join-torn i e = let k = block-torn x e in refuses i (tornBlock (k .0) (k .1))
 
-  module _ (n : ℕ) (e : b .next ≡ At n) where
-    p : Plugin
-    p = block-whole n x e .0
+  module _ (size : Rooms before) (n : ℕ) (e : b .next ≡ At n) where
+    abbrev fit : Bool
+    fit = blockFits (view w) b (after .realms) (after .dependencies) (after .claims) from next rows
 
-    default : p .realms .other ≡ defaultRealm
-    unfolding p
-    default = block-whole n x e .1
+    fit-is : (p : Plugin) → p .realms .other ≡ defaultRealm → b ≡ blockOf p n → after ≡ listsOf before p → fit ≡ fits w from next rows p
+    fit-is p default i j = rw (i, j) (fits-are w p n from next rows before size default)
 
-    reads : Reads (block .read) t (At at) p (At n)
-    unfolding p
-    reads = block-whole n x e .2
+    pub join-unfit : {r : Joined} {w′ : List ℕ} → r ≡ refusal → fit ≡ false → JoinRead t at w place from next rows r w′
+    join-unfit i f =
+        let k = block-whole n x e in
+        let p = k .0 in
+        refuses i (unfitBlock p n (k .2) (sym (fit-is p (k .1) (k .3) (k .4)) ∙ f))
 
-    same : b ≡ blockOf p n
-    unfolding p
-    same = block-whole n x e .3
+    pub join-within : fit ≡ true → Within b next rows
+    unfolding blockFits
+    join-within y = counts-within b from next rows (chained-true (countsBy b from next rows) (lifeBy b ∷ portsBy (view w) b (after .realms) (after .dependencies) (after .claims) ∷ []) y .0)
 
-    counts-are : countsBy (b .id) from next rows (b .realms) (b .dependencies) (b .provisions) ≡ countsFit from next rows p
-    counts-are = ap (λ (c : Block). countsBy (c .id) from next rows (c .realms) (c .dependencies) (c .provisions)) same ∙ counts-by from next rows p
-
-    life-is : lifeBy (b .phase) (b .generation) (b .revision) (b .root) (b .queued) (b .valued) (b .provisions) ≡ lifeFits p
-    life-is = ap (λ (c : Block). lifeBy (c .phase) (c .generation) (c .revision) (c .root) (c .queued) (c .valued) (c .provisions)) same ∙ life-by p
-
-    pub counts-join : {r : Joined} {w′ : List ℕ} → r ≡ refusal → false ≡ countsBy (b .id) from next rows (b .realms) (b .dependencies) (b .provisions)
-        → JoinRead t at w place from next rows r w′
+    pub join-fits : fit ≡ true → place < places → {w′ : List ℕ}
+        → w′ ≡ blockPut w b (after .realms) (after .dependencies) (after .claims) (after .values) (place % places) rows next
+        → JoinRead t at w place from next rows (record { next = At n; rows = rows + b .dependencies + b .provisions + 1; from = b .id + 1 }) w′
     unfolding fits
-    counts-join i h = refuses i (unfitBlock p n reads (rw (sym counts-are ∙ sym h)))
-
-    module _ (c : true ≡ countsBy (b .id) from next rows (b .realms) (b .dependencies) (b .provisions)) where
-      pub life-join : {r : Joined} {w′ : List ℕ} → r ≡ refusal
-          → false ≡ lifeBy (b .phase) (b .generation) (b .revision) (b .root) (b .queued) (b .valued) (b .provisions)
-          → JoinRead t at w place from next rows r w′
-      unfolding fits
-      life-join i h = refuses i (unfitBlock p n reads (rw (sym counts-are ∙ sym c, sym life-is ∙ sym h)))
-
-      few : Within (p .id) next rows (length (p .realms .rows)) (length (p .dependencies)) (length (p .provisions))
-      few = counts-within (p .id) from next rows (length (p .realms .rows)) (length (p .dependencies)) (length (p .provisions))
-          (counts-by from next rows p ∙ sym counts-are ∙ sym c)
-
-      -- the parts of its lists that are handed on
-      module _ (l : true ≡ lifeBy (b .phase) (b .generation) (b .revision) (b .root) (b .queued) (b .valued) (b .provisions))
-          (realms needed claimed : List ℕ) (parent : Option ℕ) (anchor : Port)
-          (r₁ : realms ≡ take (b .realms * 2) (b .«realm_words»)) (r₂ : needed ≡ take (b .dependencies * 2) (b .«dependency_words»))
-          (r₃ : claimed ≡ take (b .provisions * 2 + 2) (b .«claim_words»)) (r₄ : parent ≡ parentOf (b .tag) (b .parent))
-          (r₅ : anchor ≡ getD (pairs claimed) 0 (port 0 0)) where
-        realms-are : realms ≡ flat (p .realms .rows)
-        realms-are = r₁ ∙ ap (λ (c : Block). take (c .realms * 2) (c .«realm_words»)) same ∙ realms-front p (few .few-realms)
-
-        needed-are : needed ≡ flat (p .dependencies)
-        needed-are = r₂ ∙ ap (λ (c : Block). take (c .dependencies * 2) (c .«dependency_words»)) same ∙ dependencies-front p (few .few-dependencies)
-
-        claimed-are : claimed ≡ flat (claims p)
-        claimed-are = r₃ ∙ ap (λ (c : Block). take (c .provisions * 2 + 2) (c .«claim_words»)) same ∙ claims-front p (few .few-provisions)
-
-        anchor-is : anchor ≡ p .anchor
-        anchor-is = r₅ ∙ ap (λ (l : List ℕ). getD (pairs l) 0 (port 0 0)) claimed-are
-
-        ports-are : lentFit (view w) parent anchor realms claimed needed ≡ portsJoin (view w) p
-        ports-are =
-            rw (r₄ ∙ ap (λ (c : Block). parentOf (c .tag) (c .parent)) same, anchor-is, realms-are, claimed-are, needed-are)
-            (ports-loaded (view w) p default (few .few-realms) (few .few-dependencies))
-
-        pub ports-join : {r : Joined} {w′ : List ℕ} → r ≡ refusal → false ≡ lentFit (view w) parent anchor realms claimed needed
-            → JoinRead t at w place from next rows r w′
-        unfolding fits
-        ports-join i h = refuses i (unfitBlock p n reads (rw (sym counts-are ∙ sym c, sym life-is ∙ sym l, sym ports-are ∙ sym h)))
-
-        pub plugin-joins : true ≡ lentFit (view w) parent anchor realms claimed needed → place < places → (en : Entry) (li : Life) (values w′ : List ℕ)
-            → en ≡ entryOf b rows next → li ≡ decoded (loadedLife (b .revision) (b .payload) (b .phase) (b .retired) (b .generation) (b .root))
-            → values ≡ take (b .provisions) (b .values)
-            → w′ ≡ loadedPlace w (place % places) en li realms needed claimed (b .mask) values
-            → JoinRead t at w place from next rows (record { next = At n; rows = rows + b .dependencies + b .provisions + 1; from = b .id + 1 }) w′
-        unfolding fits
-        plugin-joins h h′ en li values w′ e₁ e₂ e₃ e₄ =
-            let written = loaded-by w place rows next (unqueued p) h′ (e₁ ∙ ap (λ (c : Block). entryOf c rows next) same)
-            (e₂ ∙ ap (λ (c : Block). decoded (loadedLife (c .revision) (c .payload) (c .phase) (c .retired) (c .generation) (c .root))) same ∙ life-loaded p)
-            realms-are needed-are claimed-are (ap (λ (c : Block). c .mask) same ∙ mask-whole p (few .few-provisions))
-            (e₃ ∙ ap (λ (c : Block). take (c .provisions) (c .values)) same ∙ values-front p (few .few-provisions)) e₄ in
-            let i : rows + rowsOf p ≡ rows + b .dependencies + b .provisions + 1 = omega (arith, ap (λ (c : Block). c .dependencies) same, ap (λ (c : Block). c .provisions) same) in
-            let j : p .id + 1 ≡ b .id + 1 = ap (λ (c : Block). c .id + 1) (sym same) in
-            let y : fits w from next rows p ≡ true = rw (sym counts-are ∙ sym c, sym life-is ∙ sym l, sym ports-are ∙ sym h) in
-            let one : JoinRead t at w place from next rows (record { next = At n; rows = rows + rowsOf p; from = p .id + 1 }) (loadedPlugin w place rows next (unqueued p))
-            = joined p n default reads y in
-            subst (λ (v : List ℕ). JoinRead t at w place from next rows (record { next = At n; rows = rows + b .dependencies + b .provisions + 1; from = b .id + 1 }) v)
-            (sym written) (subst (λ (k : ℕ). JoinRead t at w place from next rows (record { next = At n; rows = rows + b .dependencies + b .provisions + 1; from = k })
-            (loadedPlugin w place rows next (unqueued p))) j (subst (λ (k : ℕ). JoinRead t at w place from next rows (record { next = At n; rows = k; from = p .id + 1 })
-            (loadedPlugin w place rows next (unqueued p))) i one))
+    join-fits y h {w′} put =
+        let k = block-whole n x e in
+        let p = k .0 in
+        let z = sym (fit-is p (k .1) (k .3) (k .4)) ∙ y in
+        let counts = chained-true (countsFit from next rows p) (lifeFits p ∷ portsJoin (view w) p ∷ []) z .0 in
+        let same : blockPut w b (after .realms) (after .dependencies) (after .claims) (after .values) (place % places) rows next
+        ≡ blockPut w (blockOf p n) (listsOf before p .realms) (listsOf before p .dependencies) (listsOf before p .claims) (listsOf before p .values)
+        (place % places) rows next =
+        ap (λ (c : Block). blockPut w c (after .realms) (after .dependencies) (after .claims) (after .values) (place % places) rows next) (k .3)
+        ∙ ap (λ (l : Lent). blockPut w (blockOf p n) (l .realms) (l .dependencies) (l .claims) (l .values) (place % places) rows next) (k .4) in
+        let written = put ∙ same ∙ put-is p n from next rows before size counts w place h in
+        let i : rows + rowsOf p ≡ rows + b .dependencies + b .provisions + 1 =
+        omega (arith, ap (λ (c : Block). c .dependencies) (k .3), ap (λ (c : Block). c .provisions) (k .3)) in
+        let j : p .id + 1 ≡ b .id + 1 = ap (λ (c : Block). c .id + 1) (sym (k .3)) in
+        let first : Joined = record { next = At n; rows = rows + rowsOf p; from = p .id + 1 } in
+        let last : Joined = record { next = At n; rows = rows + b .dependencies + b .provisions + 1; from = b .id + 1 } in
+        let r : first ≡ last = λ u. record { next = At n; rows = i u; from = j u } in
+        subst (λ (v : List ℕ). JoinRead t at w place from next rows last v) (sym written) (subst (λ (r : Joined). JoinRead t at w place from next rows r
+        (loadedPlugin w place rows next (unqueued p))) r (joined p n (k .1) (k .2) z))

@@ -21,21 +21,21 @@ use Rattle.rules.specs.Queries.{phaseNumber}
 use Rattle.rules.specs.Conditions.{queuedBy}
 use Rattle.rules_load.specs.Joining.{lifeFits}
 use Rattle.memory.specs.Writes.{rootTag, rootRevision}
+use Rattle.text_read_block.specs.declared.Block.{Block}
+use Rattle.text_read_block.specs.Blocks.{blockOf}
 use Rattle.text_read_block.specs.Valued.{valuedOf, valued-none, valued-all}
 
 -- by the numbers of its phase and root, and how many of its provisions have a value
-unfoldable pub lifeBy : (phase generation revision root queued valued provisions : ℕ) → Bool
-lifeBy phase generation revision root queued valued provisions =
-    pick (eqb phase 0) (pick (eqb root 0) (eqb valued 0) false)
-    (pick (eqb generation 0) false
-    (pick (eqb phase 2) (pick (eqb root 2) (eqb valued provisions) false)
-    (pick (eqb root 1) (leb queued revision) true)))
+unfoldable pub lifeBy : Block → Bool
+lifeBy b =
+    pick (eqb (b .phase) 0) (pick (eqb (b .root) 0) (eqb (b .valued) 0) false)
+    (pick (eqb (b .generation) 0) false
+    (pick (eqb (b .phase) 2) (pick (eqb (b .root) 2) (eqb (b .valued) (b .provisions)) false)
+    (pick (eqb (b .root) 1) (leb (b .queued) (b .revision)) true)))
 
-pub life-by : (p : Plugin)
-    → lifeBy (phaseNumber (p .phase)) (p .generation) (p .revision) (rootTag (p .root)) (rootRevision (p .root)) (valuedOf (p .provisions)) (length (p .provisions))
-    ≡ lifeFits p
+pub life-by : (p : Plugin) (n : ℕ) → lifeBy (blockOf p n) ≡ lifeFits p
 unfolding lifeBy
-life-by p = go (p .phase) (p .root)
+life-by p n = go (p .phase) (p .root)
   where
     by-generation : {A : Type 0} → (eqb (p .generation) 0 ≡ true → leb 1 (p .generation) ≡ false → A)
         → (eqb (p .generation) 0 ≡ false → leb 1 (p .generation) ≡ true → A) → A
@@ -69,14 +69,14 @@ life-by p = go (p .phase) (p .root)
     go Unloading Spent = by-generation (λ y z. rw (y, z)) (λ y z. rw (y, z))
 
 -- An issued id that is not below the lowest, and lists and rows within their limits; so many rows are in use.
-unfoldable pub countsBy : (id from next rows realms dependencies provisions : ℕ) → Bool
-countsBy id from next rows realms dependencies provisions =
-    pick (ltb id from) false
-    (pick (leb next id) false
-    (pick (ltb maxRealmRows realms) false
-    (pick (ltb maxDependencies dependencies) false
-    (pick (ltb maxProvisionKeys provisions) false
-    (ltb (rows + dependencies + provisions) maxRows)))))
+unfoldable pub countsBy : Block → (from next rows : ℕ) → Bool
+countsBy b from next rows =
+    pick (ltb (b .id) from) false
+    (pick (leb next (b .id)) false
+    (pick (ltb maxRealmRows (b .realms)) false
+    (pick (ltb maxDependencies (b .dependencies)) false
+    (pick (ltb maxProvisionKeys (b .provisions)) false
+    (ltb (rows + b .dependencies + b .provisions) maxRows)))))
 
 -- what is asked of a plugin so
 abbrev pub countsFit : (from next rows : ℕ) → Plugin → Bool
@@ -100,10 +100,9 @@ above a b = by-test (ltb b a)
     (λ y. let h = ltb-true b a y in y ∙ sym (ap not (lt-leb a b h)))
     (λ n. let h = ltb-false b a n in n ∙ sym (ap not (le-leb a b h)))
 
-pub counts-by : (from next rows : ℕ) (p : Plugin)
-    → countsBy (p .id) from next rows (length (p .realms .rows)) (length (p .dependencies)) (length (p .provisions)) ≡ countsFit from next rows p
+pub counts-by : (from next rows : ℕ) (p : Plugin) (n : ℕ) → countsBy (blockOf p n) from next rows ≡ countsFit from next rows p
 unfolding countsBy
-counts-by from next rows p =
+counts-by from next rows p n =
     let below : leb next (p .id) ≡ not (ltb (p .id) next) = flip (ltb (p .id) next) (leb next (p .id)) (above next (p .id)) in
     let sum : suc (rows + length (p .dependencies) + length (p .provisions)) ≡ rows + rowsOf p = omega arith in
     refuse _ (leb from (p .id)) (above from (p .id))
@@ -118,30 +117,29 @@ counts-by from next rows p =
     flip a false e = rw e
 
 -- What it says of the numbers.
-pub record Within (id next rows realms dependencies provisions : ℕ) : Type 0 where
-  pub issued : id < next
-  pub few-realms : realms ≤ maxRealmRows
-  pub few-dependencies : dependencies ≤ maxDependencies
-  pub few-provisions : provisions ≤ maxProvisionKeys
-  pub room : rows + dependencies + provisions < maxRows
+pub record Within (b : Block) (next rows : ℕ) : Type 0 where
+  pub issued : b .id < next
+  pub few-realms : b .realms ≤ maxRealmRows
+  pub few-dependencies : b .dependencies ≤ maxDependencies
+  pub few-provisions : b .provisions ≤ maxProvisionKeys
+  pub room : rows + b .dependencies + b .provisions < maxRows
 
 passed : (a : Bool) {x : Bool} → pick a false x ≡ true → (a ≡ false) × (x ≡ true)
 passed true e = absurd (true≢false (sym e))
 passed false e = (refl, e)
 
-pub counts-within : (id from next rows realms dependencies provisions : ℕ) → countsBy id from next rows realms dependencies provisions ≡ true
-    → Within id next rows realms dependencies provisions
+pub counts-within : (b : Block) (from next rows : ℕ) → countsBy b from next rows ≡ true → Within b next rows
 unfolding countsBy
-counts-within id from next rows realms dependencies provisions e =
-    let a = passed (ltb id from) e in
-    let b = passed (leb next id) (a .1) in
-    let c = passed (ltb maxRealmRows realms) (b .1) in
-    let d = passed (ltb maxDependencies dependencies) (c .1) in
-    let f = passed (ltb maxProvisionKeys provisions) (d .1) in
+counts-within b from next rows e =
+    let w = passed (ltb (b .id) from) e in
+    let x = passed (leb next (b .id)) (w .1) in
+    let y = passed (ltb maxRealmRows (b .realms)) (x .1) in
+    let z = passed (ltb maxDependencies (b .dependencies)) (y .1) in
+    let v = passed (ltb maxProvisionKeys (b .provisions)) (z .1) in
     record {
-      issued = leb-false next id (b .0);
-      few-realms = ltb-false maxRealmRows realms (c .0);
-      few-dependencies = ltb-false maxDependencies dependencies (d .0);
-      few-provisions = ltb-false maxProvisionKeys provisions (f .0);
-      room = ltb-true (rows + dependencies + provisions) maxRows (f .1);
+      issued = leb-false next (b .id) (x .0);
+      few-realms = ltb-false maxRealmRows (b .realms) (y .0);
+      few-dependencies = ltb-false maxDependencies (b .dependencies) (z .0);
+      few-provisions = ltb-false maxProvisionKeys (b .provisions) (v .0);
+      room = ltb-true (rows + b .dependencies + b .provisions) maxRows (v .1);
     }

@@ -1,26 +1,26 @@
--- A whole text: its header and its plugins, and that it loads exactly if they all joined, are served and need each other without cycles.
+-- A whole text: its header and its plugins, and that it loads exactly if they all joined and what is asked of all at the end holds.
 use Prim.Native.Nat.{ℕ, _≤_, _<_}
 use native.Mathlib.Omega.{arith}
 use mathlib.Core.Path.{_≡_, refl, sym, ap, _∙_, subst}
-use mathlib.Core.Bool.{Bool, true, false, _&&_}
+use mathlib.Core.Bool.{Bool, true, false, not, _&&_}
 use mathlib.Core.List.{List, [], _∷_, map}
 use mathlib.Core.Option.{Option, none, some}
 use lib.ListN.{length}
 use borrow.Author.Tests.{le-leb, eq-eqb, ne-eqb}
 use Rattle.rules.specs.Basics.{all, _⊃_}
 use Rattle.rules.specs.Limits.{maxPlugins}
-use Rattle.rules.specs.Holds.{Plugin, plugins, running}
+use Rattle.rules.specs.Holds.{Plugin, Registry, plugins, running}
 use Rattle.rules.specs.Phases.{available}
 use Rattle.rules.specs.Registration.{repeats}
 use Rattle.rules.specs.Text.{Said, header, withCount, block, text, readText}
-use Rattle.rules.specs.Conditions.{claimsOf, dependenciesServed, noCycles, loadable}
+use Rattle.rules.specs.Conditions.{claimsOf, portsDiffer, dependenciesServed, noCycles, loadable}
 use Rattle.rules.specs.Load.{unqueued, loaded, opening, load}
 use Rattle.rules.specs.Outcomes.{Refused, Accepted}
 use Rattle.registry_load.specs.Words.{leavesLoad, Opens}
 use Rattle.rules_load.specs.Joining.{behindIds}
 use Rattle.rules_load.specs.Joins.{joined-loadable, served-unqueued, cycles-unqueued, available-served}
+use Rattle.rules_laws.specs.Laws.Tests.{by-test}
 use Rattle.rules_laws.specs.Laws.Placed.{held-placed}
-use Rattle.rules_load.specs.Laws.JoiningFits.{all-gathered}
 use Rattle.rules_load.specs.Laws.Unqueued.{claims-unqueued}
 use Rattle.memory.specs.View.{view}
 use Rattle.memory_load.specs.Loading.{wordsOf}
@@ -32,6 +32,7 @@ use Rattle.text_read.specs.declared.Next.the-variants.{At, Torn}
 use Rattle.text_read.specs.Reads.{readFrom, read-at, Reads, reads-none, from-then, read-on}
 use Rattle.text_read.specs.Lists.{counted-next}
 use Rattle.text_read.specs.Ways.{then-next, like-next, whole-all, whole-part, whole-torn}
+use Rattle.registry_load.specs.declared.Header.{Header}
 use Rattle.registry_load.specs.declared.Text.{Text}
 use Rattle.registry_load.specs.declared.Text.the-variants as texts
 use Rattle.registry_load.specs.Plugins.{PluginsSoFar, Unfit}
@@ -58,100 +59,126 @@ read-some t s = go (text .read t)
     go torn e = let z : _≡_ {A = ℕ} 0 1 = cc in absurd (omega arith)
 
 -- The lines of the header, each behind the one before.
-module _ (t : List ℕ) (d f n : ℕ) {m₁ m₂ m₃ : Next} (x₁ : Reads (line "domain" number .read) t (At 0) d m₁)
-    (x₂ : Reads (line "first" number .read) t m₁ f m₂) (x₃ : Reads (line "next" number .read) t m₂ n m₃) where
+pub record HeaderRead (t : List ℕ) (h : Header) : Type 0 where
+  pub domain-end : Next
+  pub first-end : Next
+  pub next-end : Next
+  pub domain-read : Reads (line "domain" number .read) t (At 0) (h .domain) domain-end
+  pub first-read : Reads (line "first" number .read) t domain-end (h .first) first-end
+  pub next-read : Reads (line "next" number .read) t first-end (h .next) next-end
+  pub count-read : Reads (line "plugins" number .read) t next-end (h .count) (h .behind)
+
+-- What is asked of all plugins at the end: their ports differ, and those that run are served, without cycles.
+unfoldable pub allHold : Registry → Bool
+allHold r =
+    portsDiffer (plugins r)
+    && all (λ (p : Plugin). running p ⊃ all (available r) (p .dependencies)) (plugins r)
+    && noCycles (plugins r)
+
+module _ (t : List ℕ) (h : Header) (x : HeaderRead t h) where
   abbrev said : List Plugin → Said
-  said ps = record { domain = d; first = f; next = n; plugins = ps }
+  said ps = record { domain = h .domain; first = h .first; next = h .next; plugins = ps }
 
   abbrev toSaid : (ℕ × (ℕ × ℕ)) × List Plugin → Said
   toSaid = λ ((domain, (first, next)), plugins). record { domain = domain; first = first; next = next; plugins = plugins }
 
-  head : Reads (header .read) t (At 0) (d, (f, n)) m₃
-  head = then-next (line "domain" number) (line "first" number then line "next" number) x₁ (then-next (line "first" number) (line "next" number) x₂ x₃)
+  head : Reads (header .read) t (At 0) (h .domain, (h .first, h .next)) (x .next-end)
+  head = then-next (line "domain" number) (line "first" number then line "next" number) (x .domain-read)
+      (then-next (line "first" number) (line "next" number) (x .first-read) (x .next-read))
 
-  whole : {ps : List Plugin} {m : Next} → Reads (withCount block .read) t m₃ ps m → Reads (text .read) t (At 0) (said ps) m
+  whole : {ps : List Plugin} {m : Next} → Reads (withCount block .read) t (x .next-end) ps m → Reads (text .read) t (At 0) (said ps) m
   whole y = like-next (header then withCount block) toSaid (then-next header (withCount block) head y)
 
-  module _ (c : ℕ) where
-    pub count-torn : Reads (line "plugins" number .read) t m₃ c Torn → Hopeless t
-    unfolding readText
-    count-torn x₄ = no-text t (whole-torn text t (said []) (whole (counted-next (line "plugins" number) block x₄ (reads-none (readMany block c) t Torn [] refl))))
+  pub count-torn : h .behind ≡ Torn → Hopeless t
+  unfolding readText
+  count-torn e =
+      let y : Reads (line "plugins" number .read) t (x .next-end) (h .count) Torn =
+      subst (λ (m : Next). Reads (line "plugins" number .read) t (x .next-end) (h .count) m) e (x .count-read) in
+      no-text t (whole-torn text t (said []) (whole (counted-next (line "plugins" number) block y (reads-none (readMany block (h .count)) t Torn [] refl))))
 
-    module _ (at : ℕ) (x₄ : Reads (line "plugins" number .read) t m₃ c (At at)) where
-      -- what is left of the text once its header was read
-      text-left : readFrom (text .read) t (At 0)
-          ≡ andThen (andThen (readFrom (readMany block c) t (At at)) (λ ps r. found ((d, (f, n)), ps) r)) (λ a r. found (toSaid a) r)
-      text-left =
-          from-then ((header then withCount block) .read) (λ a r. found (toSaid a) r) t (At 0)
-          ∙ ap (λ z. andThen z (λ a r. found (toSaid a) r))
-          (read-on (header .read) (λ a r. andThen (withCount block .read r) (λ b s. found (a, b) s)) t head
-          ∙ from-then (withCount block .read) (λ b s. found ((d, (f, n)), b) s) t m₃
-          ∙ ap (λ z. andThen z (λ b s. found ((d, (f, n)), b) s)) (read-on (line "plugins" number .read) (λ k r. readMany block k r) t x₄))
+  module _ (at : ℕ) (start : h .behind ≡ At at) where
+    counted : Reads (line "plugins" number .read) t (x .next-end) (h .count) (At at)
+    counted = subst (λ (m : Next). Reads (line "plugins" number .read) t (x .next-end) (h .count) m) start (x .count-read)
 
-      pub plugins-refused : Unfit t at c f n → Hopeless t
-      plugins-refused u s e = go (readFrom (readMany block c) t (At at)) refl
-          (sym text-left ∙ read-at (text .read) t 0 (omega arith) ∙ read-some t s e)
-        where
-          go : (r : Read (List Plugin)) → readFrom (readMany block c) t (At at) ≡ r
-              → andThen (andThen r (λ ps r. found ((d, (f, n)), ps) r)) (λ a r. found (toSaid a) r) ≡ found s [] → loadable s ≡ false
-          go (found ps rest) i h = let j : said ps ≡ s = cc in subst (λ (s : Said). loadable s ≡ false) j (u (said ps) rest refl refl i)
-          go torn i h = torn-found s [] h
+    pub header-within : at ≤ length t
+    header-within = counted .fits
 
-      -- all plugins have joined
-      module _ (domain : ℕ) {w : List ℕ} {end rows from : ℕ} (g : PluginsSoFar t at domain f n w end rows from c) (most : c ≤ maxPlugins) where
-        abbrev ps : List Plugin
-        ps = g .done
+    -- what is left of the text once its header was read
+    text-left : readFrom (text .read) t (At 0)
+        ≡ andThen (andThen (readFrom (readMany block (h .count)) t (At at)) (λ ps r. found ((h .domain, (h .first, h .next)), ps) r))
+        (λ a r. found (toSaid a) r)
+    text-left =
+        from-then ((header then withCount block) .read) (λ a r. found (toSaid a) r) t (At 0)
+        ∙ ap (λ z. andThen z (λ a r. found (toSaid a) r))
+        (read-on (header .read) (λ a r. andThen (withCount block .read r) (λ b s. found (a, b) s)) t head
+        ∙ from-then (withCount block .read) (λ b s. found ((h .domain, (h .first, h .next)), b) s) t (x .next-end)
+        ∙ ap (λ z. andThen z (λ b s. found ((h .domain, (h .first, h .next)), b) s))
+        (read-on (line "plugins" number .read) (λ k r. readMany block k r) t counted))
 
-        all-read : Reads (text .read) t (At 0) (said ps) (At end)
-        all-read = whole (counted-next (line "plugins" number) block x₄ (g .reads))
+    pub plugins-refused : Unfit t at (h .count) (h .first) (h .next) → Hopeless t
+    plugins-refused u s e = go (readFrom (readMany block (h .count)) t (At at)) refl
+        (sym text-left ∙ read-at (text .read) t 0 (omega arith) ∙ read-some t s e)
+      where
+        go : (r : Read (List Plugin)) → readFrom (readMany block (h .count)) t (At at) ≡ r
+            → andThen (andThen r (λ ps r. found ((h .domain, (h .first, h .next)), ps) r)) (λ a r. found (toSaid a) r) ≡ found s [] → loadable s ≡ false
+        go (found ps rest) i z = let j : said ps ≡ s = cc in subst (λ (s : Said). loadable s ≡ false) j (u (said ps) rest refl refl i)
+        go torn i z = torn-found s [] z
 
-        pub too-long : end < length t → Hopeless t
-        unfolding readText
-        too-long h = no-text t (whole-part text t (said ps) end h all-read)
+    -- all plugins have joined
+    module _ (domain : ℕ) {w : List ℕ} {end rows from : ℕ} (g : PluginsSoFar t at domain (h .first) (h .next) w end rows from (h .count))
+        (most : h .count ≤ maxPlugins) where
+      abbrev ps : List Plugin
+      ps = g .done
 
-        pub says : end ≡ length t → readText t ≡ some (said ps)
-        unfolding readText
-        says e = whole-all text t (said ps) (subst (λ k. Reads (text .read) t (At 0) (said ps) (At k)) e all-read)
+      all-read : Reads (text .read) t (At 0) (said ps) (At end)
+      all-read = whole (counted-next (line "plugins" number) block counted (g .reads))
 
-        held : plugins (view w) ≡ map unqueued ps
-        held = ap plugins (g .written .registry) ∙ held-placed maxPlugins (map unqueued ps) (g .written .few)
+      pub too-long : end < length t → Hopeless t
+      unfolding readText
+      too-long l = no-text t (whole-part text t (said ps) end l all-read)
 
-        few : length ps ≤ maxPlugins
-        few = omega (arith, g .count)
+      pub says : end ≡ length t → readText t ≡ some (said ps)
+      unfolding readText
+      says e = whole-all text t (said ps) (subst (λ k. Reads (text .read) t (At 0) (said ps) (At k)) e all-read)
 
-        apart : repeats (claimsOf (plugins (view w))) ≡ false
-        apart = ap (λ (l : List Plugin). repeats (claimsOf l)) held ∙ ap repeats (claims-unqueued ps) ∙ all-gathered f [] ps few (g .join) refl refl .1
+      held : plugins (view w) ≡ map unqueued ps
+      held = ap plugins (g .written .registry) ∙ held-placed maxPlugins (map unqueued ps) (g .written .few)
 
-        serves : all (λ (p : Plugin). running p ⊃ all (available (view w)) (p .dependencies)) (plugins (view w)) ≡ all (dependenciesServed ps) ps
-        serves = available-served (view w) apart ∙ ap (λ (l : List Plugin). all (dependenciesServed l) l) held ∙ served-unqueued ps
+      few : length ps ≤ maxPlugins
+      few = omega (arith, g .count)
 
-        cycles : noCycles (plugins (view w)) ≡ noCycles ps
-        cycles = ap noCycles held ∙ cycles-unqueued ps
+      differ : portsDiffer (plugins (view w)) ≡ portsDiffer ps
+      differ = ap portsDiffer held ∙ ap (λ l. not (repeats l)) (claims-unqueued ps)
 
-        loads : loadable (said ps) ≡ (all (dependenciesServed ps) ps && noCycles ps)
-        loads =
-            sym (joined-loadable (said ps))
-            ∙ rw (le-leb (length ps) maxPlugins few, g .join, le-leb (behindIds f ps) n (omega (arith, g .ids, g .within-next)))
+      serves : repeats (claimsOf (plugins (view w))) ≡ false
+          → all (λ (p : Plugin). running p ⊃ all (available (view w)) (p .dependencies)) (plugins (view w)) ≡ all (dependenciesServed ps) ps
+      serves apart = available-served (view w) apart ∙ ap (λ (l : List Plugin). all (dependenciesServed l) l) held ∙ served-unqueued ps
 
-        module _ (e : end ≡ length t) where
-          this : loadable (said ps) ≡ false → Hopeless t
-          this h s i = let j : some (said ps) ≡ some s = sym (says e) ∙ i in let k : said ps ≡ s = cc in subst (λ (s : Said). loadable s ≡ false) k h
+      cycles : noCycles (plugins (view w)) ≡ noCycles ps
+      cycles = ap noCycles held ∙ cycles-unqueued ps
 
-          pub unserved : false ≡ all (λ (p : Plugin). running p ⊃ all (available (view w)) (p .dependencies)) (plugins (view w)) → Hopeless t
-          unserved h = this (loads ∙ rw (← serves, ← h))
+      hold : allHold (view w) ≡ (portsDiffer ps && all (dependenciesServed ps) ps && noCycles ps)
+      unfolding allHold
+      hold = by-test (repeats (claimsOf (plugins (view w))))
+          (λ y. rw (y, sym differ ∙ ap not y))
+          (λ n. rw (n, sym differ ∙ ap not n, serves n, cycles))
 
-          pub cyclic : false ≡ noCycles (plugins (view w)) → Hopeless t
-          cyclic h = this (loads ∙ rw (sym cycles ∙ sym h) (and-none (all (dependenciesServed ps) ps)))
-            where
-              and-none : (b : Bool) → (b && false) ≡ false
-              and-none true = refl
-              and-none false = refl
+      loads : allHold (view w) ≡ loadable (said ps)
+      loads =
+          hold
+          ∙ sym (rw (le-leb (length ps) maxPlugins few, g .join, le-leb (behindIds (h .first) ps) (h .next) (omega (arith, g .ids, g .within-next)))
+          at (sym (joined-loadable (said ps))))
 
-          pub accepted : true ≡ all (λ (p : Plugin). running p ⊃ all (available (view w)) (p .dependencies)) (plugins (view w))
-              → true ≡ noCycles (plugins (view w)) → TextRead t domain (texts.Of d) w
-          accepted a b =
-              let h : loadable (said ps) ≡ true = loads ∙ rw (sym serves ∙ sym a, sym cycles ∙ sym b) in
-              subst (TextRead t domain (texts.Of d)) (sym (so-far-words domain f n (g .written))) (good (said ps) (says e) h)
+      module _ (e : end ≡ length t) where
+        pub unfit : allHold (view w) ≡ false → Hopeless t
+        unfit n s i =
+            let j : some (said ps) ≡ some s = sym (says e) ∙ i in
+            let k : said ps ≡ s = cc in
+            subst (λ (s : Said). loadable s ≡ false) k (sym loads ∙ n)
+
+        pub accepted : allHold (view w) ≡ true → TextRead t domain (texts.Of (h .domain)) w
+        accepted y = subst (TextRead t domain (texts.Of (h .domain))) (sym (so-far-words domain (h .first) (h .next) (g .written)))
+            (good (said ps) (says e) (sym loads ∙ y))
 
 -- What is answered, and what is left.
 module _ (t : List ℕ) (d : ℕ) (m : List ℕ) where

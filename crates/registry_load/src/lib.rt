@@ -1,19 +1,20 @@
 // Document 02 [4]: the text read back. It is read into words of the function's own, and nothing is written to the registry before
 // the last check has passed.
 ghost use mathlib.Core.Path.{_≡_};
-ghost use Prim.Native.Nat.{_≤_, _<_};
+ghost use Prim.Native.Nat.{_≤_, _<_, _%_};
 ghost use lib.ListN.{length};
 ghost use Rattle.rules.specs.Limits.{maxPlugins, maxRows};
 ghost use Rattle.rules.specs.Load.{load};
 ghost use Rattle.rules.specs.Answers.{doneAnswer};
 ghost use Rattle.memory.specs.Layout.{places};
-ghost use Rattle.memory.specs.View.{decoded};
+ghost use Rattle.memory.specs.View.{view, decoded};
 ghost use Rattle.memory.specs.Writes.{openedWith};
 ghost use Rattle.memory_load.specs.Loading.{zeros};
 ghost use Rattle.registry_load.specs.Blocks.{unqueuedTag, loadedLife, entryOf};
-ghost use Rattle.registry_load.specs.Lives.{lifeBy, countsBy};
+ghost use Rattle.registry_load.specs.Lives.{lifeBy, countsBy, Within};
+ghost use Rattle.registry_load.specs.Join.{Rooms, blockFits, blockPut};
 ghost use Rattle.registry_load.specs.Plugins.{JoinRead, PluginsRead};
-ghost use Rattle.registry_load.specs.Whole.{TextRead};
+ghost use Rattle.registry_load.specs.Whole.{HeaderRead, allHold, TextRead};
 ghost use Rattle.registry_load.specs.Words.{Opens};
 use memory::Life;
 use memory::WORDS;
@@ -24,12 +25,25 @@ use rules::limits;
 use rules::refusal;
 use text_read::Next;
 use text_read_block::Block;
+use text_read_block::CLAIM_WORDS;
+use text_read_block::DEPENDENCY_WORDS;
+use text_read_block::REALM_WORDS;
+use text_read_block::VALUE_WORDS;
 
 // The place behind a block whose plugin joined, the rows in use then, and the lowest id that may follow; Torn where it did not join.
 struct Joined {
     next: Next,
     rows: usize,
     from: u64,
+}
+
+// What the lines before the plugins say, and the place behind them.
+struct Header {
+    domain: u64,
+    first: u64,
+    next: u64,
+    count: u64,
+    behind: Next,
 }
 
 // The domain that a text says; or that it says no registry.
@@ -40,67 +54,51 @@ enum Text {
 
 // Idle has root Unissued and no values; the others need generation 1 or more; Active has root Spent and every value; a queued
 // revision is not above the revision.
-fn life_fits(
-    phase: u64,
-    generation: u64,
-    revision: u64,
-    root: u64,
-    queued: u64,
-    valued: u64,
-    provisions: u64,
-) -> bool
-    ensures { λ r. ⌜ r ≡ lifeBy phase generation revision root queued valued provisions ⌝ }
+fn life_fits(b: Block) -> bool
+    ensures { λ r. ⌜ r ≡ lifeBy b ⌝ }
 {
-    if phase == 0 {
-        if root == 0 {
-            return valued == 0;
+    if b.phase == 0 {
+        if b.root == 0 {
+            return b.valued == 0;
         }
         return false;
     }
-    if generation == 0 {
+    if b.generation == 0 {
         return false;
     }
-    if phase == 2 {
-        if root == 2 {
-            return valued == provisions;
+    if b.phase == 2 {
+        if b.root == 2 {
+            return b.valued == b.provisions;
         }
         return false;
     }
-    if root == 1 {
-        return queued <= revision;
+    if b.root == 1 {
+        return b.queued <= b.revision;
     }
     true
 }
 
 // An issued id that is not below the lowest, and lists and rows within their limits.
-fn counts_fit(
-    id: u64,
-    from: u64,
-    next: u64,
-    rows: usize,
-    realms: u64,
-    dependencies: u64,
-    provisions: u64,
-) -> bool
+fn counts_fit(b: Block, from: u64, next: u64, rows: usize) -> bool
     requires { ⌜ rows ≤ maxRows ⌝ }
-    ensures { λ r. ⌜ r ≡ countsBy id from next rows realms dependencies provisions ⌝ }
+    ensures { λ r. ⌜ r ≡ countsBy b from next rows ⌝ }
 {
-    if id < from {
+    if b.id < from {
         return false;
     }
-    if next <= id {
+    if next <= b.id {
         return false;
     }
-    if (limits::REALM_ROWS as u64) < realms {
+    if (limits::REALM_ROWS as u64) < b.realms {
         return false;
     }
-    if (limits::DEPENDENCIES as u64) < dependencies {
+    if (limits::DEPENDENCIES as u64) < b.dependencies {
         return false;
     }
-    if (limits::PROVISION_KEYS as u64) < provisions {
+    if (limits::PROVISION_KEYS as u64) < b.provisions {
         return false;
     }
-    rows + (dependencies as usize) + (provisions as usize) < limits::ROWS
+    rows + (b.dependencies as usize) + (b.provisions as usize) < limits::ROWS
 }
 
 fn refused() -> Joined
@@ -138,7 +136,7 @@ fn entry(b: Block, rows: usize, next: u64) -> Entry
 }
 
 fn life(b: Block) -> Life
-    ensures { λ r. ⌜ r ≡ decoded (loadedLife (b .revision) (b .payload) (b .phase) (b .retired) (b .generation) (b .root)) ⌝ }
+    ensures { λ r. ⌜ r ≡ decoded (loadedLife b) ⌝ }
 {
     memory_life::decode(Words {
         revision: b.revision,
@@ -152,11 +150,101 @@ fn life(b: Block) -> Life
     })
 }
 
-// The block at a place: its plugin is written to the next place of the words, if it fits beside those before it.
+fn count(words: &[u64]) -> usize
+    ensures { λ r. ⌜ r ≡ length (now (words .entry)) ⌝ }
+{
+    words.len()
+}
+
+// What the types of lent words say of their lengths, for a proof. It compiles to nothing.
+fn rooms(
+    realms: &[u64; REALM_WORDS],
+    dependencies: &[u64; DEPENDENCY_WORDS],
+    claims: &[u64; CLAIM_WORDS],
+    values: &[u64; VALUE_WORDS],
+)
+    ensures { λ _. ⌜ Rooms (record {
+      realms = now (realms .entry);
+      dependencies = now (dependencies .entry);
+      claims = now (claims .entry);
+      values = now (values .entry);
+    }) ⌝ }
+{
+    let r = count(realms);
+    let d = count(dependencies);
+    let c = count(claims);
+    let v = count(values);
+}
+
+// Whether a block's plugin fits beside those before it: its numbers, its life and its ports.
+fn fits(
+    w: &[u64; WORDS],
+    b: Block,
+    realms: &[u64; REALM_WORDS],
+    dependencies: &[u64; DEPENDENCY_WORDS],
+    claims: &[u64; CLAIM_WORDS],
+    from: u64,
+    next: u64,
+    rows: usize,
+) -> bool
+    requires { ⌜ rows ≤ maxRows ⌝ }
+    ensures { λ r. ⌜ r ≡ blockFits (view (now (w .entry))) b (now (realms .entry)) (now (dependencies .entry)) (now (claims .entry)) from next rows ⌝ }
+{
+    if !counts_fit(b, from, next, rows) {
+        return false;
+    }
+    if !life_fits(b) {
+        return false;
+    }
+    let claimed = memory_lists::some_words(claims, 0, (b.provisions as usize) * 2 + 2);
+    registry_joins::ports_fit(
+        w,
+        memory::parent_from(b.tag, b.parent),
+        ports::port_at(claimed, 0),
+        memory_lists::some_words(realms, 0, (b.realms as usize) * 2),
+        memory_lists::some_words(claimed, 2, claimed.len()),
+        memory_lists::some_words(dependencies, 0, (b.dependencies as usize) * 2),
+    )
+}
+
+// The plugin of a block that fits is written to a place.
+fn put(
+    w: &mut [u64; WORDS],
+    b: Block,
+    realms: &[u64; REALM_WORDS],
+    dependencies: &[u64; DEPENDENCY_WORDS],
+    claims: &[u64; CLAIM_WORDS],
+    values: &[u64; VALUE_WORDS],
+    place: usize,
+    rows: usize,
+    next: u64,
+)
+    requires { ⌜ Within b next rows ⌝ }
+    ensures { λ _. ⌜ now (w .exit) ≡ blockPut (now (w .entry)) b (now (realms .entry)) (now (dependencies .entry)) (now (claims .entry)) (now (values .entry))
+        (place % places) rows next ⌝ }
+{
+    memory_load::load_place(
+        w,
+        place,
+        entry(b, rows, next),
+        life(b),
+        memory_lists::some_words(realms, 0, (b.realms as usize) * 2),
+        memory_lists::some_words(dependencies, 0, (b.dependencies as usize) * 2),
+        memory_lists::some_words(claims, 0, (b.provisions as usize) * 2 + 2),
+        b.mask,
+        memory_lists::some_words(values, 0, b.provisions as usize),
+    );
+}
+
+// The block at a place: its lists go to lent words, and its plugin to the next place, if it fits beside those before it.
 fn join(
     w: &mut [u64; WORDS],
     text: &[u8],
     at: usize,
+    realms: &mut [u64; REALM_WORDS],
+    dependencies: &mut [u64; DEPENDENCY_WORDS],
+    claims: &mut [u64; CLAIM_WORDS],
+    values: &mut [u64; VALUE_WORDS],
     place: usize,
     rows: usize,
     from: u64,
@@ -165,61 +253,29 @@ fn join(
     requires { ⌜ place < places ⌝ ∗ ⌜ rows ≤ maxRows ⌝ }
     ensures { λ r. ⌜ JoinRead (now (text .entry)) at (now (w .entry)) place from next rows r (now (w .exit)) ⌝ }
 {
-    let b = text_read_block::read_block(text, Next::At(at));
+    rooms(realms, dependencies, claims, values);
+    let b = text_read_block::read_block(text, Next::At(at), realms, dependencies, claims, values);
     let end = b.next;
     let Next::At(behind) = end else {
         return refused();
     };
-    if !counts_fit(
-        b.id,
-        from,
-        next,
-        rows,
-        b.realms,
-        b.dependencies,
-        b.provisions,
-    ) {
+    if !fits(w, b, realms, dependencies, claims, from, next, rows) {
         return refused();
     }
-    if !life_fits(
-        b.phase,
-        b.generation,
-        b.revision,
-        b.root,
-        b.queued,
-        b.valued,
-        b.provisions,
-    ) {
-        return refused();
-    }
-    let provided = b.provisions as usize;
-    let realm_words = b.realm_words;
-    let realms = memory_lists::some_words(&realm_words, 0, (b.realms as usize) * 2);
-    let dependency_words = b.dependency_words;
-    let needed = memory_lists::some_words(&dependency_words, 0, (b.dependencies as usize) * 2);
-    let claim_words = b.claim_words;
-    let claims = memory_lists::some_words(&claim_words, 0, provided * 2 + 2);
-    let parent = memory::parent_from(b.tag, b.parent);
-    let anchor = ports::port_at(claims, 0);
-    if !registry_joins::ports_fit(w, parent, anchor, realms, claims, needed) {
-        return refused();
-    }
-    let value_words = b.values;
-    let values = memory_lists::some_words(&value_words, 0, provided);
-    memory_load::load_place(
+    put(
         w,
-        place,
-        entry(b, rows, next),
-        life(b),
+        b,
         realms,
-        needed,
+        dependencies,
         claims,
-        b.mask,
         values,
+        place,
+        rows,
+        next,
     );
     Joined {
         next: Next::At(behind),
-        rows: rows + (b.dependencies as usize) + provided + 1,
+        rows: rows + (b.dependencies as usize) + (b.provisions as usize) + 1,
         from: b.id + 1,
     }
 }
@@ -237,12 +293,28 @@ fn plugins(
     requires { ⌜ now w ≡ openedWith zeros domain first next ⌝ ∗ ⌜ (at ≤ length (now text)) × (count ≤ maxPlugins) × (first ≤ next) ⌝ }
     ensures { λ r. ⌜ PluginsRead (now (text .entry)) at count domain first next r (now (w .exit)) ⌝ }
 {
+    let mut realms = [0u64; REALM_WORDS];
+    let mut dependencies = [0u64; DEPENDENCY_WORDS];
+    let mut claims = [0u64; CLAIM_WORDS];
+    let mut values = [0u64; VALUE_WORDS];
     let mut behind = at;
     let mut rows: usize = 0;
     let mut from = first;
     let mut k: usize = 0;
     while k < count {
-        let one = join(w, text, behind, k, rows, from, next);
+        let one = join(
+            w,
+            text,
+            behind,
+            &mut realms,
+            &mut dependencies,
+            &mut claims,
+            &mut values,
+            k,
+            rows,
+            from,
+            next,
+        );
         let end = one.next;
         let Next::At(place) = end else {
             return Next::Torn;
@@ -255,51 +327,68 @@ fn plugins(
     Next::At(behind)
 }
 
+// The lines before the plugins.
+fn read_header(text: &[u8]) -> Header
+    ensures { λ r. ⌜ HeaderRead (now (text .entry)) r ⌝ }
+{
+    let domain = text_read::number_line(text, Next::At(0), b"domain=");
+    let second = domain.next;
+    let first = text_read::number_line(text, second, b"first=");
+    let third = first.next;
+    let next = text_read::number_line(text, third, b"next=");
+    let fourth = next.next;
+    let count = text_read::number_line(text, fourth, b"plugins=");
+    let behind = count.next;
+    Header {
+        domain: domain.value,
+        first: first.value,
+        next: next.value,
+        count: count.value,
+        behind,
+    }
+}
+
+// What is asked of all plugins at the end: their ports differ, and those that run are served, without cycles.
+fn holds(w: &[u64; WORDS]) -> bool
+    ensures { λ r. ⌜ r ≡ allHold (view (now (w .entry))) ⌝ }
+{
+    if !registry_claims::differ(w) {
+        return false;
+    }
+    if !registry_cycles::served(w) {
+        return false;
+    }
+    registry_cycles::acyclic(w)
+}
+
 // The whole text, read into words of zeros.
 fn read(w: &mut [u64; WORDS], domain: u64, text: &[u8]) -> Text
     requires { ⌜ now w ≡ zeros ⌝ }
     ensures { λ r. ⌜ TextRead (now (text .entry)) domain r (now (w .exit)) ⌝ }
 {
-    let said = text_read::number_line(text, Next::At(0), b"domain=");
-    let behind_domain = said.next;
-    let first = text_read::number_line(text, behind_domain, b"first=");
-    let behind_first = first.next;
-    let next = text_read::number_line(text, behind_first, b"next=");
-    let behind_next = next.next;
-    let count = text_read::number_line(text, behind_next, b"plugins=");
-    let start = count.next;
+    let h = read_header(text);
+    let start = h.behind;
     let Next::At(at) = start else {
         return Text::Bad;
     };
-    if (limits::PLUGINS as u64) < count.value {
+    if (limits::PLUGINS as u64) < h.count {
         return Text::Bad;
     }
-    if next.value < first.value {
+    if h.next < h.first {
         return Text::Bad;
     }
-    memory::open_words(w, domain, first.value, next.value);
-    let end = plugins(
-        w,
-        text,
-        at,
-        count.value as usize,
-        domain,
-        first.value,
-        next.value,
-    );
+    memory::open_words(w, domain, h.first, h.next);
+    let end = plugins(w, text, at, h.count as usize, domain, h.first, h.next);
     let Next::At(behind) = end else {
         return Text::Bad;
     };
     if behind < text.len() {
         return Text::Bad;
     }
-    if !registry_cycles::served(w) {
+    if !holds(w) {
         return Text::Bad;
     }
-    if !registry_cycles::acyclic(w) {
-        return Text::Bad;
-    }
-    Text::Of(said.value)
+    Text::Of(h.domain)
 }
 
 // 24 where the text says no registry; 25 where the domain is the text's.

@@ -7,7 +7,7 @@ use mathlib.Core.Option.{Option}
 use lib.Dec.{eqb}
 use Rattle.rules.specs.declared.Phase.{Phase}
 use Rattle.rules.specs.declared.Root.{Root}
-use lib.ListN.{replicate, drop}
+use lib.ListN.{drop}
 use Rattle.rules.specs.Holds.{Plugin, port, defaultRealm}
 use Rattle.rules.specs.Text.{Lines, lines, pluginOf, block, realms}
 use Rattle.rules.specs.Text.Values as values
@@ -29,7 +29,7 @@ use Rattle.text_read_block.specs.declared.Lists.{Lists}
 use Rattle.text_read_block.specs.declared.Block.{Block}
 use Rattle.text_read_block.specs.Rows.{rowPut, rowsPut}
 use Rattle.text_read_block.specs.Lists.{portsOf}
-use Rattle.text_read_block.specs.Blocks.{HeadRead, ListsRead, BlockRead, blank, blockOf}
+use Rattle.text_read_block.specs.Blocks.{HeadRead, ListsRead, BlockRead, Lent, blank, empty, blockOf, listsOf}
 use Rattle.text_read_block.specs.Blocks.BlockRead.{torn, whole}
 
 -- What is whole began at a place.
@@ -127,11 +127,32 @@ module _ (t : List ℕ) (at : Next) (id : Number) (parent : NumberOrNone) (phase
           };
     }
 
+-- what the lines and the lists say, with the place behind them
+abbrev pub answer : Head → Lists → ℕ → Block
+answer head lists n = record {
+  next = At n;
+  id = head .id;
+  tag = head .tag;
+  parent = head .parent;
+  phase = head .phase;
+  retired = head .retired;
+  generation = head .generation;
+  revision = head .revision;
+  payload = head .payload;
+  root = head .root;
+  queued = head .queued;
+  realms = lists .realms;
+  dependencies = lists .dependencies;
+  provisions = lists .provisions;
+  valued = lists .valued;
+  mask = lists .mask;
+}
+
 -- The answer of the lines and the lists, from a place behind them or from none.
-module _ (t : List ℕ) (at : Next) (head : Head) (lists : Lists) (rows needs first claims kept : List ℕ)
+module _ (t : List ℕ) (at : Next) (before : Lent) (head : Head) (lists : Lists) (rows needs first claims kept : List ℕ)
     (h : HeadRead t at head)
-    (f : first ≡ rowPut (replicate 32 0) 0 (head .key) (head .realm))
-    (l : ListsRead t (head .next) (replicate 32 0) (replicate 96 0) first (replicate 15 0) lists rows needs claims kept)
+    (f : first ≡ rowPut (before .claims) 0 (head .key) (head .realm))
+    (l : ListsRead t (head .next) (before .realms) (before .dependencies) first (before .values) lists rows needs claims kept)
   where
     abbrev told : Lines
     told = (
@@ -198,36 +219,11 @@ module _ (t : List ℕ) (at : Next) (head : Head) (lists : Lists) (rows needs fi
     all-read : Reads (block .read) t at plugin (lists .next)
     all-read = like-next lines pluginOf lines-read
 
-    pub block-ends : lists .next ≡ Torn → BlockRead t at blank
+    pub block-ends : lists .next ≡ Torn → BlockRead t at before blank empty
     block-ends e = torn plugin (reads-at all-read e)
 
-    abbrev answer : ℕ → Block
-    answer n = record {
-      next = At n;
-      id = head .id;
-      tag = head .tag;
-      parent = head .parent;
-      phase = head .phase;
-      retired = head .retired;
-      generation = head .generation;
-      revision = head .revision;
-      payload = head .payload;
-      root = head .root;
-      queued = head .queued;
-      realms = lists .realms;
-      dependencies = lists .dependencies;
-      provisions = lists .provisions;
-      valued = lists .valued;
-      mask = lists .mask;
-      «realm_words» = rows;
-      «dependency_words» = needs;
-      «claim_words» = claims;
-      values = kept;
-    }
-
-    said : (n : ℕ) → lists .next ≡ At n → blockOf plugin n ≡ answer n
-    unfolding rowsPut
-    said n e =
+    numbers : (n : ℕ) → lists .next ≡ At n → blockOf plugin n ≡ answer head lists n
+    numbers n e =
         let z = l .realms-read in
         let d = l .dependencies-read in
         let v = l .provisions-read in
@@ -235,8 +231,6 @@ module _ (t : List ℕ) (at : Next) (head : Head) (lists : Lists) (rows needs fi
         let c = came (reads-at (d .reads) (b .1)) in
         let k = came (reads-at (z .reads) (c .1)) in
         let words = h .words (k .0) (k .1) in
-        let anchored : claims ≡ rowsPut (rowPut (replicate 32 0) 0 (head .key) (head .realm)) 1 (portsOf (v .provisions)) =
-        v .claims-stored ∙ ap (λ (w : List ℕ). rowsPut w 1 (portsOf (v .provisions))) f in
         sym (λ x. record {
           next = At n;
           id = head .id;
@@ -254,32 +248,26 @@ module _ (t : List ℕ) (at : Next) (head : Head) (lists : Lists) (rows needs fi
           provisions = v .count x;
           valued = v .valued x;
           mask = v .mask x;
-          «realm_words» = z .stored x;
-          «dependency_words» = d .stored x;
-          «claim_words» = anchored x;
+        })
+
+    abbrev after : Lent
+    after = record { realms = rows; dependencies = needs; claims = claims; values = kept }
+
+    stored : listsOf before plugin ≡ after
+    unfolding rowsPut
+    stored =
+        let v = l .provisions-read in
+        let anchored : claims ≡ rowsPut (rowPut (before .claims) 0 (head .key) (head .realm)) 1 (portsOf (v .provisions)) =
+        v .claims-stored ∙ ap (λ (w : List ℕ). rowsPut w 1 (portsOf (v .provisions))) f in
+        sym (λ x. record {
+          realms = l .realms-read .stored x;
+          dependencies = l .dependencies-read .stored x;
+          claims = anchored x;
           values = v .values-stored x;
         })
 
-    pub block-said : (n : ℕ) → lists .next ≡ At n → BlockRead t at (record {
-      next = At n;
-      id = head .id;
-      tag = head .tag;
-      parent = head .parent;
-      phase = head .phase;
-      retired = head .retired;
-      generation = head .generation;
-      revision = head .revision;
-      payload = head .payload;
-      root = head .root;
-      queued = head .queued;
-      realms = lists .realms;
-      dependencies = lists .dependencies;
-      provisions = lists .provisions;
-      valued = lists .valued;
-      mask = lists .mask;
-      «realm_words» = rows;
-      «dependency_words» = needs;
-      «claim_words» = claims;
-      values = kept;
-    })
-    block-said n e = subst (BlockRead t at) (said n e) (whole plugin n refl (reads-at all-read e))
+    pub block-said : (n : ℕ) → lists .next ≡ At n → BlockRead t at before (answer head lists n)
+        (record { realms = rows; dependencies = needs; claims = claims; values = kept })
+    block-said n e =
+        subst (λ (b : Block). BlockRead t at before b after) (numbers n e)
+        (subst (BlockRead t at before (blockOf plugin n)) stored (whole plugin n refl (reads-at all-read e)))

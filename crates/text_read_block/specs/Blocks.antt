@@ -5,7 +5,7 @@ use mathlib.Core.Path.{_≡_, refl, ap, _∙_, subst}
 use mathlib.Core.Bool.{Bool}
 use mathlib.Core.List.{List}
 use mathlib.Core.Option.{Option}
-use lib.ListN.{length, take, replicate, length-map, length-replicate}
+use lib.ListN.{length, take, replicate, length-map}
 use lib.Seq.{take-all}
 use Rattle.rules.specs.Basics.{isSome, orElse, yesNo}
 use Rattle.rules.specs.Limits.{maxProvisionKeys, maxRealmRows, maxDependencies}
@@ -27,7 +27,7 @@ use Rattle.text_read.specs.Reads.{Reads, next-one, value-one}
 use Rattle.text_read_block.specs.declared.Head.{Head}
 use Rattle.text_read_block.specs.declared.Lists.{Lists}
 use Rattle.text_read_block.specs.declared.Block.{Block}
-use Rattle.text_read_block.specs.Rows.{rowsPut, allPut, rows-front, all-front, rows-length, all-length}
+use Rattle.text_read_block.specs.Rows.{rowsPut, allPut, rows-front, all-front}
 use Rattle.text_read_block.specs.Lists.{PortsRead, ProvisionsRead}
 use Rattle.text_read_block.specs.Valued.{valuedOf}
 
@@ -81,6 +81,13 @@ pub record ListsRead (t : List ℕ) (at : Next) (rows needs claims values : List
   pub provisions-read : ProvisionsRead t dependencies-end claims values
       (record { count = r .provisions; valued = r .valued; mask = r .mask; next = r .next }) claims′ values′
 
+-- The words that are lent for a block's lists.
+pub record Lent : Type 0 where
+  pub realms : List ℕ
+  pub dependencies : List ℕ
+  pub claims : List ℕ
+  pub values : List ℕ
+
 -- a block that is torn
 abbrev pub blank : Block
 blank = record {
@@ -100,13 +107,13 @@ blank = record {
   provisions = 0;
   valued = 0;
   mask = 0;
-  «realm_words» = replicate 32 0;
-  «dependency_words» = replicate 96 0;
-  «claim_words» = replicate 32 0;
-  values = replicate 15 0;
 }
 
--- the words of a plugin, and the place behind its block
+-- and the words that it leaves
+abbrev pub empty : Lent
+empty = record { realms = replicate 32 0; dependencies = replicate 96 0; claims = replicate 32 0; values = replicate 15 0 }
+
+-- the numbers of a plugin, and the place behind its block
 abbrev pub blockOf : Plugin → ℕ → Block
 blockOf p n = record {
   next = At n;
@@ -125,82 +132,75 @@ blockOf p n = record {
   provisions = length (p .provisions);
   valued = valuedOf (p .provisions);
   mask = maskOf (take maxProvisionKeys (p .provisions));
-  «realm_words» = rowsPut (replicate 32 0) 0 (p .realms .rows);
-  «dependency_words» = rowsPut (replicate 96 0) 0 (p .dependencies);
-  «claim_words» = rowsPut (replicate 32 0) 0 (claims p);
-  values = allPut (replicate 15 0) 0 (valuesOf (p .provisions));
 }
 
--- Of a torn block nothing is told.
-pub data BlockRead (t : List ℕ) (at : Next) : Block → Type 0 where
-  torn : (p : Plugin) → Reads (block .read) t at p Torn → BlockRead t at blank
-  whole : (p : Plugin) (n : ℕ) → p .realms .other ≡ defaultRealm → Reads (block .read) t at p (At n) → BlockRead t at (blockOf p n)
+-- its lists at the front of lent words, as far as they have room
+abbrev pub listsOf : Lent → Plugin → Lent
+listsOf before p = record {
+  realms = rowsPut (before .realms) 0 (p .realms .rows);
+  dependencies = rowsPut (before .dependencies) 0 (p .dependencies);
+  claims = rowsPut (before .claims) 0 (claims p);
+  values = allPut (before .values) 0 (valuesOf (p .provisions));
+}
+
+-- Of a torn block nothing is told: what was read before the tear is cleared.
+pub data BlockRead (t : List ℕ) (at : Next) (before : Lent) : Block → Lent → Type 0 where
+  torn : (p : Plugin) → Reads (block .read) t at p Torn → BlockRead t at before blank empty
+  whole : (p : Plugin) (n : ℕ) → p .realms .other ≡ defaultRealm → Reads (block .read) t at p (At n)
+      → BlockRead t at before (blockOf p n) (listsOf before p)
 
 -- By the place behind it.
-pub block-torn : {t : List ℕ} {at : Next} {b : Block} → BlockRead t at b → b .next ≡ Torn → (p : Plugin) × Reads (block .read) t at p Torn
+pub block-torn : {t : List ℕ} {at : Next} {before after : Lent} {b : Block} → BlockRead t at before b after → b .next ≡ Torn
+    → (p : Plugin) × Reads (block .read) t at p Torn
 block-torn (torn p x) e = (p, x)
 block-torn (whole p n d x) e = let z : _≡_ {A = ℕ} 0 1 = cc in absurd (omega arith)
 
-pub block-whole : {t : List ℕ} {at : Next} {b : Block} (n : ℕ) → BlockRead t at b → b .next ≡ At n
-    → (p : Plugin) × (p .realms .other ≡ defaultRealm) × Reads (block .read) t at p (At n) × (b ≡ blockOf p n)
+pub block-whole : {t : List ℕ} {at : Next} {before after : Lent} {b : Block} (n : ℕ) → BlockRead t at before b after → b .next ≡ At n
+    → (p : Plugin) × (p .realms .other ≡ defaultRealm) × Reads (block .read) t at p (At n) × (b ≡ blockOf p n) × (after ≡ listsOf before p)
 block-whole n (torn p x) e = let z : _≡_ {A = ℕ} 0 1 = cc in absurd (omega arith)
 block-whole {t} {at} n (whole p m d x) e =
     let i : m ≡ n = cc in
-    (p, d, subst (λ (k : ℕ). Reads (block .read) t at p (At k)) i x, ap (blockOf p) i)
+    (p, d, subst (λ (k : ℕ). Reads (block .read) t at p (At k)) i x, ap (blockOf p) i, refl)
 
--- Two answers that the promise allows are equal.
-pub block-one : {t : List ℕ} {at : Next} {a b : Block} → BlockRead t at a → BlockRead t at b → a ≡ b
-block-one (torn p x) (torn q y) = refl
+-- Two outcomes that the promise allows are equal.
+pub block-one : {t : List ℕ} {at : Next} {before x y : Lent} {a b : Block}
+    → BlockRead t at before a x → BlockRead t at before b y → (a ≡ b) × (x ≡ y)
+block-one (torn p x) (torn q y) = (refl, refl)
 block-one (torn p x) (whole q n d y) = let e = next-one x y in let z : _≡_ {A = ℕ} 0 1 = cc in absurd (omega arith)
 block-one (whole p m c x) (torn q y) = let e = next-one x y in let z : _≡_ {A = ℕ} 0 1 = cc in absurd (omega arith)
-block-one (whole p m c x) (whole q n d y) =
+block-one {before = before} (whole p m c x) (whole q n d y) =
     let e = next-one x y in
     let i : m ≡ n = cc in
     let j : p ≡ q = value-one x y in
-    ap (blockOf p) i ∙ ap (λ (r : Plugin). blockOf r n) j
+    (ap (blockOf p) i ∙ ap (λ (r : Plugin). blockOf r n) j, ap (listsOf before) j)
 
 -- Lists that have room stand in front of their words.
-module _ (p : Plugin) where
-  pub realms-front : length (p .realms .rows) ≤ maxRealmRows
-      → take (length (p .realms .rows) * 2) (rowsPut (replicate 32 0) 0 (p .realms .rows)) ≡ flat (p .realms .rows)
-  realms-front h =
+module _ (p : Plugin) (into : List ℕ) where
+  pub realms-front : length into ≡ 32 → length (p .realms .rows) ≤ maxRealmRows
+      → take (length (p .realms .rows) * 2) (rowsPut into 0 (p .realms .rows)) ≡ flat (p .realms .rows)
+  realms-front l h =
       let e : length (p .realms .rows) * 2 ≡ (0 + length (p .realms .rows)) * 2 = omega arith in
-      rw e (rows-front (replicate 32 0) 0 (p .realms .rows) (omega (arith, length-replicate {A = ℕ} 32 0)))
+      rw e (rows-front into 0 (p .realms .rows) (omega arith))
 
-  pub dependencies-front : length (p .dependencies) ≤ maxDependencies
-      → take (length (p .dependencies) * 2) (rowsPut (replicate 96 0) 0 (p .dependencies)) ≡ flat (p .dependencies)
-  dependencies-front h =
+  pub dependencies-front : length into ≡ 96 → length (p .dependencies) ≤ maxDependencies
+      → take (length (p .dependencies) * 2) (rowsPut into 0 (p .dependencies)) ≡ flat (p .dependencies)
+  dependencies-front l h =
       let e : length (p .dependencies) * 2 ≡ (0 + length (p .dependencies)) * 2 = omega arith in
-      rw e (rows-front (replicate 96 0) 0 (p .dependencies) (omega (arith, length-replicate {A = ℕ} 96 0)))
+      rw e (rows-front into 0 (p .dependencies) (omega arith))
 
-  module _ (h : length (p .provisions) ≤ maxProvisionKeys) where
-    pub claims-front : take (length (p .provisions) * 2 + 2) (rowsPut (replicate 32 0) 0 (claims p)) ≡ flat (claims p)
-    claims-front =
-        let c : length (provided p) ≡ length (p .provisions) = length-map (p .provisions) _ in
-        let e : length (p .provisions) * 2 + 2 ≡ (0 + suc (length (provided p))) * 2 = omega arith in
-        rw e (rows-front (replicate 32 0) 0 (claims p) (omega (arith, length-replicate {A = ℕ} 32 0)))
+  pub claims-front : length into ≡ 32 → length (p .provisions) ≤ maxProvisionKeys
+      → take (length (p .provisions) * 2 + 2) (rowsPut into 0 (claims p)) ≡ flat (claims p)
+  claims-front l h =
+      let c : length (provided p) ≡ length (p .provisions) = length-map (p .provisions) _ in
+      let e : length (p .provisions) * 2 + 2 ≡ (0 + suc (length (provided p))) * 2 = omega arith in
+      rw e (rows-front into 0 (claims p) (omega arith))
 
-    pub values-front : take (length (p .provisions)) (allPut (replicate 15 0) 0 (valuesOf (p .provisions))) ≡ valuesOf (p .provisions)
-    values-front =
-        let c : length (valuesOf (p .provisions)) ≡ length (p .provisions) = length-map (p .provisions) _ in
-        let e : length (p .provisions) ≡ 0 + length (valuesOf (p .provisions)) = omega arith in
-        rw e (all-front (replicate 15 0) 0 (valuesOf (p .provisions)) (omega (arith, length-replicate {A = ℕ} 15 0)))
+  pub values-front : length into ≡ 15 → length (p .provisions) ≤ maxProvisionKeys
+      → take (length (p .provisions)) (allPut into 0 (valuesOf (p .provisions))) ≡ valuesOf (p .provisions)
+  values-front l h =
+      let c : length (valuesOf (p .provisions)) ≡ length (p .provisions) = length-map (p .provisions) _ in
+      let e : length (p .provisions) ≡ 0 + length (valuesOf (p .provisions)) = omega arith in
+      rw e (all-front into 0 (valuesOf (p .provisions)) (omega arith))
 
-    pub mask-whole : maskOf (take maxProvisionKeys (p .provisions)) ≡ maskOf (p .provisions)
-    mask-whole = ap maskOf (take-all maxProvisionKeys (p .provisions) h)
-
--- The words of each list are as many as it has room for.
-pub record Rooms (b : Block) : Type 0 where
-  pub realms : length (b .«realm_words») ≡ 32
-  pub dependencies : length (b .«dependency_words») ≡ 96
-  pub claims : length (b .«claim_words») ≡ 32
-  pub values : length (b .values) ≡ 15
-
-pub block-rooms : {t : List ℕ} {at : Next} {b : Block} → BlockRead t at b → Rooms b
-block-rooms (torn p x) = record { realms = refl; dependencies = refl; claims = refl; values = refl }
-block-rooms (whole p n d x) = record {
-  realms = rows-length (replicate 32 0) 0 (p .realms .rows);
-  dependencies = rows-length (replicate 96 0) 0 (p .dependencies);
-  claims = rows-length (replicate 32 0) 0 (claims p);
-  values = all-length (replicate 15 0) 0 (valuesOf (p .provisions));
-}
+pub mask-whole : (p : Plugin) → length (p .provisions) ≤ maxProvisionKeys → maskOf (take maxProvisionKeys (p .provisions)) ≡ maskOf (p .provisions)
+mask-whole p h = ap maskOf (take-all maxProvisionKeys (p .provisions) h)

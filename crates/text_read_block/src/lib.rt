@@ -3,19 +3,20 @@ ghost use mathlib.Core.Path.{_≡_};
 ghost use Rattle.text_read_block.specs.Rows.{rowPut, onePut};
 ghost use Prim.Native.Nat.{_<_, _^_};
 ghost use Rattle.text_read_block.specs.Lists.{PortsRead, ProvisionsRead, maskWith};
-ghost use Rattle.text_read_block.specs.Blocks.{HeadRead, ListsRead, BlockRead, blank};
+ghost use Rattle.text_read_block.specs.Blocks.{HeadRead, ListsRead, BlockRead, blank, empty};
 use rules::limits;
 use text_read::Next;
 
-// The most words of a plugin's realm rows, dependencies and claims, its anchor and provisions.
+// The most words of a plugin's realm rows, dependencies and claims, its anchor and provisions, and of its values.
 pub const REALM_WORDS: usize = limits::REALM_ROWS * 2;
 
 pub const DEPENDENCY_WORDS: usize = limits::DEPENDENCIES * 2;
 
 pub const CLAIM_WORDS: usize = limits::PROVISION_KEYS * 2 + 2;
 
-// What a block says. Tag 0 is no parent; queued is the revision of a queued root, and 0 of any other. Each list stands at the front of
-// its words as far as it has room, and how long it is beside it; the anchor leads the claims. A torn block says nothing: all is 0.
+pub const VALUE_WORDS: usize = limits::PROVISION_KEYS;
+
+// What a block says; its lists go to lent words, so that none is copied. Tag 0 is no parent; queued is 0 but for a queued root's revision.
 pub struct Block {
     pub next: Next,
     pub id: u64,
@@ -33,10 +34,6 @@ pub struct Block {
     pub provisions: u64,
     pub valued: u64,
     pub mask: u64,
-    pub realm_words: [u64; REALM_WORDS],
-    pub dependency_words: [u64; DEPENDENCY_WORDS],
-    pub claim_words: [u64; CLAIM_WORDS],
-    pub values: [u64; limits::PROVISION_KEYS],
 }
 
 // The lines before the lists, the anchor last, and the place behind them.
@@ -256,10 +253,20 @@ fn read_lists(
     }
 }
 
-// Nothing is said.
-fn torn() -> Block
-    ensures { λ r. ⌜ r ≡ blank ⌝ }
+// Nothing is said: what was read before the tear is cleared.
+fn torn(
+    realms: &mut [u64; REALM_WORDS],
+    dependencies: &mut [u64; DEPENDENCY_WORDS],
+    claims: &mut [u64; CLAIM_WORDS],
+    values: &mut [u64; VALUE_WORDS],
+) -> Block
+    ensures { λ r. ⌜ (r ≡ blank) ×
+        (record { realms = now (realms .exit); dependencies = now (dependencies .exit); claims = now (claims .exit); values = now (values .exit) } ≡ empty) ⌝ }
 {
+    *realms = [0u64; REALM_WORDS];
+    *dependencies = [0u64; DEPENDENCY_WORDS];
+    *claims = [0u64; CLAIM_WORDS];
+    *values = [0u64; VALUE_WORDS];
     Block {
         next: Next::Torn,
         id: 0,
@@ -277,28 +284,29 @@ fn torn() -> Block
         provisions: 0,
         valued: 0,
         mask: 0,
-        realm_words: [0; REALM_WORDS],
-        dependency_words: [0; DEPENDENCY_WORDS],
-        claim_words: [0; CLAIM_WORDS],
-        values: [0; limits::PROVISION_KEYS],
     }
 }
 
-// The block at a place: each line is read behind the one before, and a torn one tears all that follow.
-pub fn read_block(text: &[u8], at: Next) -> Block
-    ensures { λ r. ⌜ BlockRead (now (text .entry)) at r ⌝ }
+// The block at a place: each line is read behind the one before, and a torn one tears all that follow. The anchor leads the claims.
+pub fn read_block(
+    text: &[u8],
+    at: Next,
+    realms: &mut [u64; REALM_WORDS],
+    dependencies: &mut [u64; DEPENDENCY_WORDS],
+    claims: &mut [u64; CLAIM_WORDS],
+    values: &mut [u64; VALUE_WORDS],
+) -> Block
+    ensures { λ r. ⌜ BlockRead (now (text .entry)) at
+        (record { realms = now (realms .entry); dependencies = now (dependencies .entry); claims = now (claims .entry); values = now (values .entry) }) r
+        (record { realms = now (realms .exit); dependencies = now (dependencies .exit); claims = now (claims .exit); values = now (values .exit) }) ⌝ }
 {
-    let mut rows = [0u64; REALM_WORDS];
-    let mut needs = [0u64; DEPENDENCY_WORDS];
-    let mut claims = [0u64; CLAIM_WORDS];
-    let mut values = [0u64; limits::PROVISION_KEYS];
     let head = before_lists(text, at);
-    put_row(&mut claims, 0, head.key, head.realm);
+    put_row(claims, 0, head.key, head.realm);
     let from = head.next;
-    let lists = read_lists(text, from, &mut rows, &mut needs, &mut claims, &mut values);
+    let lists = read_lists(text, from, realms, dependencies, claims, values);
     let end = lists.next;
     let Next::At(next) = end else {
-        return torn();
+        return torn(realms, dependencies, claims, values);
     };
     Block {
         next: Next::At(next),
@@ -317,9 +325,5 @@ pub fn read_block(text: &[u8], at: Next) -> Block
         provisions: lists.provisions,
         valued: lists.valued,
         mask: lists.mask,
-        realm_words: rows,
-        dependency_words: needs,
-        claim_words: claims,
-        values,
     }
 }

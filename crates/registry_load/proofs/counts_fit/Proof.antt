@@ -9,40 +9,38 @@ use Rattle.registry_load.proofs.counts_fit.Tie as tie
 
 returns : tie.Need-returns
 unfolding countsBy
-returns c = let a = c .before .args in rw (lt-ltb (a .id) (a .from) (omega arith))
+returns c =
+    let a = c .before .before .args in
+    let b = a .b in
+    rw (lt-ltb (b .id) (a .from) (omega arith))
 
 returns-2 : tie.Need-returns-2
 unfolding countsBy
-returns-2 c = let a = c .before .before .args in rw (le-ltb (a .id) (a .from) (omega arith), le-leb (a .next) (a .id) (omega arith))
+returns-2 c =
+    let a = c .before .before .before .before .args in
+    let b = a .b in
+    rw (le-ltb (b .id) (a .from) (omega arith), le-leb (a .next) (b .id) (omega arith))
 
 returns-3 : tie.Need-returns-3
 unfolding countsBy
 returns-3 c =
-    let a = c .before .before .before .args in
-    rw (le-ltb (a .id) (a .from) (omega arith), lt-leb (a .next) (a .id) (omega arith), lt-ltb maxRealmRows (a .realms) (omega arith))
+    let a = c .before .before .before .before .before .before .args in
+    let b = a .b in
+    rw (le-ltb (b .id) (a .from) (omega arith), lt-leb (a .next) (b .id) (omega arith), lt-ltb maxRealmRows (b .realms) (omega arith))
 
 returns-4 : tie.Need-returns-4
 unfolding countsBy
 returns-4 c =
-    let a = c .before .before .before .before .args in
-    rw (
-      le-ltb (a .id) (a .from) (omega arith),
-      lt-leb (a .next) (a .id) (omega arith),
-      le-ltb maxRealmRows (a .realms) (omega arith),
-      lt-ltb maxDependencies (a .dependencies) (omega arith),
-    )
+    let a = c .before .before .before .before .before .before .before .before .args in
+    let b = a .b in
+    rw (le-ltb (b .id) (a .from) (omega arith), lt-leb (a .next) (b .id) (omega arith), le-ltb maxRealmRows (b .realms) (omega arith), lt-ltb maxDependencies (b .dependencies) (omega arith))
 
 returns-5 : tie.Need-returns-5
 unfolding countsBy
 returns-5 c =
-    let a = c .before .before .before .before .before .args in
-    rw (
-      le-ltb (a .id) (a .from) (omega arith),
-      lt-leb (a .next) (a .id) (omega arith),
-      le-ltb maxRealmRows (a .realms) (omega arith),
-      le-ltb maxDependencies (a .dependencies) (omega arith),
-      lt-ltb maxProvisionKeys (a .provisions) (omega arith),
-    )
+    let a = c .before .before .before .before .before .before .before .before .before .before .args in
+    let b = a .b in
+    rw (le-ltb (b .id) (a .from) (omega arith), lt-leb (a .next) (b .id) (omega arith), le-ltb maxRealmRows (b .realms) (omega arith), le-ltb maxDependencies (b .dependencies) (omega arith), lt-ltb maxProvisionKeys (b .provisions) (omega arith))
 
 add-result : tie.Need-add-result
 add-result c = search needs
@@ -53,14 +51,9 @@ add-result-2 c = search needs
 returns-6 : tie.Need-returns-6
 unfolding countsBy
 returns-6 c =
-    let a = c .before .before .before .before .before .args in
-    rw (
-      le-ltb (a .id) (a .from) (omega arith),
-      lt-leb (a .next) (a .id) (omega arith),
-      le-ltb maxRealmRows (a .realms) (omega arith),
-      le-ltb maxDependencies (a .dependencies) (omega arith),
-      le-ltb maxProvisionKeys (a .provisions) (omega arith),
-    )
+    let a = c .before .before .before .before .before .before .before .before .before .before .args in
+    let b = a .b in
+    rw (le-ltb (b .id) (a .from) (omega arith), lt-leb (a .next) (b .id) (omega arith), le-ltb maxRealmRows (b .realms) (omega arith), le-ltb maxDependencies (b .dependencies) (omega arith), le-ltb maxProvisionKeys (b .provisions) (omega arith))
 
 pub counts-fit-spec : {M : Type 1} → statement M
 counts-fit-spec = tie.close (tie.spec returns returns-2 returns-3 returns-4 returns-5 add-result add-result-2 returns-6)

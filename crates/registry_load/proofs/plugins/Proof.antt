@@ -8,16 +8,17 @@ use Rattle.registry_load.proofs.plugins.Statement.{statement}
 use Rattle.registry_load.proofs.plugins.Tie as tie
 
 abbrev Inv-loop : tie.InvT-loop
-Inv-loop w₀ text at count domain first next behind₀ rows₀ from₀ k₀ w behind rows from k =
+Inv-loop w₀ text at count domain first next realms₀ dependencies₀ claims₀ values₀ behind₀ rows₀ from₀ k₀ w realms dependencies claims values behind rows from k =
     PluginsSoFar text at domain first next w behind rows from k × (k ≤ count)
 
 abbrev μ-loop : tie.MeasureT-loop
-μ-loop w₀ text at count domain first next behind₀ rows₀ from₀ k₀ w behind rows from k = count - k
+μ-loop w₀ text at count domain first next realms₀ dependencies₀ claims₀ values₀ behind₀ rows₀ from₀ k₀ w realms dependencies claims values behind rows from k =
+    count - k
 
 loop-holds : tie.Need-loop-holds Inv-loop μ-loop
 loop-holds c =
-    let a = c .before .args in
-    let q = c .before .pre in (
+    let q = c .before .pre in
+    let a = c .before .args in (
       subst (λ w. PluginsSoFar (a .text .now) (a .at) (a .domain) (a .first) (a .next) w (a .at) 0 (a .first) 0) (sym (q .0))
           (plugins-start (a .text .now) (a .at) (a .domain) (a .first) (a .next) (q .1 .0) (q .1 .2)),
       omega arith,
@@ -25,8 +26,9 @@ loop-holds c =
 
 join-requires : tie.Need-join-requires Inv-loop μ-loop
 join-requires c κs =
-    let at = c .before .before in
-    (omega (arith, at .loop .inv .1, c .before .loop-test .taken, at .before .before .pre .1 .1), at .loop .inv .0 .room)
+    let l = c .before .before .before .before .before in
+    let at = l .before in
+    (omega (arith, at .loop .inv .1, l .loop-test .taken, at .before .before .pre .1 .1), at .loop .inv .0 .room)
 
 enum-known-end : tie.Need-enum-known-end Inv-loop μ-loop
 enum-known-end c = search needs
@@ -36,10 +38,11 @@ enum-told c = search needs
 
 returns : tie.Need-returns Inv-loop μ-loop
 returns c =
-    let at = c .before .before .before .before .before in
+    let j = c .before .before in
+    let l = j .before .before .before .before .before .before in
+    let at = l .before in
     let a = at .before .before in
-    plugins-torn _ _ _ _ _ (at .loop .inv .0) (a .args .count) (c .before .before .before .before .loop-test .taken) (a .pre .1 .1)
-    (c .before .before .join .ensures) (c .enum-told .given .1) _
+    plugins-torn _ _ _ _ _ (at .loop .inv .0) (a .args .count) (l .loop-test .taken) (a .pre .1 .1) (j .join .ensures) (c .enum-told .given .1) _
 
 add-k : tie.Need-add-k Inv-loop μ-loop
 add-k c = search needs
@@ -49,11 +52,12 @@ loop-less c = search needs
 
 loop-again : tie.Need-loop-again Inv-loop μ-loop
 loop-again c =
-    let at = c .before .before .before .before .before .before in
+    let j = c .before .before .before in
+    let l = j .before .before .before .before .before .before in
+    let at = l .before in
     let a = at .before .before in
-    let test = c .before .before .before .before .before .loop-test .taken in (
-      plugins-next _ _ _ _ _ (at .loop .inv .0) (a .args .count) test (a .pre .1 .1) _ (c .before .before .before .join .ensures)
-          (c .before .end .given .1),
+    let test = l .loop-test .taken in (
+      plugins-next _ _ _ _ _ (at .loop .inv .0) (a .args .count) test (a .pre .1 .1) _ (j .join .ensures) (c .before .end .given .1),
       omega (arith, test),
     )
 

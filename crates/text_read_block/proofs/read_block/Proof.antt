@@ -1,4 +1,5 @@
--- The lines and lists one behind the other, in words of the function's own.
+-- The lines and lists one behind the other; where one is torn, the words are cleared.
+use Rattle.text_read_block.specs.Blocks.{Lent}
 use Rattle.text_read_block.proofs.BlockLines.{block-ends, block-said}
 use borrow.Author.Needs.{needs}
 use Rattle.text_read_block.proofs.read_block.Statement.{statement}
@@ -7,23 +8,8 @@ use Rattle.text_read_block.proofs.read_block.Tie as tie
 before-lists-requires : tie.Need-before-lists-requires
 before-lists-requires c κs = search needs
 
-slice-aggregate-put-row : tie.Need-slice-aggregate-put-row
-slice-aggregate-put-row c = search needs
-
 put-row-requires : tie.Need-put-row-requires
 put-row-requires c κs = search needs
-
-slice-aggregate-read-lists : tie.Need-slice-aggregate-read-lists
-slice-aggregate-read-lists c = search needs
-
-slice-aggregate-read-lists-2 : tie.Need-slice-aggregate-read-lists-2
-slice-aggregate-read-lists-2 c = search needs
-
-slice-aggregate-read-lists-3 : tie.Need-slice-aggregate-read-lists-3
-slice-aggregate-read-lists-3 c = search needs
-
-slice-aggregate-read-lists-4 : tie.Need-slice-aggregate-read-lists-4
-slice-aggregate-read-lists-4 c = search needs
 
 read-lists-requires : tie.Need-read-lists-requires
 read-lists-requires c κs = search needs
@@ -39,21 +25,24 @@ torn-requires c κs = search needs
 
 returns : tie.Need-returns
 returns c =
-    let lists = c .before .before .before .before .before .before .before in
-    let row = lists .before .before .before .before .before .before in
+    let told = c .before .before .before .before .before in
+    let lists = told .before .before in
+    let row = lists .before .before .before .before .before in
     let head = row .before .before in
     let a = head .before .before .args in
-    rw (c .torn .ensures)
-    (block-ends (a .text .now) (a .at) _ _ _ _ _ _ _ (head .before-lists .ensures) (row .put-row .ensures) (lists .read-lists .ensures)
-    (c .before .enum-told .given .1))
+    let before : Lent = record { realms = a .realms .now; dependencies = a .dependencies .now; claims = a .claims .now; values = a .values .now } in
+    rw (c .torn .ensures .0, c .torn .ensures .1)
+    (block-ends (a .text .now) (a .at) before _ _ _ _ _ _ _ (head .before-lists .ensures) (row .put-row .ensures) (lists .read-lists .ensures)
+    (told .enum-told .given .1))
 
 returns-2 : tie.Need-returns-2
 returns-2 c =
-    let lists = c .before .before .before .before .before .before .before in
-    let row = lists .before .before .before .before .before .before in
+    let lists = c .before .before .before in
+    let row = lists .before .before .before .before .before in
     let head = row .before .before in
     let a = head .before .before .args in
-    block-said (a .text .now) (a .at) _ _ _ _ _ _ _ (head .before-lists .ensures) (row .put-row .ensures) (lists .read-lists .ensures) _
+    let before : Lent = record { realms = a .realms .now; dependencies = a .dependencies .now; claims = a .claims .now; values = a .values .now } in
+    block-said (a .text .now) (a .at) before _ _ _ _ _ _ _ (head .before-lists .ensures) (row .put-row .ensures) (lists .read-lists .ensures) _
     (c .before .end .given .1)
 
 pub read-block-spec : {M : Type 1} → statement M
@@ -61,12 +50,7 @@ read-block-spec =
     tie.close
     (tie.spec
     before-lists-requires
-    slice-aggregate-put-row
     put-row-requires
-    slice-aggregate-read-lists
-    slice-aggregate-read-lists-2
-    slice-aggregate-read-lists-3
-    slice-aggregate-read-lists-4
     read-lists-requires
     enum-known-end
     enum-told

@@ -1,0 +1,4 @@
+mod Behind
+mod Bits
+mod Noted
+mod Rows

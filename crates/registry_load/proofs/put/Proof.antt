@@ -1,0 +1,70 @@
+-- What is handed on is what stands in front of the lent words.
+use Prim.Native.Nat.{_%_}
+use borrow.Author.Needs.{needs}
+use Rattle.memory.specs.Layout.{places}
+use Rattle.registry_load.specs.Join.{put-by}
+use Rattle.registry_load.proofs.put.Statement.{statement}
+use Rattle.registry_load.proofs.put.Tie as tie
+
+entry-requires : tie.Need-entry-requires
+entry-requires c κs = search needs
+
+life-requires : tie.Need-life-requires
+life-requires c κs = search needs
+
+mul-some-words : tie.Need-mul-some-words
+mul-some-words c = search needs
+
+some-words-requires : tie.Need-some-words-requires
+some-words-requires c κs = search needs
+
+mul-some-words-2 : tie.Need-mul-some-words-2
+mul-some-words-2 c = search needs
+
+some-words-requires-2 : tie.Need-some-words-requires-2
+some-words-requires-2 c κs = search needs
+
+mul-some-words-3 : tie.Need-mul-some-words-3
+mul-some-words-3 c = search needs
+
+add-some-words : tie.Need-add-some-words
+add-some-words c = search needs
+
+some-words-requires-3 : tie.Need-some-words-requires-3
+some-words-requires-3 c κs = search needs
+
+some-words-requires-4 : tie.Need-some-words-requires-4
+some-words-requires-4 c κs = search needs
+
+load-place-requires : tie.Need-load-place-requires
+load-place-requires c κs = search needs
+
+returns : tie.Need-returns
+returns c =
+    let values = c .before in
+    let claims = values .before .before in
+    let needed = claims .before .before in
+    let realms = needed .before .before in
+    let life = realms .before .before in
+    let entry = life .before in
+    let a = entry .before .before .args in
+    put-by (a .w .now) (a .b) (a .realms .now) (a .dependencies .now) (a .claims .now) (a .values .now) (a .place % places) (a .rows) (a .next)
+    (entry .entry .ensures) (life .life .ensures) (realms .some-words .ensures) (needed .some-words2 .ensures) (claims .some-words3 .ensures)
+    (values .some-words4 .ensures) (c .load-place .ensures)
+
+pub put-spec : {M : Type 1} → statement M
+put-spec =
+    tie.close
+    (tie.spec
+    entry-requires
+    life-requires
+    mul-some-words
+    some-words-requires
+    mul-some-words-2
+    some-words-requires-2
+    mul-some-words-3
+    add-some-words
+    some-words-requires-3
+    some-words-requires-4
+    load-place-requires
+    returns)
