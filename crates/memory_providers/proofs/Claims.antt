@@ -64,7 +64,8 @@ module _ (m : List ℕ) (i : ℕ) (size : length m ≡ memoryWords) where
       ∙ any-same _ _ (λ q. any-same _ _ (λ p. same-swap p q) (pairs (offeredPart m i)) ∙ offered-is q) qs
 
   -- where a test of the place passed
-  pub offers-claimed : (t : Bool) (qs : List Port) (w : KeyBits) (b : Bool) → w ≡ keyBits noBits qs → b ≡ (t && any (λ q. wanted w qs q) (pairs (offeredPart m i)))
+  pub offers-claimed : (t : Bool) (qs : List Port) (w : KeyBits) (b : Bool) → w ≡ keyBits noBits qs
+      → b ≡ (t && any (λ q. wanted w qs q) (pairs (offeredPart m i)))
       → b ≡ (t && any (λ q. provides (pluginAt m i) q) qs)
   offers-claimed t qs w b e f =
       f ∙ ap (λ x. t && any (λ q. wanted x qs q) (pairs (offeredPart m i))) e ∙ ap (λ x. t && x) (met qs)

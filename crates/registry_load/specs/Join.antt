@@ -76,6 +76,10 @@ blockPut w b realms dependencies claims values place rows next =
     loadedPlace w place (entryOf b rows next) (decoded (loadedLife b)) (realmsIn b realms) (neededIn b dependencies) (claimedIn b claims) (b .mask)
     (take (b .provisions) values)
 
+-- what is in use then
+abbrev pub joinedBy : Block → ℕ → Joined
+joinedBy b rows = record { next = b .next; rows = rows + b .dependencies + b .provisions + 1; from = b .id + 1 }
+
 pub put-by : (w : List ℕ) (b : Block) (realms dependencies claims values : List ℕ) (place rows next : ℕ) {e : Entry} {life : Life} {r d c v w′ : List ℕ}
     → e ≡ entryOf b rows next → life ≡ decoded (loadedLife b) → r ≡ realmsIn b realms → d ≡ neededIn b dependencies → c ≡ claimedIn b claims
     → v ≡ take (b .provisions) values → w′ ≡ loadedPlace w place e life r d c (b .mask) v → w′ ≡ blockPut w b realms dependencies claims values place rows next
@@ -156,13 +160,15 @@ module _ (t : List ℕ) (at : ℕ) (w : List ℕ) (place from next rows : ℕ) (
 
     pub join-within : fit ≡ true → Within b next rows
     unfolding blockFits
-    join-within y = counts-within b from next rows (chained-true (countsBy b from next rows) (lifeBy b ∷ portsBy (view w) b (after .realms) (after .dependencies) (after .claims) ∷ []) y .0)
+    join-within y =
+        let ports = portsBy (view w) b (after .realms) (after .dependencies) (after .claims) in
+        counts-within b from next rows (chained-true (countsBy b from next rows) (lifeBy b ∷ ports ∷ []) y .0)
 
-    pub join-fits : fit ≡ true → place < places → {w′ : List ℕ}
+    pub join-fits : fit ≡ true → place < places → {r : Joined} {w′ : List ℕ} → r ≡ joinedBy b rows
         → w′ ≡ blockPut w b (after .realms) (after .dependencies) (after .claims) (after .values) (place % places) rows next
-        → JoinRead t at w place from next rows (record { next = At n; rows = rows + b .dependencies + b .provisions + 1; from = b .id + 1 }) w′
+        → JoinRead t at w place from next rows r w′
     unfolding fits
-    join-fits y h {w′} put =
+    join-fits y h {r} {w′} said put =
         let k = block-whole n x e in
         let p = k .0 in
         let z = sym (fit-is p (k .1) (k .3) (k .4)) ∙ y in
@@ -173,11 +179,7 @@ module _ (t : List ℕ) (at : ℕ) (w : List ℕ) (place from next rows : ℕ) (
         ap (λ (c : Block). blockPut w c (after .realms) (after .dependencies) (after .claims) (after .values) (place % places) rows next) (k .3)
         ∙ ap (λ (l : Lent). blockPut w (blockOf p n) (l .realms) (l .dependencies) (l .claims) (l .values) (place % places) rows next) (k .4) in
         let written = put ∙ same ∙ put-is p n from next rows before size counts w place h in
-        let i : rows + rowsOf p ≡ rows + b .dependencies + b .provisions + 1 =
-        omega (arith, ap (λ (c : Block). c .dependencies) (k .3), ap (λ (c : Block). c .provisions) (k .3)) in
-        let j : p .id + 1 ≡ b .id + 1 = ap (λ (c : Block). c .id + 1) (sym (k .3)) in
-        let first : Joined = record { next = At n; rows = rows + rowsOf p; from = p .id + 1 } in
-        let last : Joined = record { next = At n; rows = rows + b .dependencies + b .provisions + 1; from = b .id + 1 } in
-        let r : first ≡ last = λ u. record { next = At n; rows = i u; from = j u } in
-        subst (λ (v : List ℕ). JoinRead t at w place from next rows last v) (sym written) (subst (λ (r : Joined). JoinRead t at w place from next rows r
-        (loadedPlugin w place rows next (unqueued p))) r (joined p n (k .1) (k .2) z))
+        let i : rows + length (p .dependencies) + length (p .provisions) + 1 ≡ rows + rowsOf p = omega arith in
+        let told : r ≡ record { next = At n; rows = rows + rowsOf p; from = p .id + 1 } =
+        said ∙ ap (λ (c : Block). joinedBy c rows) (k .3) ∙ (λ u. record { next = At n; rows = i u; from = p .id + 1 }) in
+        rw (written, told) (joined p n (k .1) (k .2) z)

@@ -12,7 +12,7 @@ ghost use Rattle.memory.specs.Writes.{openedWith};
 ghost use Rattle.memory_load.specs.Loading.{zeros};
 ghost use Rattle.registry_load.specs.Blocks.{unqueuedTag, loadedLife, entryOf};
 ghost use Rattle.registry_load.specs.Lives.{lifeBy, countsBy, Within};
-ghost use Rattle.registry_load.specs.Join.{Rooms, blockFits, blockPut};
+ghost use Rattle.registry_load.specs.Join.{Rooms, blockFits, blockPut, joinedBy};
 ghost use Rattle.registry_load.specs.Plugins.{JoinRead, PluginsRead};
 ghost use Rattle.registry_load.specs.Whole.{HeaderRead, allHold, TextRead};
 ghost use Rattle.registry_load.specs.Words.{Opens};
@@ -207,7 +207,7 @@ fn fits(
     )
 }
 
-// The plugin of a block that fits is written to a place.
+// The plugin of a block that fits, written to a place.
 fn put(
     w: &mut [u64; WORDS],
     b: Block,
@@ -218,10 +218,10 @@ fn put(
     place: usize,
     rows: usize,
     next: u64,
-)
+) -> Joined
     requires { ⌜ Within b next rows ⌝ }
-    ensures { λ _. ⌜ now (w .exit) ≡ blockPut (now (w .entry)) b (now (realms .entry)) (now (dependencies .entry)) (now (claims .entry)) (now (values .entry))
-        (place % places) rows next ⌝ }
+    ensures { λ r. ⌜ (r ≡ joinedBy b rows) × (now (w .exit) ≡ blockPut (now (w .entry)) b (now (realms .entry)) (now (dependencies .entry))
+        (now (claims .entry)) (now (values .entry)) (place % places) rows next) ⌝ }
 {
     memory_load::load_place(
         w,
@@ -234,6 +234,12 @@ fn put(
         b.mask,
         memory_lists::some_words(values, 0, b.provisions as usize),
     );
+    let behind = b.next;
+    Joined {
+        next: behind,
+        rows: rows + (b.dependencies as usize) + (b.provisions as usize) + 1,
+        from: b.id + 1,
+    }
 }
 
 // The block at a place: its lists go to lent words, and its plugin to the next place, if it fits beside those before it.
@@ -256,9 +262,9 @@ fn join(
     rooms(realms, dependencies, claims, values);
     let b = text_read_block::read_block(text, Next::At(at), realms, dependencies, claims, values);
     let end = b.next;
-    let Next::At(behind) = end else {
+    if let Next::Torn = end {
         return refused();
-    };
+    }
     if !fits(w, b, realms, dependencies, claims, from, next, rows) {
         return refused();
     }
@@ -272,12 +278,7 @@ fn join(
         place,
         rows,
         next,
-    );
-    Joined {
-        next: Next::At(behind),
-        rows: rows + (b.dependencies as usize) + (b.provisions as usize) + 1,
-        from: b.id + 1,
-    }
+    )
 }
 
 // So many blocks, from a place on: the place behind them.

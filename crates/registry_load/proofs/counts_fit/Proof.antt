@@ -33,14 +33,25 @@ unfolding countsBy
 returns-4 c =
     let a = c .before .before .before .before .before .before .before .before .args in
     let b = a .b in
-    rw (le-ltb (b .id) (a .from) (omega arith), lt-leb (a .next) (b .id) (omega arith), le-ltb maxRealmRows (b .realms) (omega arith), lt-ltb maxDependencies (b .dependencies) (omega arith))
+    rw (
+      le-ltb (b .id) (a .from) (omega arith),
+      lt-leb (a .next) (b .id) (omega arith),
+      le-ltb maxRealmRows (b .realms) (omega arith),
+      lt-ltb maxDependencies (b .dependencies) (omega arith),
+    )
 
 returns-5 : tie.Need-returns-5
 unfolding countsBy
 returns-5 c =
     let a = c .before .before .before .before .before .before .before .before .before .before .args in
     let b = a .b in
-    rw (le-ltb (b .id) (a .from) (omega arith), lt-leb (a .next) (b .id) (omega arith), le-ltb maxRealmRows (b .realms) (omega arith), le-ltb maxDependencies (b .dependencies) (omega arith), lt-ltb maxProvisionKeys (b .provisions) (omega arith))
+    rw (
+      le-ltb (b .id) (a .from) (omega arith),
+      lt-leb (a .next) (b .id) (omega arith),
+      le-ltb maxRealmRows (b .realms) (omega arith),
+      le-ltb maxDependencies (b .dependencies) (omega arith),
+      lt-ltb maxProvisionKeys (b .provisions) (omega arith),
+    )
 
 add-result : tie.Need-add-result
 add-result c = search needs
@@ -53,7 +64,13 @@ unfolding countsBy
 returns-6 c =
     let a = c .before .before .before .before .before .before .before .before .before .before .args in
     let b = a .b in
-    rw (le-ltb (b .id) (a .from) (omega arith), lt-leb (a .next) (b .id) (omega arith), le-ltb maxRealmRows (b .realms) (omega arith), le-ltb maxDependencies (b .dependencies) (omega arith), le-ltb maxProvisionKeys (b .provisions) (omega arith))
+    rw (
+      le-ltb (b .id) (a .from) (omega arith),
+      lt-leb (a .next) (b .id) (omega arith),
+      le-ltb maxRealmRows (b .realms) (omega arith),
+      le-ltb maxDependencies (b .dependencies) (omega arith),
+      le-ltb maxProvisionKeys (b .provisions) (omega arith),
+    )
 
 pub counts-fit-spec : {M : Type 1} → statement M
 counts-fit-spec = tie.close (tie.spec returns returns-2 returns-3 returns-4 returns-5 add-result add-result-2 returns-6)

@@ -1,5 +1,4 @@
 -- The block is read into the lent words; torn, unfit, or written to its place.
-use native.Mathlib.Omega.{arith}
 use mathlib.Core.Path.{sym, _∙_}
 use borrow.Author.Needs.{needs}
 use borrow.Author.Tests.{not-true, not-false}
@@ -13,9 +12,6 @@ rooms-requires c κs = search needs
 read-block-requires : tie.Need-read-block-requires
 read-block-requires c κs = search needs
 
-enum-known-end : tie.Need-enum-known-end
-enum-known-end c = search needs
-
 enum-told : tie.Need-enum-told
 enum-told c = search needs
 
@@ -27,7 +23,11 @@ returns c =
     let t = c .before in
     let r = t .before .before in
     let a = r .before .before .before .before .before .before .before .before .before .before .before .args in
-    join-torn (a .text .now) (a .at) (a .w .now) (a .place) (a .from) (a .next) (a .rows) _ _ _ (r .read-block .ensures) (c .refused .ensures) (t .enum-told .given .1)
+    join-torn (a .text .now) (a .at) (a .w .now) (a .place) (a .from) (a .next) (a .rows) _ _ _ (r .read-block .ensures)
+    (c .refused .ensures) (t .enum-told .given .1)
+
+enum-told-2 : tie.Need-enum-told-2
+enum-told-2 c = search needs
 
 fits-requires : tie.Need-fits-requires
 fits-requires c κs = search needs
@@ -39,85 +39,37 @@ returns-2 : tie.Need-returns-2
 returns-2 c =
     let e = c .before in
     let f = e .before in
-    let n = f .before .before .before .before .before .before in
+    let n = f .before .before .before .before .before in
     let r = n .before .before in
     let k = r .before .before .before .before .before in
-    let a = k .before .before .before .before .before .before .args in
-    join-unfit (a .text .now) (a .at) (a .w .now) (a .place) (a .from) (a .next) (a .rows) _ _ _ (r .read-block .ensures) (k .rooms .ensures) _ (n .end .given .1)
-    (c .refused2 .ensures) (sym (f .fits2 .ensures) ∙ not-true _ (e .if1 .taken))
+    let at = k .before .before .before .before .before .before in
+    let a = at .args in
+    join-unfit (a .text .now) (a .at) (a .w .now) (a .place) (a .from) (a .next) (a .rows) _ _ _ (r .read-block .ensures) (k .rooms .ensures)
+    _ (n .enum-told2 .given .1) (c .refused2 .ensures) (sym (f .fits2 .ensures) ∙ not-true _ (e .if1 .taken))
 
 put-requires : tie.Need-put-requires
 put-requires c κs =
     let e = c .before .before .before .before .before in
     let f = e .before in
-    let n = f .before .before .before .before .before .before in
-    let r = n .before .before in
-    let k = r .before .before .before .before .before in
-    let a = k .before .before .before .before .before .before .args in
-    let w = join-within (a .text .now) (a .at) (a .w .now) (a .place) (a .from) (a .next) (a .rows) _ _ _ (r .read-block .ensures) (k .rooms .ensures) _
-    (n .end .given .1) (sym (f .fits2 .ensures) ∙ not-false _ (e .if1 .left)) in
-    w
-
-add-t37 : tie.Need-add-t37
-add-t37 c =
-    let e = c .before .before .before .before .before .before in
-    let f = e .before in
-    let n = f .before .before .before .before .before .before in
-    let r = n .before .before in
-    let k = r .before .before .before .before .before in
-    let a = k .before .before .before .before .before .before .args in
-    let w = join-within (a .text .now) (a .at) (a .w .now) (a .place) (a .from) (a .next) (a .rows) _ _ _ (r .read-block .ensures) (k .rooms .ensures) _
-    (n .end .given .1) (sym (f .fits2 .ensures) ∙ not-false _ (e .if1 .left)) in
-    omega (arith, w .room)
-
-add-t39 : tie.Need-add-t39
-add-t39 c =
-    let e = c .before .before .before .before .before .before in
-    let f = e .before in
-    let n = f .before .before .before .before .before .before in
-    let r = n .before .before in
-    let k = r .before .before .before .before .before in
-    let a = k .before .before .before .before .before .before .args in
-    let w = join-within (a .text .now) (a .at) (a .w .now) (a .place) (a .from) (a .next) (a .rows) _ _ _ (r .read-block .ensures) (k .rooms .ensures) _
-    (n .end .given .1) (sym (f .fits2 .ensures) ∙ not-false _ (e .if1 .left)) in
-    omega (arith, w .room)
-
-add-t40 : tie.Need-add-t40
-add-t40 c =
-    let e = c .before .before .before .before .before .before in
-    let f = e .before in
-    let n = f .before .before .before .before .before .before in
-    let r = n .before .before in
-    let k = r .before .before .before .before .before in
-    let a = k .before .before .before .before .before .before .args in
-    let w = join-within (a .text .now) (a .at) (a .w .now) (a .place) (a .from) (a .next) (a .rows) _ _ _ (r .read-block .ensures) (k .rooms .ensures) _
-    (n .end .given .1) (sym (f .fits2 .ensures) ∙ not-false _ (e .if1 .left)) in
-    omega (arith, w .room)
-
-add-t41 : tie.Need-add-t41
-add-t41 c =
-    let e = c .before .before .before .before .before .before .before in
-    let f = e .before in
-    let n = f .before .before .before .before .before .before in
-    let r = n .before .before in
-    let k = r .before .before .before .before .before in
-    let a = k .before .before .before .before .before .before .args in
-    let w = join-within (a .text .now) (a .at) (a .w .now) (a .place) (a .from) (a .next) (a .rows) _ _ _ (r .read-block .ensures) (k .rooms .ensures) _
-    (n .end .given .1) (sym (f .fits2 .ensures) ∙ not-false _ (e .if1 .left)) in
-    omega (arith, w .issued, k .before .before .before .before .before .before .fits)
-
-returns-3 : tie.Need-returns-3
-returns-3 c =
-    let p = c .before in
-    let e = p .before .before .before .before .before .before in
-    let f = e .before in
-    let n = f .before .before .before .before .before .before in
+    let n = f .before .before .before .before .before in
     let r = n .before .before in
     let k = r .before .before .before .before .before in
     let at = k .before .before .before .before .before .before in
     let a = at .args in
-    join-fits (a .text .now) (a .at) (a .w .now) (a .place) (a .from) (a .next) (a .rows) _ _ _ (r .read-block .ensures) (k .rooms .ensures) _ (n .end .given .1)
-    (sym (f .fits2 .ensures) ∙ not-false _ (e .if1 .left)) (at .pre .0) (p .put .ensures)
+    join-within (a .text .now) (a .at) (a .w .now) (a .place) (a .from) (a .next) (a .rows) _ _ _ (r .read-block .ensures) (k .rooms .ensures)
+    _ (n .enum-told2 .given .1) (sym (f .fits2 .ensures) ∙ not-false _ (e .if1 .left))
+
+returns-3 : tie.Need-returns-3
+returns-3 c =
+    let e = c .before .before .before .before .before .before in
+    let f = e .before in
+    let n = f .before .before .before .before .before in
+    let r = n .before .before in
+    let k = r .before .before .before .before .before in
+    let at = k .before .before .before .before .before .before in
+    let a = at .args in
+    join-fits (a .text .now) (a .at) (a .w .now) (a .place) (a .from) (a .next) (a .rows) _ _ _ (r .read-block .ensures) (k .rooms .ensures)
+    _ (n .enum-told2 .given .1) (sym (f .fits2 .ensures) ∙ not-false _ (e .if1 .left)) (at .pre .0) (c .put .ensures .0) (c .put .ensures .1)
 
 pub join-spec : {M : Type 1} → statement M
 join-spec =
@@ -125,16 +77,12 @@ join-spec =
     (tie.spec
     rooms-requires
     read-block-requires
-    enum-known-end
     enum-told
     refused-requires
     returns
+    enum-told-2
     fits-requires
     refused-requires-2
     returns-2
     put-requires
-    add-t37
-    add-t39
-    add-t40
-    add-t41
     returns-3)

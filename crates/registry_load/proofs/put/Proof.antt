@@ -1,5 +1,7 @@
 -- What is handed on is what stands in front of the lent words.
 use Prim.Native.Nat.{_%_}
+use native.Mathlib.Omega.{arith}
+use mathlib.Core.Path.{refl}
 use borrow.Author.Needs.{needs}
 use Rattle.memory.specs.Layout.{places}
 use Rattle.registry_load.specs.Join.{put-by}
@@ -39,18 +41,35 @@ some-words-requires-4 c κs = search needs
 load-place-requires : tie.Need-load-place-requires
 load-place-requires c κs = search needs
 
+add-t34 : tie.Need-add-t34
+add-t34 c = search needs
+
+add-t29 : tie.Need-add-t29
+add-t29 c = search needs
+
+add-t28 : tie.Need-add-t28
+add-t28 c = search needs
+
+add-t35 : tie.Need-add-t35
+add-t35 c =
+    let at = c .before .before .before .before .before .before .before .before .before .before .before .before .before in
+    omega (arith, at .pre .issued, at .fits)
+
 returns : tie.Need-returns
 returns c =
-    let values = c .before in
+    let p = c .before in
+    let values = p .before in
     let claims = values .before .before in
     let needed = claims .before .before in
     let realms = needed .before .before in
     let life = realms .before .before in
     let entry = life .before in
-    let a = entry .before .before .args in
-    put-by (a .w .now) (a .b) (a .realms .now) (a .dependencies .now) (a .claims .now) (a .values .now) (a .place % places) (a .rows) (a .next)
-    (entry .entry .ensures) (life .life .ensures) (realms .some-words .ensures) (needed .some-words2 .ensures) (claims .some-words3 .ensures)
-    (values .some-words4 .ensures) (c .load-place .ensures)
+    let a = entry .before .before .args in (
+      refl,
+      put-by (a .w .now) (a .b) (a .realms .now) (a .dependencies .now) (a .claims .now) (a .values .now) (a .place % places) (a .rows) (a .next)
+          (entry .entry .ensures) (life .life .ensures) (realms .some-words .ensures) (needed .some-words2 .ensures) (claims .some-words3 .ensures)
+          (values .some-words4 .ensures) (p .load-place .ensures),
+    )
 
 pub put-spec : {M : Type 1} → statement M
 put-spec =
@@ -67,4 +86,8 @@ put-spec =
     some-words-requires-3
     some-words-requires-4
     load-place-requires
+    add-t34
+    add-t29
+    add-t28
+    add-t35
     returns)

@@ -85,8 +85,9 @@ returns-5 c =
     let x = h .read-header .ensures in
     let start = n .start .given .1 in
     let e = c .before .before in
+    let few = e .before .before .before .before .before .before .before .before in
     let g = plugins-all _ (e .before .before .plugins .ensures) (e .end .given .1) in
-    bad _ (too-long t _ x _ start (a .domain) (g .2) (omega (arith, e .before .before .before .before .before .before .before .before .if1 .left)) (omega (arith, c .if3 .taken)))
+    bad _ (too-long t _ x _ start (a .domain) (g .2) (omega (arith, few .if1 .left)) (omega (arith, c .if3 .taken)))
 
 holds-requires : tie.Need-holds-requires
 holds-requires c κs = search needs
@@ -101,8 +102,9 @@ returns-6 c =
     let start = n .start .given .1 in
     let f = c .before .before .before in
     let e = f .before .before in
+    let few = e .before .before .before .before .before .before .before .before in
     let g = plugins-all _ (e .before .before .plugins .ensures) (e .end .given .1) in
-    bad _ (unfit t _ x _ start (a .domain) (g .2) (omega (arith, e .before .before .before .before .before .before .before .before .if1 .left)) (omega (arith, g .2 .reads .fits, f .if3 .left))
+    bad _ (unfit t _ x _ start (a .domain) (g .2) (omega (arith, few .if1 .left)) (omega (arith, g .2 .reads .fits, f .if3 .left))
     (sym (c .before .holds .ensures) ∙ not-true _ (c .if4 .taken)))
 
 returns-7 : tie.Need-returns-7
@@ -115,8 +117,9 @@ returns-7 c =
     let start = n .start .given .1 in
     let f = c .before .before .before in
     let e = f .before .before in
+    let few = e .before .before .before .before .before .before .before .before in
     let g = plugins-all _ (e .before .before .plugins .ensures) (e .end .given .1) in
-    accepted t _ x _ start (a .domain) (g .2) (omega (arith, e .before .before .before .before .before .before .before .before .if1 .left)) (omega (arith, g .2 .reads .fits, f .if3 .left))
+    accepted t _ x _ start (a .domain) (g .2) (omega (arith, few .if1 .left)) (omega (arith, g .2 .reads .fits, f .if3 .left))
     (sym (c .before .holds .ensures) ∙ not-false _ (c .if4 .left))
 
 pub read-spec : {M : Type 1} → statement M
