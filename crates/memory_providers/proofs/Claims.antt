@@ -1,25 +1,21 @@
 -- Claimed ports against a place's, all at once.
-use Prim.Native.Nat.{ℕ, suc, _+_, _*_, _<_, _%_}
-use native.Mathlib.Numerals.{add-one, add-two}
-use native.Mathlib.Omega.{arith}
+use Prim.Native.Nat.{ℕ, _+_, _*_, _<_, _%_}
 use native.Mathlib.Nat.{mod-eq-of-lt}
 use mathlib.Core.Path.{_≡_, refl, sym, ap, _∙_}
 use mathlib.Core.Bool.{Bool, true, false, _&&_, _||_}
-use mathlib.Core.List.{List, _∷_}
+use mathlib.Core.List.{List}
 use lib.ListN.{length}
-use lib.Seq.{drop-cons}
 use Rattle.rules.specs.Basics.{any, isSome}
-use Rattle.rules.specs.Holds.{port, Plugin, held, isIn, provides, provider, samePort}
+use Rattle.rules.specs.Holds.{Plugin, held, isIn, provides, provider, samePort, provided}
 use Rattle.rules.specs.declared.Port.{Port}
 use Rattle.rules.specs.Ports.{pairs}
 use Rattle.rules_laws.specs.Laws.Members.{same-swap}
-use Rattle.memory.specs.Layout.{word, part, startAt, depsAt, provsAt, anchorWord, provPart, memoryWords, places, rowsStart, rowWords}
-use Rattle.memory.specs.View.{anchorAt, pluginAt, placesFrom, view}
+use Rattle.memory.specs.Layout.{part, startAt, depsAt, provsAt, memoryWords, places, rowsStart, rowWords}
+use Rattle.memory.specs.View.{pluginAt, placesFrom, view}
 use Rattle.memory.specs.Lookups.{placed, searchFrom, search-first}
 use Rattle.memory.specs.declared.Place.{Place}
-use Rattle.memory_lists.specs.Listed.{provided-at}
 use Rattle.memory_providers.specs.declared.KeyBits.{KeyBits}
-use Rattle.memory_providers.specs.Providers.{offeredPart, noBits, keyBits, wanted}
+use Rattle.memory_providers.specs.Providers.{offeredPart, offered-claims, noBits, keyBits, wanted}
 use Rattle.memory_providers.proofs.Exchange.{any-same, exchange, is-first}
 use Rattle.memory_providers.proofs.Keys.{wanted-is}
 
@@ -29,13 +25,6 @@ pub offered-words : (m l : List ℕ) (j s d n : ℕ) → s ≡ startAt m j → d
 offered-words m l j s d n e f g h = rw (e, f, g) at h
 
 -- what a place offers is what its plugin provides
-first-row : (m : List ℕ) (a n : ℕ) → a + 1 < length m → pairs (part m a ((n + 1) * 2)) ≡ port (word m a) (word m (a + 1)) ∷ pairs (part m (a + 2) (n * 2))
-first-row m a n h =
-    let e : (n + 1) * 2 ≡ suc (suc (n * 2)) = omega arith in
-    let h₀ : a < length m = omega arith in
-    let h₁ : suc a < length m = omega arith in
-    rw (e, add-one a, add-two a, drop-cons m a 0 h₀, drop-cons m (suc a) 0 h₁)
-
 or-swap : (a b : Bool) → (a || b) ≡ (b || a)
 or-swap true true = refl
 or-swap true false = refl
@@ -43,15 +32,10 @@ or-swap false true = refl
 or-swap false false = refl
 
 module _ (m : List ℕ) (i : ℕ) (size : length m ≡ memoryWords) where
-  rows-are : pairs (offeredPart m i) ≡ anchorAt m i ∷ pairs (provPart m i)
-  rows-are = first-row m (anchorWord m i) (provsAt m i) (omega arith)
-
   offered-is : (q : Port) → isIn q (pairs (offeredPart m i)) ≡ provides (pluginAt m i) q
-  unfolding pluginAt
   offered-is q =
-      ap (isIn q) rows-are
-      ∙ or-swap (samePort q (anchorAt m i)) (isIn q (pairs (provPart m i)))
-      ∙ ap (λ l. isIn q l || samePort q (anchorAt m i)) (sym (provided-at m i))
+      ap (isIn q) (offered-claims m i size)
+      ∙ or-swap (samePort q (pluginAt m i .anchor)) (isIn q (provided (pluginAt m i)))
 
   pub provides-offered : (q : Port) (ws : List ℕ) (b : Bool) → ws ≡ offeredPart m i → b ≡ isIn q (pairs ws) → b ≡ provides (pluginAt m i) q
   provides-offered q ws b e f = f ∙ ap (λ l. isIn q (pairs l)) e ∙ offered-is q

@@ -1,43 +1,15 @@
 -- A port that is claimed has the bit of its key.
-use Prim.Native.Nat.{ℕ, _*_, _/_, _%_, _^_, _<_, max}
-use native.Mathlib.Omega.{arith}
-use native.Mathlib.Nat.{one-mul, mod-eq-of-lt, div-self}
-use mathlib.Core.Path.{_≡_, refl, ap, _∙_}
+use Prim.Native.Nat.{ℕ, _/_}
+use mathlib.Core.Path.{_≡_, refl}
 use mathlib.Core.Bool.{Bool, true, false, _&&_, and-false}
 use mathlib.Core.List.{List, [], _∷_}
-use lib.Bits.{bitOr, or-step, or-shr}
-use lib.Pow.{pow-lt, pow-pos}
 use borrow.Author.Tests.{eqb-true}
 use Rattle.rules.specs.declared.Port.{Port}
 use Rattle.rules.specs.Holds.{samePort, isIn}
 use Rattle.rules_laws.specs.Laws.Tests.{by-test, both}
 use Rattle.memory_providers.specs.declared.KeyBits.{KeyBits}
-use Rattle.memory_providers.specs.Providers.{noBits, withBit, hasBit, withKey, keyBits, wanted}
-
-abbrev bit : ℕ → ℕ → ℕ
-bit w j = w / 2 ^ j % 2
-
-bit-or : (w x j : ℕ) → bit (bitOr w x) j ≡ max (bit w j) (bit x j)
-bit-or w x j =
-    let u : bitOr w x / 2 ^ j ≡ bitOr (w / 2 ^ j) (x / 2 ^ j) = or-shr w x j in
-    let s = or-step (w / 2 ^ j) (x / 2 ^ j) in
-    rw u (omega (arith, s))
-
-own-bit : (n : ℕ) → bit ((1 * 2 ^ (n % 64)) % 2 ^ 64) (n % 64) ≡ 1
-own-bit n =
-    let h : n % 64 < 64 = omega arith in
-    let e : (1 * 2 ^ (n % 64)) % 2 ^ 64 ≡ 2 ^ (n % 64) = ap (λ x. x % 2 ^ 64) (one-mul (2 ^ (n % 64))) ∙ mod-eq-of-lt (pow-lt h) in
-    rw e (one-there (n % 64))
-  where
-    one-there : (j : ℕ) → bit (2 ^ j) j ≡ 1
-    one-there j = ap (λ x. x % 2) (div-self (pow-pos j))
-
--- a bit that is there stays, and a number's own comes
-bit-stays : (w x j : ℕ) → bit w j ≡ 1 → bit (withBit w x) j ≡ 1
-bit-stays w x j e = bit-or w ((1 * 2 ^ (x % 64)) % 2 ^ 64) j ∙ omega arith
-
-bit-comes : (w n : ℕ) → bit (withBit w n) (n % 64) ≡ 1
-bit-comes w n = bit-or w ((1 * 2 ^ (n % 64)) % 2 ^ 64) (n % 64) ∙ omega (arith, own-bit n)
+use Rattle.memory_providers.specs.Bits.{withBit, hasBit, bit-stays, bit-comes}
+use Rattle.memory_providers.specs.Providers.{noBits, withKey, keyBits, wanted}
 
 -- a list of claims, one on
 pub bits-next : (b : KeyBits) {l qs : List Port} {q : Port} {w x : ℕ} → l ≡ q ∷ qs → w ≡ withBit (b .low) (q .key) → x ≡ withBit (b .high) (q .key / 64)
@@ -66,13 +38,13 @@ module _ (b : KeyBits) (qs : List Port) (q : Port) where
 
 -- the bits of a key in both words
 abbrev Has : KeyBits → ℕ → Type 0
-Has b k = (bit (b .low) (k % 64) ≡ 1) × (bit (b .high) (k / 64 % 64) ≡ 1)
+Has b k = (hasBit (b .low) k ≡ true) × (hasBit (b .high) (k / 64) ≡ true)
 
 stays : (b : KeyBits) (qs : List Port) (k : ℕ) → Has b k → Has (keyBits b qs) k
 unfolding keyBits
 stays b [] k e = e
 stays b (q ∷ qs) k e =
-    stays (withKey b (q .key)) qs k (bit-stays (b .low) (q .key) (k % 64) (e .0), bit-stays (b .high) (q .key / 64) (k / 64 % 64) (e .1))
+    stays (withKey b (q .key)) qs k (bit-stays (b .low) (q .key) k (e .0), bit-stays (b .high) (q .key / 64) (k / 64) (e .1))
 
 covers : (b : KeyBits) (qs : List Port) (q : Port) → isIn q qs ≡ true → Has (keyBits b qs) (q .key)
 unfolding keyBits

@@ -1,18 +1,24 @@
 -- A port's provider, looked for place by place.
-use Prim.Native.Nat.{ℕ, _+_, _*_, _/_, _%_, _^_, _<_}
-use mathlib.Core.Path.{_≡_}
+use Prim.Native.Nat.{ℕ, suc, _+_, _*_, _/_, _<_}
+use native.Mathlib.Numerals.{add-one, add-two}
+use native.Mathlib.Omega.{arith}
+use mathlib.Core.Path.{_≡_, sym, ap, _∙_}
 use mathlib.Core.Bool.{Bool, _&&_}
 use mathlib.Core.List.{List, [], _∷_}
-use lib.Dec.{eqb}
-use lib.Bits.{bitOr}
-use Rattle.rules.specs.Holds.{Plugin, isIn, provides, provider}
+use lib.ListN.{length}
+use lib.Seq.{drop-cons}
+use Rattle.rules.specs.Holds.{port, Plugin, isIn, provides, provider}
+use Rattle.rules.specs.Ports.{pairs}
+use Rattle.rules.specs.Conditions.{claims}
 use Rattle.rules.specs.declared.Port.{Port}
-use Rattle.memory.specs.Layout.{part, anchorWord, provsAt, places, rowWords}
-use Rattle.memory.specs.View.{view}
+use Rattle.memory.specs.Layout.{word, part, anchorWord, provsAt, memoryWords, places, rowWords}
+use Rattle.memory.specs.View.{anchorAt, pluginAt, view}
+use Rattle.memory_lists.specs.Listed.{provided-at}
 use Rattle.memory.specs.Lookups.{placed, searchFrom, search-first, search-found}
 use Rattle.memory.specs.declared.Place.{Place}
 use Rattle.memory.specs.declared.Place.the-variants.{At}
 use Rattle.memory_providers.specs.declared.KeyBits.{KeyBits}
+use Rattle.memory_providers.specs.Bits.{withBit, hasBit}
 
 -- the first place whose plugin has the port as provision or anchor
 unfoldable pub providerAt : List ℕ → Port → Place
@@ -30,12 +36,18 @@ provider-below m q i e = search-found (λ (p : Plugin). provides p q) places m 0
 abbrev pub offeredPart : List ℕ → ℕ → List ℕ
 offeredPart m i = part m (anchorWord m i) ((provsAt m i + 1) * rowWords)
 
--- a bit for each number's remainder by 64
-abbrev pub withBit : ℕ → ℕ → ℕ
-withBit w n = bitOr w ((1 * 2 ^ (n % 64)) % 2 ^ 64)
+first-row : (m : List ℕ) (a n : ℕ) → a + 1 < length m → pairs (part m a ((n + 1) * 2)) ≡ port (word m a) (word m (a + 1)) ∷ pairs (part m (a + 2) (n * 2))
+first-row m a n h =
+    let e : (n + 1) * 2 ≡ suc (suc (n * 2)) = omega arith in
+    let h₀ : a < length m = omega arith in
+    let h₁ : suc a < length m = omega arith in
+    rw (e, add-one a, add-two a, drop-cons m a 0 h₀, drop-cons m (suc a) 0 h₁)
 
-abbrev pub hasBit : ℕ → ℕ → Bool
-hasBit w n = eqb (w / 2 ^ (n % 64) % 2) 1
+-- they are its plugin's claims
+pub offered-claims : (m : List ℕ) (i : ℕ) → length m ≡ memoryWords → pairs (offeredPart m i) ≡ claims (pluginAt m i)
+unfolding pluginAt
+offered-claims m i size =
+    first-row m (anchorWord m i) (provsAt m i) (omega arith) ∙ ap (λ l. anchorAt m i ∷ l) (sym (provided-at m i))
 
 -- the bits of the keys and of their quotients by 64; and whether a port's bits are there and the port too
 abbrev pub noBits : KeyBits

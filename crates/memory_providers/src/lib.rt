@@ -7,7 +7,8 @@ ghost use Rattle.rules.specs.Holds.{port, provides, provider};
 ghost use Rattle.rules.specs.Ports.{pairs};
 ghost use Rattle.memory.specs.Layout.{taken, places};
 ghost use Rattle.memory.specs.View.{pluginAt, view};
-ghost use Rattle.memory_providers.specs.Providers.{providerAt, offeredPart, noBits, withBit, hasBit, keyBits, wanted};
+ghost use Rattle.memory_providers.specs.Bits.{withBit, hasBit};
+ghost use Rattle.memory_providers.specs.Providers.{providerAt, offeredPart, noBits, keyBits, wanted};
 ghost use Rattle.memory_providers.specs.Words.{isAmong, wordOf};
 use memory::Place;
 use memory::WORDS;
@@ -66,14 +67,14 @@ pub fn provider(m: &[u64; WORDS], key: u64, realm: u64) -> Place
 }
 
 // The word with the bit of a number's remainder by 64.
-fn with_bit(word: u64, n: u64) -> u64
+pub fn with_bit(word: u64, n: u64) -> u64
     ensures { λ r. ⌜ r ≡ withBit word n ⌝ }
 {
     word | 1 << (n % 64)
 }
 
 // Whether the word has that bit.
-fn has_bit(word: u64, n: u64) -> bool
+pub fn has_bit(word: u64, n: u64) -> bool
     ensures { λ r. ⌜ r ≡ hasBit word n ⌝ }
 {
     (word >> (n % 64)) % 2 == 1

@@ -1,6 +1,5 @@
 -- A place's rows are its plugin's claims, and row by row from the last to the first they go in front of those behind.
 use Prim.Native.Nat.{ℕ, _+_, _-_, _*_, _/_, _%_, _<_, _≤_}
-use native.Mathlib.Numerals.{add-one}
 use native.Mathlib.Nat.{mod-eq-of-lt}
 use native.Mathlib.Omega.{arith}
 use mathlib.Core.Path.{_≡_, sym, ap, _∙_, subst}
@@ -11,28 +10,13 @@ use Rattle.rules.specs.declared.Port.{Port}
 use Rattle.rules.specs.Holds.{port, isIn}
 use Rattle.rules.specs.Ports.{pairs}
 use Rattle.rules.specs.Registration.{repeats}
-use Rattle.rules.specs.Conditions.{claims}
-use Rattle.ports.specs.Places.{pairs-at, pairs-end, pairs-take, pairs-drop, part-end}
-use Rattle.memory.specs.Layout.{word, part, taken, anchorWord, provsAt, memoryWords, places}
-use Rattle.memory.specs.View.{anchorAt, pluginAt}
-use Rattle.memory_lists.specs.Listed.{provided-at}
-use Rattle.memory_providers.specs.Providers.{offeredPart}
+use Rattle.ports.specs.Places.{pairs-at, pairs-end, pairs-drop, part-end}
+use Rattle.memory.specs.Layout.{taken, memoryWords, places}
+use Rattle.memory_providers.specs.Providers.{offeredPart, offered-claims}
 use Rattle.registry_claims.specs.Seen.{seen, see}
 use Rattle.registry_claims.specs.Behind.{claimsFrom, Noted, Differs}
 use Rattle.registry_claims.proofs.Behind.{claims-taken, claims-free, repeats-behind}
 use Rattle.registry_claims.proofs.Noted.{noted-next, repeats-now}
-
--- the anchor's row, then those of the provisions
-first-row : (m : List ℕ) (a n : ℕ) → a + 1 < length m → pairs (part m a ((n + 1) * 2)) ≡ port (word m a) (word m (a + 1)) ∷ pairs (part m (a + 2) (n * 2))
-first-row m a n h =
-    pairs-take (n + 1) (drop a m) ∙ ap (take (n + 1)) (pairs-at m a h)
-    ∙ ap (λ k. take k (port (word m a) (word m (a + 1)) ∷ pairs (drop (a + 2) m))) (add-one n)
-    ∙ ap (λ l. port (word m a) (word m (a + 1)) ∷ l) (sym (pairs-take n (drop (a + 2) m)))
-
-rows-are : (m : List ℕ) (i : ℕ) → length m ≡ memoryWords → pairs (offeredPart m i) ≡ claims (pluginAt m i)
-unfolding pluginAt
-rows-are m i size =
-    first-row m (anchorWord m i) (provsAt m i) (omega arith) ∙ ap (λ l. anchorAt m i ∷ l) (sym (provided-at m i))
 
 yes-differs : (m : List ℕ) (i : ℕ) (keys : List ℕ) → Noted keys (claimsFrom m i) → Differs m i keys true
 yes-differs m i keys n = record { differs = λ y. n; repeated = λ f. absurd (true≢false f) }
@@ -44,7 +28,7 @@ module _ (m : List ℕ) (i : ℕ) (h : i < places) (t : taken m i ≡ true) (siz
   whole =
       let n : i % places ≡ i = mod-eq-of-lt h in
       ap (λ l. pairs l ++ claimsFrom m (i + 1)) (e ∙ ap (offeredPart m) n)
-      ∙ ap (λ l. l ++ claimsFrom m (i + 1)) (rows-are m i size) ∙ sym (claims-taken m i h t)
+      ∙ ap (λ l. l ++ claimsFrom m (i + 1)) (offered-claims m i size) ∙ sym (claims-taken m i h t)
 
   pub rows-done : (keys : List ℕ) (row : ℕ) → row ≤ 0 → Noted keys (pairs (drop (row * 2) ws) ++ claimsFrom m (i + 1)) → Differs m i keys true
   rows-done keys row z n = let s : row ≡ 0 = omega arith in yes-differs m i keys (subst (Noted keys) whole (rw s at n))
