@@ -23,4 +23,6 @@ pub mod Questions
 pub mod Steps
 pub mod Examples
 pub mod TextExamples
+pub mod ConditionExamples
+pub mod LoadExamples
 pub mod Reached

@@ -5,5 +5,3 @@ pub mod Meets
 pub mod Joins
 pub mod Twin
 pub mod Loaded
-pub mod Examples
-pub mod TextExamples
