@@ -1,4 +1,6 @@
 -- Each promise of these crates allows one outcome: what a load reads, asks and writes.
+use mathlib.Core.Path.{ap}
+use denote.Ref.{now}
 use Rattle.rules.specs.Answers.{done-exact}
 use Rattle.memory.proofs as memory
 use Rattle.memory_life.proofs as memory_life
@@ -6,6 +8,7 @@ use Rattle.memory_values.proofs as memory_values
 use Rattle.memory_providers.proofs as memory_providers
 use Rattle.memory_load.proofs as memory_load
 use Rattle.ports_given.proofs as ports_given
+use Rattle.registry_claims.proofs as registry_claims
 use Rattle.registry_joins.proofs as registry_joins
 use Rattle.registry_cycles.proofs as registry_cycles
 use Rattle.text_read.proofs as text_read
@@ -13,10 +16,10 @@ use Rattle.text_read_block.proofs as text_read_block
 use Rattle.registry_load.proofs as registry_load
 use Rattle.console_load.proofs as console_load
 use Rattle.text_read.specs.Answers.{number-one, phase-one, mark-one, option-one, pair-one, provision-one, root-one}
-use Rattle.text_read_block.specs.Blocks.{block-one}
+use Rattle.text_read_block.specs.Blocks.{Lent, block-one}
 use Rattle.outcome.specs.Answers.{parent-exact}
 use Rattle.outcome.specs.Records.{ends-one}
-use Rattle.outcome.specs.One.{One}
+use Rattle.outcome.specs.One.{One, OneSeen}
 use Rattle.outcome.specs.Equations.{by-equation, memory-alone, one-outcome, one-with-memory}
 
 pub memory-open-words : One memory.«open_words».ended memory.«open_words».Reads.Learnt
@@ -30,6 +33,15 @@ memory-life-decode κs a r s ms ns p q = by-equation p q
 
 pub memory-values-put-values : One memory_values.«put_values».ended memory_values.«put_values».Reads.Learnt
 memory-values-put-values κs a r s ms ns p q = memory-alone p q
+
+pub memory-providers-offered-words : OneSeen memory_providers.«offered_words».ended (λ κs r. now r) memory_providers.«offered_words».Reads.Learnt
+memory-providers-offered-words κs a r s ms ns p q = by-equation p q
+
+pub memory-providers-with-bit : One memory_providers.«with_bit».ended memory_providers.«with_bit».Reads.Learnt
+memory-providers-with-bit κs a r s ms ns p q = by-equation p q
+
+pub memory-providers-has-bit : One memory_providers.«has_bit».ended memory_providers.«has_bit».Reads.Learnt
+memory-providers-has-bit κs a r s ms ns p q = by-equation p q
 
 pub memory-providers-providers-among : One memory_providers.«providers_among».ended memory_providers.«providers_among».Reads.Learnt
 memory-providers-providers-among κs a r s ms ns p q = by-equation p q
@@ -45,6 +57,9 @@ ports-given-resolved κs a r s ms ns p q = by-equation p q
 
 pub ports-given-given : One ports_given.given.ended ports_given.given.Reads.Learnt
 ports-given-given κs a r s ms ns p q = by-equation p q
+
+pub registry-claims-differ : One registry_claims.differ.ended registry_claims.differ.Reads.Learnt
+registry-claims-differ κs a r s ms ns p q = by-equation p q
 
 pub registry-joins-ports-fit : One registry_joins.«ports_fit».ended registry_joins.«ports_fit».Reads.Learnt
 registry-joins-ports-fit κs a r s ms ns p q = by-equation p q
@@ -77,7 +92,14 @@ pub text-read-root-lines : One text_read.«root_lines».ended text_read.«root_l
 text-read-root-lines κs a r s ms ns p q = root-one p q
 
 pub text-read-block-read-block : One text_read_block.«read_block».ended text_read_block.«read_block».Reads.Learnt
-text-read-block-read-block κs a r s ms ns p q = block-one p q
+text-read-block-read-block κs a r s ms ns p q =
+    let e = block-one p q in (
+      e .0,
+      ap (λ (l : Lent). l .realms) (e .1),
+      ap (λ (l : Lent). l .dependencies) (e .1),
+      ap (λ (l : Lent). l .claims) (e .1),
+      ap (λ (l : Lent). l .values) (e .1),
+    )
 
 pub registry-load-load : One registry_load.load.ended registry_load.load.Reads.Learnt
 registry-load-load κs a r s ms ns p q = one-with-memory done-exact p q
