@@ -93,13 +93,8 @@ text-read-root-lines κs a r s ms ns p q = root-one p q
 
 pub text-read-block-read-block : One text_read_block.«read_block».ended text_read_block.«read_block».Reads.Learnt
 text-read-block-read-block κs a r s ms ns p q =
-    let e = block-one p q in (
-      e .0,
-      ap (λ (l : Lent). l .realms) (e .1),
-      ap (λ (l : Lent). l .dependencies) (e .1),
-      ap (λ (l : Lent). l .claims) (e .1),
-      ap (λ (l : Lent). l .values) (e .1),
-    )
+    let e = block-one p q in
+    (e .0, (ap (λ (l : Lent). l .realms) (e .1), (ap (λ (l : Lent). l .dependencies) (e .1), (ap (λ (l : Lent). l .claims) (e .1), ap (λ (l : Lent). l .values) (e .1)))))
 
 pub registry-load-load : One registry_load.load.ended registry_load.load.Reads.Learnt
 registry-load-load κs a r s ms ns p q = one-with-memory done-exact p q
