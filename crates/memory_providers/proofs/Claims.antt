@@ -37,9 +37,6 @@ module _ (m : List ℕ) (i : ℕ) (size : length m ≡ memoryWords) where
       ap (isIn q) (offered-claims m i size)
       ∙ or-swap (samePort q (pluginAt m i .anchor)) (isIn q (provided (pluginAt m i)))
 
-  pub provides-offered : (q : Port) (ws : List ℕ) (b : Bool) → ws ≡ offeredPart m i → b ≡ isIn q (pairs ws) → b ≡ provides (pluginAt m i) q
-  provides-offered q ws b e f = f ∙ ap (λ l. isIn q (pairs l)) e ∙ offered-is q
-
   -- whichever of the two lists is gone through
   met : (qs : List Port) → any (λ q. wanted (keyBits noBits qs) qs q) (pairs (offeredPart m i)) ≡ any (λ q. provides (pluginAt m i) q) qs
   met qs =

@@ -22,22 +22,19 @@ struct KeyBits {
     high: u64,
 }
 
-// The anchor's words and, right behind it, those of the provisions.
-pub fn offered_words(m: &[u64; WORDS], place: usize) -> &[u64]
-    ensures { λ r. ⌜ now r ≡ offeredPart (now (m .entry)) (place % places) ⌝ }
-{
-    let from = (memory_lists::start(m, place) + memory_lists::dependencies(m, place)) * ROW_WORDS
-        + ROWS_START;
-    let count = (memory_lists::provisions(m, place) + 1) * ROW_WORDS;
-    memory_lists::some_words(m, from, count)
-}
-
 // Whether the plugin of a place has the port as provision or anchor.
 pub fn provides(m: &[u64; WORDS], place: usize, key: u64, realm: u64) -> bool
     ensures { λ r. ⌜ r ≡ provides (pluginAt (now (m .entry)) (place % places)) (port key realm) ⌝ }
 {
-    memory::known(m);
-    ports::has_port(offered_words(m, place), key, realm)
+    if ports::has_port(memory_lists::provision_words(m, place), key, realm) {
+        return true;
+    }
+    let anchor = memory_lists::anchor(m, place);
+    if key == anchor.key {
+        realm == anchor.realm
+    } else {
+        false
+    }
 }
 
 // Whether this place is taken and its plugin provides the port.
@@ -64,6 +61,16 @@ pub fn provider(m: &[u64; WORDS], key: u64, realm: u64) -> Place
         i += 1;
     }
     Place::None
+}
+
+// The anchor's words and, right behind it, those of the provisions.
+pub fn offered_words(m: &[u64; WORDS], place: usize) -> &[u64]
+    ensures { λ r. ⌜ now r ≡ offeredPart (now (m .entry)) (place % places) ⌝ }
+{
+    let from = (memory_lists::start(m, place) + memory_lists::dependencies(m, place)) * ROW_WORDS
+        + ROWS_START;
+    let count = (memory_lists::provisions(m, place) + 1) * ROW_WORDS;
+    memory_lists::some_words(m, from, count)
 }
 
 // The word with the bit of a number's remainder by 64.

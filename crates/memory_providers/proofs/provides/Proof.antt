@@ -1,27 +1,41 @@
--- `provides` meets its contract: the port is one of those that the place offers.
-use Prim.Native.Nat.{_%_}
+-- `provides` meets its contract.
+use Rattle.memory_providers.proofs.Laws.{provides-provision, provides-anchor, provides-not}
 use borrow.Author.Needs.{needs}
-use Rattle.rules.specs.Holds.{port}
-use Rattle.memory.specs.Layout.{places}
-use Rattle.memory_providers.proofs.Claims.{provides-offered}
 use Rattle.memory_providers.proofs.provides.Statement.{statement}
 use Rattle.memory_providers.proofs.provides.Tie as tie
 
-known-requires : tie.Need-known-requires
-known-requires c κs = search needs
-
-offered-words-requires : tie.Need-offered-words-requires
-offered-words-requires c κs = search needs
+provision-words-requires : tie.Need-provision-words-requires
+provision-words-requires c κs = search needs
 
 has-port-requires : tie.Need-has-port-requires
 has-port-requires c κs = search needs
 
 returns : tie.Need-returns
-returns c =
-    let o = c .before in
-    let k = o .before in
-    let a = k .before .args in
-    provides-offered (a .m .now) (a .place % places) (k .known .ensures) (port (a .key) (a .realm)) _ _ (o .offered-words .ensures) (c .has-port .ensures)
+returns c = provides-provision _ _ _ _ _ (c .before .before .provision-words .ensures) (c .before .has-port .ensures) (c .if1 .taken)
+
+anchor-requires : tie.Need-anchor-requires
+anchor-requires c κs = search needs
+
+returns-2 : tie.Need-returns-2
+returns-2 c =
+    let n = c .before .before .before in
+    let e = n .before in
+    provides-anchor _ _ _ _ _ (e .before .before .provision-words .ensures) (e .before .has-port .ensures) _ (n .anchor .ensures) (e .if1 .left)
+    (c .before .if2 .taken)
+
+returns-3 : tie.Need-returns-3
+returns-3 c =
+    let n = c .before .before in
+    let e = n .before in
+    provides-not _ _ _ _ _ (e .before .before .provision-words .ensures) (e .before .has-port .ensures) _ (n .anchor .ensures) (e .if1 .left) (c .if2 .left)
 
 pub provides-spec : {M : Type 1} → statement M
-provides-spec = tie.close (tie.spec known-requires offered-words-requires has-port-requires returns)
+provides-spec =
+    tie.close
+    (tie.spec
+    provision-words-requires
+    has-port-requires
+    returns
+    anchor-requires
+    returns-2
+    returns-3)
