@@ -1,7 +1,5 @@
 -- The words of a registry that a text says: a memory of zeros, its header, and the plugins one behind the other.
-use Prim.Native.Nat.{ℕ, _+_, _%_, _<_}
-use native.Mathlib.Nat.{mod-eq-of-lt}
-use mathlib.Core.Path.{_≡_, _∙_}
+use Prim.Native.Nat.{ℕ, _+_}
 use mathlib.Core.List.{List, [], _∷_}
 use lib.ListN.{length, replicate}
 use Rattle.rules.specs.Basics.{isSome, orElse, yesNo}
@@ -9,7 +7,7 @@ use Rattle.rules.specs.Conditions.{claims}
 use Rattle.rules.specs.Holds.{Plugin, Registry, plugins, rowsOf}
 use Rattle.rules.specs.Ports.{flat}
 use Rattle.memory.specs.Known.{lifeOf}
-use Rattle.memory.specs.Layout.{memoryWords, places}
+use Rattle.memory.specs.Layout.{memoryWords}
 use Rattle.memory.specs.Writes.{putLife, openedWith}
 use Rattle.memory.specs.declared.Life.{Life}
 use Rattle.memory_entry.specs.Entries.{filledPlace}
@@ -50,11 +48,3 @@ zeros = replicate memoryWords 0
 
 unfoldable pub wordsOf : Registry → List ℕ
 wordsOf r = loadedInto (openedWith zeros (r .domain) (r .first) (r .next)) 0 0 (r .next) (plugins r)
-
--- A reader's numbers and lists that are a plugin's: to write them is to write the plugin.
-pub loaded-by : (m : List ℕ) (i start next : ℕ) (p : Plugin) {m′ : List ℕ} {e : Entry} {life : Life} {realms dependencies claimed : List ℕ} {mask : ℕ}
-    {values : List ℕ} → i < places → e ≡ entryFor p start next → life ≡ lifeOf p → realms ≡ flat (p .realms .rows)
-    → dependencies ≡ flat (p .dependencies) → claimed ≡ flat (claims p) → mask ≡ maskOf (p .provisions) → values ≡ valuesOf (p .provisions)
-    → m′ ≡ loadedPlace m (i % places) e life realms dependencies claimed mask values → m′ ≡ loadedPlugin m i start next p
-loaded-by m i start next p h entry life realms dependencies claimed mask values words =
-    words ∙ rw (mod-eq-of-lt h, entry, life, realms, dependencies, claimed, mask, values)
