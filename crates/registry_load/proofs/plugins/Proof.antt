@@ -8,11 +8,11 @@ use Rattle.registry_load.proofs.plugins.Statement.{statement}
 use Rattle.registry_load.proofs.plugins.Tie as tie
 
 abbrev Inv-loop : tie.InvT-loop
-Inv-loop w₀ text at count domain first next realms₀ dependencies₀ claims₀ values₀ behind₀ rows₀ from₀ k₀ w realms dependencies claims values behind rows from k =
+Inv-loop w₀ text at count domain first next realms₀ needs₀ claims₀ values₀ behind₀ rows₀ from₀ k₀ w realms needs claims values behind rows from k =
     PluginsSoFar text at domain first next w behind rows from k × (k ≤ count)
 
 abbrev μ-loop : tie.MeasureT-loop
-μ-loop w₀ text at count domain first next realms₀ dependencies₀ claims₀ values₀ behind₀ rows₀ from₀ k₀ w realms dependencies claims values behind rows from k =
+μ-loop w₀ text at count domain first next realms₀ needs₀ claims₀ values₀ behind₀ rows₀ from₀ k₀ w realms needs claims values behind rows from k =
     count - k
 
 loop-holds : tie.Need-loop-holds Inv-loop μ-loop
