@@ -1,10 +1,11 @@
 -- What the answers that many operations share say, in document 01's numbers; none is no number.
 use Prim.Native.Nat.{ℕ}
 use mathlib.Core.Path.{_≡_, refl, ap}
-use mathlib.Core.List.{[], _∷_}
+use mathlib.Core.List.{List, [], _∷_}
 use mathlib.Core.Option.{Option, none, some}
-use Rattle.rules.specs.Basics.{one}
-use Rattle.rules.specs.Outcomes.{Answer, Refused, Accepted}
+use Rattle.rules.specs.Basics.{pick, one}
+use Rattle.rules.specs.Refusals as refusal
+use Rattle.rules.specs.Outcomes.{Answer, Refused, Accepted, Check}
 use Rattle.rules.specs.declared.Done.{Done}
 use Rattle.rules.specs.declared.Done.the-variants as done
 use Rattle.rules.specs.declared.Whether.{Whether}
@@ -17,6 +18,11 @@ use Rattle.rules.specs.declared.Optional.the-variants as optional
 abbrev pub doneAnswer : Done → Answer
 doneAnswer done.Accepted = Accepted []
 doneAnswer (done.Refused n) = Refused n []
+
+-- what a run of checks comes to: passed, or the number of the first check that refuses
+unfoldable pub verdict : List Check → Done
+verdict [] = done.Accepted
+verdict (c ∷ cs) = pick (c .test) (done.Refused (refusal.number (c .refusal))) (verdict cs)
 
 -- yes is 1, no is 0
 abbrev pub whetherAnswer : Whether → Answer

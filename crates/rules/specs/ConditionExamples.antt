@@ -10,7 +10,7 @@ use Rattle.rules.specs.declared.Phase.{Phase}
 use Rattle.rules.specs.declared.Phase.the-variants.{Idle, Loading, Active, Unloading}
 use Rattle.rules.specs.declared.Root.{Root}
 use Rattle.rules.specs.declared.Root.the-variants.{Unissued, Queued, Spent}
-use Rattle.rules.specs.Holds.{port, Provision, Plugin, changed, defaultRealm, neverBegun, withRevision, withRetired}
+use Rattle.rules.specs.Holds.{port, First, Provision, Plugin, changed, neverBegun, withRevision, withRetired}
 use Rattle.rules.specs.Ports.{resolve}
 use Rattle.rules.specs.Dependencies.{dependencyList}
 use Rattle.rules.specs.Registration.{unoffered}
@@ -32,7 +32,7 @@ registered rows id parent dependencies provisions = record {
   id = id;
   parent = parent;
   anchor = port (1000 + id) 0;
-  realms = record { rows = rows; other = defaultRealm };
+  realms = record { edition = First; rows = rows };
   dependencies = dependencies;
   provisions = map unoffered provisions;
   revision = 0;

@@ -7,7 +7,7 @@ use lib.Dec.{eqb, leb, ltb}
 use lib.ListN.{length, take}
 use Rattle.rules.specs.Basics.{any, all, first, only, every, _⊃_, isSome, isNone, orNone, twice}
 use Rattle.rules.specs.Limits.{maxPlugins, maxRows, maxDependencyKeys, maxProvisionKeys, maxRealmRows, maxDependencies}
-use Rattle.rules.specs.Holds.{Port, Realms, Provision, Plugin, provided, provides, running, sumRows, samePort, isIdle, isActive}
+use Rattle.rules.specs.Holds.{Port, Realms, tableOf, Provision, Plugin, provided, provides, running, sumRows, samePort, isIdle, isActive}
 use Rattle.rules.specs.Holds.{Root, Unissued, Queued, Spent}
 use Rattle.rules.specs.Ports.{rising, resolve, samePorts}
 use Rattle.rules.specs.Dependencies.{dependencyList}
@@ -59,7 +59,7 @@ abbrev pub resolvedIn : Realms → Port → Bool
 resolvedIn z q = samePort (resolve z (q .key)) q
 
 abbrev pub provisionsResolved : Plugin → Bool
-provisionsResolved p = all (resolvedIn (p .realms)) (provided p)
+provisionsResolved p = all (resolvedIn (tableOf (p .realms))) (provided p)
 
 -- "A dependency list is one that document 01's rule gives from the parent's list and some at most 16 different declared keys."
 abbrev pub givenBy : Realms → (provisions : List Port) (anchor : Port) (parents list : List Port) (keys : List ℕ) → Bool
@@ -80,7 +80,7 @@ parentIn ps none = none
 parentIn ps (some x) = among ps x
 
 abbrev pub byRule : List Plugin → Plugin → Bool
-byRule ps p = givenWithin maxDependencyKeys (p .realms) (provided p) (p .anchor) (inheritedFrom (parentIn ps (p .parent))) (p .dependencies)
+byRule ps p = givenWithin maxDependencyKeys (tableOf (p .realms)) (provided p) (p .anchor) (inheritedFrom (parentIn ps (p .parent))) (p .dependencies)
 
 -- "Loading, Active and Unloading need generation 1 or more."
 abbrev pub begunOnce : Plugin → Bool

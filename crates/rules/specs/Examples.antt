@@ -4,9 +4,9 @@ use mathlib.Core.Path.{_≡_, refl}
 use mathlib.Core.Bool.{false}
 use mathlib.Core.List.{List, [], _∷_}
 use mathlib.Core.Option.{Option, none, some}
-use Rattle.rules.specs.Holds.{Port, port, Plugin, Registry, Phase, Idle, Unissued, opened, freePlaces, lookup, count, provider, rowsInUse}
+use Rattle.rules.specs.Holds.{Port, port, First, Plugin, Registry, Phase, Idle, Unissued, opened, freePlaces, lookup, count, provider, rowsInUse}
 use Rattle.rules.specs.Outcomes.{Answer, Refused, Accepted, after, lentAfter, checked, found, handingBack}
-use Rattle.rules.specs.Ports.{badRealms, resolve, resolveKey}
+use Rattle.rules.specs.Ports.{badRealms, resolve, realmList, badEdition, resolveKey}
 use Rattle.rules.specs.Dependencies.{dependencyList, dependencyPort}
 use Rattle.rules.specs.Registration.{dependenciesOf, newPlugin, register}
 use Rattle.rules.specs.Phases.{begin}
@@ -17,9 +17,16 @@ use Rattle.rules.specs.Queries.{RowsInUse}
 use Rattle.rules.specs.Steps.{Op, Register, Begin, Replace, Admit, Call, answerTo, afterStep, lentAfterStep, run, Ask, Write}
 use Rattle.rules.specs.Questions.{ResolveKey, DependencyPort, Fits, Listed, AskRegistry}
 
--- a registration with payload 40
-abbrev pub registers : Option ℕ → Port → List ℕ → List ℕ → List ℕ → Op
-registers parent anchor realms dependencies provisions = Register (record {
+-- a realm list of edition 1, which has no default of its own, and one of edition 2
+abbrev pub inFirst : List ℕ → List ℕ
+inFirst rows = 1 ∷ 0 ∷ rows
+
+abbrev pub inSecond : ℕ → List ℕ → List ℕ
+inSecond default rows = 2 ∷ default ∷ rows
+
+-- a registration with payload 40, of these realms
+abbrev pub registersBy : List ℕ → Option ℕ → Port → List ℕ → List ℕ → Op
+registersBy realms parent anchor dependencies provisions = Register (record {
   parent = parent;
   anchor = anchor;
   realms = realms;
@@ -27,6 +34,10 @@ registers parent anchor realms dependencies provisions = Register (record {
   provisions = provisions;
   payload = 40;
 })
+
+-- with these rows, in edition 1
+abbrev pub registers : Option ℕ → Port → List ℕ → List ℕ → List ℕ → Op
+registers parent anchor rows dependencies provisions = registersBy (inFirst rows) parent anchor dependencies provisions
 
 -- The answers to a sequence of operations, in order.
 abbrev pub answersFrom : Registry → List Op → List Answer
@@ -96,7 +107,7 @@ worn revision generation dependencies phase = record {
   id = 1;
   parent = none;
   anchor = port 100 0;
-  realms = record { rows = []; other = 0 };
+  realms = record { edition = First; rows = [] };
   dependencies = dependencies;
   provisions = [];
   revision = revision;
@@ -131,7 +142,7 @@ invocation id generation revision argument = record {
 }
 
 pub record Examples : Type 0 where
-  pub E1 : answersTo (Ask (ResolveKey E1-realms 2) ∷ Ask (ResolveKey E1-realms 3) ∷ []) ≡ Accepted (2 ∷ 5 ∷ []) ∷ Accepted (3 ∷ 0 ∷ []) ∷ []
+  pub E1 : answersTo (Ask (ResolveKey (inFirst E1-realms) 2) ∷ Ask (ResolveKey (inFirst E1-realms) 3) ∷ []) ≡ Accepted (2 ∷ 5 ∷ []) ∷ Accepted (3 ∷ 0 ∷ []) ∷ []
   pub E2 : listed E2-plugins 2 (0 ∷ 0 ∷ 0 ∷ 0 ∷ 0 ∷ 0 ∷ []) ≡ 9 ∷ 1 ∷ 2 ∷ 0 ∷ 2 ∷ 5 ∷ []
   pub E3 : listed E3-plugins 2 (0 ∷ 0 ∷ []) ≡ 2 ∷ 5 ∷ []
   pub E4 : E4-answers [] ≡ Accepted (0 ∷ []) ∷ Accepted (7 ∷ 2 ∷ 1 ∷ 1 ∷ []) ∷ Accepted (0 ∷ []) ∷ Accepted (7 ∷ 3 ∷ 1 ∷ 1 ∷ []) ∷ []
@@ -158,7 +169,7 @@ pub record Examples : Type 0 where
       ∷ Accepted (7 ∷ 1 ∷ 1 ∷ 0 ∷ 40 ∷ 24 ∷ []) ∷ Refused 13 [] ∷ []
 
 pub examples : Examples
-unfolding after lentAfter checked found handingBack lookup count provider rowsInUse badRealms resolve resolveKey dependencyList dependencyPort dependenciesOf newPlugin register begin replace fits admit isLive call listing list
+unfolding after lentAfter checked found handingBack lookup count provider rowsInUse badRealms resolve realmList badEdition resolveKey dependencyList dependencyPort dependenciesOf newPlugin register begin replace fits admit isLive call listing list
 examples = record {
   E1 = refl;
   E2 = refl;

@@ -10,6 +10,8 @@ pub use Rattle.rules.specs.declared.Phase.{Phase}
 pub use Rattle.rules.specs.declared.Phase.the-variants.{Idle, Loading, Active, Unloading}
 pub use Rattle.rules.specs.declared.Root.{Root}
 pub use Rattle.rules.specs.declared.Root.the-variants.{Unissued, Queued, Spent}
+pub use Rattle.rules.specs.declared.Edition.{Edition}
+pub use Rattle.rules.specs.declared.Edition.the-variants.{First, Second}
 use Rattle.rules.specs.Basics.{any, first}
 use Rattle.rules.specs.Limits.{maxPlugins}
 
@@ -59,6 +61,24 @@ pub record Realms : Type 0 where
   pub rows : List Port
   pub other : ℕ
 
+-- Document 02 [5]: a realm list, with its edition and its default realm.
+pub record RealmList : Type 0 where
+  pub edition : Edition
+  pub rows : List Port
+
+abbrev pub editionNumber : Edition → ℕ
+editionNumber First = 1
+editionNumber (Second d) = 2
+
+-- Absent keys get realm 0 in edition 1, and in edition 2 the default realm that comes with the list.
+abbrev pub defaultOf : Edition → ℕ
+defaultOf First = defaultRealm
+defaultOf (Second d) = d
+
+-- Both editions are read as one table.
+abbrev pub tableOf : RealmList → Realms
+tableOf l = record { rows = l .rows; other = defaultOf (l .edition) }
+
 -- A provision, with its value or none.
 pub record Provision : Type 0 where
   pub port : Port
@@ -68,7 +88,7 @@ pub record Plugin : Type 0 where
   pub id : ℕ
   pub parent : Option ℕ
   pub anchor : Port
-  pub realms : Realms
+  pub realms : RealmList
   pub dependencies : List Port
   pub provisions : List Provision
   pub revision : ℕ

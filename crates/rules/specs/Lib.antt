@@ -25,4 +25,5 @@ pub mod Examples
 pub mod TextExamples
 pub mod ConditionExamples
 pub mod LoadExamples
+pub mod EditionExamples
 pub mod Reached

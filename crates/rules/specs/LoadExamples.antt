@@ -5,7 +5,7 @@ use mathlib.Core.Path.{_≡_, refl}
 use mathlib.Core.List.{List, [], _++_}
 use Rattle.rules.specs.Holds.{lookup, count, provider, rowsInUse}
 use Rattle.rules.specs.Outcomes.{Refused, Accepted, after, checked, found}
-use Rattle.rules.specs.Ports.{badRealms, resolve}
+use Rattle.rules.specs.Ports.{badRealms, resolve, realmList, badEdition}
 use Rattle.rules.specs.Dependencies.{dependencyList}
 use Rattle.rules.specs.Registration.{dependenciesOf, newPlugin, register}
 use Rattle.rules.specs.Text.{insert, byId, textOf, readText}
@@ -25,7 +25,7 @@ single domain phase root =
     ++ shown phase
     ++ shown "retired=0 generation=1 revision=0 payload=40"
     ++ shown root
-    ++ shown "anchor=9,0 realms=0 deps=0 provs=0"
+    ++ shown "anchor=9,0 edition=1 default=0 realms=0 deps=0 provs=0"
 
 -- the text after a load under domain 8
 abbrev rewritten : List ℕ → List ℕ
@@ -37,7 +37,7 @@ pub record Loads : Type 0 where
   pub example-rewritten
       : rewritten (shown exampleText)
       ≡ shown "domain=8 first=0 next=1 plugins=1 id=0 parent=none phase=0 retired=0 generation=0 revision=0 payload=40"
-      ++ shown "root=0 queued=none anchor=9,0 realms=1 realm=2,5 deps=0 provs=1 prov=2,5,none"
+      ++ shown "root=0 queued=none anchor=9,0 edition=1 default=0 realms=1 realm=2,5 deps=0 provs=1 prov=2,5,none"
   pub own-domain : loadAnswer (load 7 (shown exampleText)) ≡ Refused 25 []
   pub own-domain-stays : afterLoad example (load 7 (shown exampleText)) ≡ example
   -- a Queued root is Unissued afterwards, any other as it was
@@ -50,7 +50,7 @@ pub record Loads : Type 0 where
   pub unfit-first : loadAnswer (load 7 (shown "domain=7 first=1 next=0 plugins=0")) ≡ Refused 24 []
 
 pub loads : Loads
-unfolding load loadable givenWithin noneLeftAfter textOf readText insert byId decimalOf digitsIn expect readNumber upTo numberOf valueFrom after checked found lookup count provider rowsInUse badRealms resolve dependencyList dependenciesOf newPlugin register
+unfolding load loadable givenWithin noneLeftAfter textOf readText insert byId decimalOf digitsIn expect readNumber upTo numberOf valueFrom after checked found lookup count provider rowsInUse badRealms resolve realmList badEdition dependencyList dependenciesOf newPlugin register
 loads = record {
   example-opens = refl;
   example-accepted = refl;

@@ -3,14 +3,14 @@ use Prim.Native.Nat.{ℕ}
 use mathlib.Core.Bool.{Bool, true, false, not, _&&_, _||_}
 use mathlib.Core.List.{List, [], _∷_}
 use lib.Dec.{eqb, ltb}
-use lib.ListN.{length}
+use lib.ListN.{length, getD, drop}
 use Rattle.rules.specs.Basics.{pick}
-use Rattle.rules.specs.Holds.{Port, port, Realms, defaultRealm, samePort}
-use Rattle.rules.specs.Refusals.{BadRealms}
-use Rattle.rules.specs.Outcomes.{Outcome, answers, _⇒_, checked}
+use Rattle.rules.specs.Holds.{Port, port, Edition, First, Second, Realms, RealmList, editionNumber, defaultOf, tableOf, samePort}
+use Rattle.rules.specs.Refusals.{BadEdition, BadRealms}
+use Rattle.rules.specs.Outcomes.{Outcome, answers, Check, _⇒_, checked}
 use Rattle.rules.specs.Limits.{maxRealmRows}
 
--- A list of ports comes as key, realm, key, realm; so does a realm list.
+-- A list of ports comes as key, realm, key, realm.
 abbrev pub pairs : List ℕ → List Port
 pairs [] = []
 pairs (k ∷ []) = []
@@ -36,7 +36,7 @@ rising [] = true
 rising (p ∷ []) = true
 rising (p ∷ q ∷ ps) = ltb (p .key) (q .key) && rising (q ∷ ps)
 
--- Row 4: realm list of odd length, over 16 rows, or keys not strictly rising.
+-- Row 4, of the rows of a realm list: odd length, over 16 rows, or keys not strictly rising.
 unfoldable pub badRealms : List ℕ → Bool
 badRealms l = oddLength l || ltb maxRealmRows (length (pairs l)) || not (rising (pairs l))
 
@@ -48,13 +48,37 @@ resolveIn other (row ∷ rows) k = pick (eqb (row .key) k) row (resolveIn other 
 unfoldable pub resolve : Realms → ℕ → Port
 resolve z k = resolveIn (z .other) (z .rows) k
 
--- The table that a lent realm list makes; any other key gets realm 0.
-abbrev pub realmsWith : ℕ → List ℕ → Realms
-realmsWith other l = record { rows = pairs l; other = other }
+-- Document 02 [5]: a realm list comes as edition, default realm, key, realm, key, realm.
+abbrev pub editionIn : List ℕ → ℕ
+editionIn l = getD l 0 0
+
+abbrev pub defaultIn : List ℕ → ℕ
+defaultIn l = getD l 1 0
+
+abbrev pub rowsIn : List ℕ → List ℕ
+rowsIn l = drop 2 l
+
+abbrev pub editionOf : ℕ → ℕ → Edition
+editionOf number default = pick (eqb number 2) (Second default) First
+
+unfoldable pub realmList : List ℕ → RealmList
+realmList l = record { edition = editionOf (editionIn l) (defaultIn l); rows = pairs (rowsIn l) }
+
+-- the numbers of a kept list
+abbrev pub realmNumbers : RealmList → List ℕ
+realmNumbers l = editionNumber (l .edition) ∷ defaultOf (l .edition) ∷ flat (l .rows)
 
 abbrev pub realmsOf : List ℕ → Realms
-realmsOf l = realmsWith defaultRealm l
+realmsOf l = tableOf (realmList l)
 
--- A lookup in a list that breaks row 4 answers 4.
+-- Row 26: another edition than 1 and 2, or a list that does not name one and a default.
+unfoldable pub badEdition : List ℕ → Bool
+badEdition l = ltb (length l) 2 || not (eqb (editionIn l) 1 || eqb (editionIn l) 2)
+
+-- 26 before 4
+abbrev pub realmChecks : List ℕ → List Check
+realmChecks l = (badEdition l ⇒ BadEdition) ∷ (badRealms (rowsIn l) ⇒ BadRealms) ∷ []
+
+-- A key looked up in a lent list.
 unfoldable pub resolveKey : List ℕ → ℕ → Outcome
-resolveKey l k = checked ((badRealms l ⇒ BadRealms) ∷ []) (answers (flat (resolve (realmsOf l) k ∷ [])))
+resolveKey l k = checked (realmChecks l) (answers (flat (resolve (realmsOf l) k ∷ [])))

@@ -5,7 +5,7 @@ use mathlib.Core.Option.{Option, none, some}
 use lib.Dec.{ltb, leb}
 use Rattle.rules.specs.Basics.{pick, yesNo, one}
 use Rattle.rules.specs.Holds.{Plugin, Registry, plugins, count, rowsInUse}
-use Rattle.rules.specs.Holds.{Phase, Idle, Loading, Active, Unloading, Root, Unissued, Queued, Spent}
+use Rattle.rules.specs.Holds.{Phase, Idle, Loading, Active, Unloading, Root, Unissued, Queued, Spent, editionNumber, defaultOf}
 use Rattle.rules.specs.Outcomes.{Outcome, answers, known}
 use Rattle.rules.specs.Ports.{flat}
 
@@ -23,11 +23,12 @@ rootNumbers (Queued v a) = 1 ∷ v ∷ a ∷ []
 rootNumbers Spent = 2 ∷ []
 
 pub data Field : Type 0 where
-  Parent Anchor PhaseOf RetiredMark Generation Revision Payload RootOf : Field
+  Parent Anchor EditionOf PhaseOf RetiredMark Generation Revision Payload RootOf : Field
 
 abbrev pub fieldOf : Field → Plugin → List ℕ
 fieldOf Parent p = one (p .parent)
 fieldOf Anchor p = flat (p .anchor ∷ [])
+fieldOf EditionOf p = editionNumber (p .realms .edition) ∷ defaultOf (p .realms .edition) ∷ []
 fieldOf PhaseOf p = phaseNumber (p .phase) ∷ []
 fieldOf RetiredMark p = yesNo (p .retired) ∷ []
 fieldOf Generation p = p .generation ∷ []

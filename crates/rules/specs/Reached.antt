@@ -14,7 +14,7 @@ use lib.Dec.{eqb}
 use Rattle.rules.specs.Basics.{any, all}
 use Rattle.rules.specs.Holds.{port, Phase, Idle, Loading, Registry, freePlaces, opened, lookup, count, provider, rowsInUse}
 use Rattle.rules.specs.Outcomes.{Answer, Refused, Accepted, after, lentAfter, checked, found, handingBack}
-use Rattle.rules.specs.Ports.{badRealms, resolve, resolveKey}
+use Rattle.rules.specs.Ports.{badRealms, resolve, realmList, badEdition, resolveKey}
 use Rattle.rules.specs.Dependencies.{dependencyList, dependencyPort}
 use Rattle.rules.specs.Registration.{dependenciesOf, newPlugin, register}
 use Rattle.rules.specs.Phases.{begin, ready, fail, unload, finish}
@@ -90,10 +90,10 @@ pub record Reached : Type 0 where
   pub crowd : Holds fresh crowd
   pub fullAndLong : Holds fresh fullAndLong
   pub every-operation : all acceptedSomewhere (keys 13 0 ++ keys questionCount 100 ++ keys 2 200) ≡ true
-  pub every-refusal : all givenSomewhere (keys 23 1) ≡ true
+  pub every-refusal : all givenSomewhere (keys 23 1 ++ 26 ∷ []) ≡ true
 
 pub reached : Reached
-unfolding after lentAfter checked found handingBack lookup count provider rowsInUse badRealms resolve resolveKey dependencyList dependencyPort dependenciesOf newPlugin register begin ready fail unload finish replace fits admit admits isLive call retire retireChild childIdentity remove offer read visible own missing matching declares listing list askPlugin idFrom writeText textOf insert byId decimalOf digitsIn
+unfolding after lentAfter checked found handingBack lookup count provider rowsInUse badRealms resolve realmList badEdition resolveKey dependencyList dependencyPort dependenciesOf newPlugin register begin ready fail unload finish replace fits admit admits isLive call retire retireChild childIdentity remove offer read visible own missing matching declares listing list askPlugin idFrom writeText textOf insert byId decimalOf digitsIn
 reached = record {
   registrations = refl;
   lastId = refl;

@@ -5,7 +5,7 @@ use native.Mathlib.Omega.{arith}
 pub data Refusal : Type 0 where
   Unknown Retired InvalidState BadRealms TooManyKeys DuplicateDependency DuplicateProvision Taken : Refusal
   NoId Full TooLong NoRows Stale Unavailable InUse Exhausted : Refusal
-  NotRun HasChildren Closed Undeclared Duplicate Missing ShortBuffer BadText SameDomain : Refusal
+  NotRun HasChildren Closed Undeclared Duplicate Missing ShortBuffer BadText SameDomain BadEdition : Refusal
 
 abbrev pub number : Refusal → ℕ
 -- id not registered; in child retirement, never issued
@@ -58,9 +58,11 @@ number ShortBuffer = 23
 number BadText = 24
 -- the domain that the text has
 number SameDomain = 25
+-- another edition of the realm rule than 1 and 2
+number BadEdition = 26
 
--- The numbers are from 1 to 25.
-pub number-within : (x : Refusal) → (1 ≤ number x) × (number x ≤ 25)
+-- The numbers are from 1 to 26.
+pub number-within : (x : Refusal) → (1 ≤ number x) × (number x ≤ 26)
 number-within Unknown = (omega arith, omega arith)
 number-within Retired = (omega arith, omega arith)
 number-within InvalidState = (omega arith, omega arith)
@@ -86,3 +88,4 @@ number-within Missing = (omega arith, omega arith)
 number-within ShortBuffer = (omega arith, omega arith)
 number-within BadText = (omega arith, omega arith)
 number-within SameDomain = (omega arith, omega arith)
+number-within BadEdition = (omega arith, omega arith)

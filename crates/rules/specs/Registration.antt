@@ -8,14 +8,14 @@ use lib.ListN.{length}
 use Rattle.rules.specs.Basics.{any, isSome, isNone, holds, last}
 use Rattle.rules.specs.Holds.{Port, Provision, Plugin, Registry, lookup, provider, count, rowsInUse, rowsOf, isIn, neverBegun}
 use Rattle.rules.specs.Holds.{Idle, isUnloading, Unissued}
-use Rattle.rules.specs.Refusals.{Unknown, Retired, InvalidState, BadRealms, TooManyKeys, DuplicateDependency, DuplicateProvision, Taken}
+use Rattle.rules.specs.Refusals.{Unknown, Retired, InvalidState, TooManyKeys, DuplicateDependency, DuplicateProvision, Taken}
 use Rattle.rules.specs.Refusals.{NoId, Full, TooLong, NoRows}
 use Rattle.rules.specs.Outcomes.{Outcome, adds, Check, _⇒_, checked}
-use Rattle.rules.specs.Ports.{badRealms, realmsOf, resolve}
+use Rattle.rules.specs.Ports.{realmChecks, realmList, realmsOf, resolve}
 use Rattle.rules.specs.Dependencies.{dependencyList}
 use Rattle.rules.specs.Limits.{maxPlugins, maxRows, maxDependencyKeys, maxProvisionKeys, maxDependencies}
 
--- What a registration is given.
+-- What a registration is given. The realm list comes with its edition and default.
 pub record Definition : Type 0 where
   pub parent : Option ℕ
   pub anchor : Port
@@ -61,7 +61,7 @@ newPlugin r d = record {
   id = r .next;
   parent = d .parent;
   anchor = d .anchor;
-  realms = realmsOf (d .realms);
+  realms = realmList (d .realms);
   dependencies = dependenciesOf r d;
   provisions = map unoffered (resolved d (d .provisions));
   revision = 0;
@@ -81,14 +81,17 @@ parentChecks r id =
     ∷ (holds (λ (p : Plugin). isUnloading (p .phase)) parent ⇒ InvalidState)
     ∷ []
 
--- what is asked for: 4, 5, the parent's, 6
-abbrev pub askedChecks : Registry → Definition → List Check
-askedChecks r d =
-    (badRealms (d .realms) ⇒ BadRealms)
-    ∷ (ltb maxDependencyKeys (length (d .dependencies)) || ltb maxProvisionKeys (length (d .provisions)) ⇒ TooManyKeys)
+-- the declared keys, and the parent: 5, the parent's, 6
+abbrev pub keyChecks : Registry → Definition → List Check
+keyChecks r d =
+    (ltb maxDependencyKeys (length (d .dependencies)) || ltb maxProvisionKeys (length (d .provisions)) ⇒ TooManyKeys)
     ∷ parentChecks r (d .parent)
     ++ (repeats (resolved d (d .dependencies)) ⇒ DuplicateDependency)
     ∷ []
+
+-- what is asked for: 26, 4, then those
+abbrev pub askedChecks : Registry → Definition → List Check
+askedChecks r d = realmChecks (d .realms) ++ keyChecks r d
 
 -- the claimed ports: 7, 8
 abbrev pub claimChecks : Registry → List Port → List Check
@@ -106,7 +109,7 @@ roomChecks r dependencies rows =
     ∷ (ltb maxRows rows ⇒ NoRows)
     ∷ []
 
--- 4, 5, parent 1, parent 2, parent Unloading 3, then 6, 7, 8, 9, 10, 11, 12
+-- 26, 4, 5, parent 1, parent 2, parent Unloading 3, then 6, 7, 8, 9, 10, 11, 12
 abbrev pub registrationChecks : Registry → Definition → List Check
 registrationChecks r d =
     askedChecks r d

@@ -8,7 +8,7 @@ use lib.Dec.{eqb}
 use Rattle.rules.specs.Basics.{pick}
 use Rattle.rules.specs.Holds.{port, Registry, opened, lookup, count, provider, rowsInUse}
 use Rattle.rules.specs.Outcomes.{after, checked, found}
-use Rattle.rules.specs.Ports.{badRealms, resolve}
+use Rattle.rules.specs.Ports.{badRealms, resolve, realmList, badEdition}
 use Rattle.rules.specs.Dependencies.{dependencyList}
 use Rattle.rules.specs.Registration.{dependenciesOf, newPlugin, register}
 use Rattle.rules.specs.Phases.{begin, ready}
@@ -66,10 +66,10 @@ lastId = built (2 ^ 64 - 2) (registers none (port 0 (2 ^ 64 - 1)) [] [] [] ∷ [
 
 abbrev pub exampleText : String
 exampleText =
-    "domain=7 first=0 next=1 plugins=1 id=0 parent=none phase=0 retired=0 generation=0 revision=0 payload=40 root=0 queued=none anchor=9,0 realms=1 realm=2,5 deps=0 provs=1 prov=2,5,none"
+    "domain=7 first=0 next=1 plugins=1 id=0 parent=none phase=0 retired=0 generation=0 revision=0 payload=40 root=0 queued=none anchor=9,0 edition=1 default=0 realms=1 realm=2,5 deps=0 provs=1 prov=2,5,none"
 
 abbrev pub lastIdText : String
-lastIdText = "domain=7 first=18446744073709551614 next=18446744073709551615 plugins=1 id=18446744073709551614 parent=none phase=0 retired=0 generation=0 revision=0 payload=40 root=0 queued=none anchor=0,18446744073709551615 realms=0 deps=0 provs=0"
+lastIdText = "domain=7 first=18446744073709551614 next=18446744073709551615 plugins=1 id=18446744073709551614 parent=none phase=0 retired=0 generation=0 revision=0 payload=40 root=0 queued=none anchor=0,18446744073709551615 edition=1 default=0 realms=0 deps=0 provs=0"
 
 pub record Texts : Type 0 where
   pub example-text : textOf example ≡ shown exampleText
@@ -77,13 +77,13 @@ pub record Texts : Type 0 where
   pub empty : textOf (built 0 []) ≡ shown "domain=7 first=0 next=0 plugins=0"
   pub by-rising-id
       : textOf family
-      ≡ shown "domain=7 first=1 next=4 plugins=2 id=2 parent=none phase=0 retired=0 generation=0 revision=0 payload=40 root=0 queued=none anchor=101,0 realms=0 deps=2 dep=2,0 dep=3,0 provs=0 id=3 parent=2 phase=0 retired=0 generation=0 revision=0 payload=40 root=0 queued=none anchor=102,0 realms=2 realm=2,5 realm=9,1 deps=3 dep=9,1 dep=2,0 dep=2,5 provs=1 prov=3,0,none"
+      ≡ shown "domain=7 first=1 next=4 plugins=2 id=2 parent=none phase=0 retired=0 generation=0 revision=0 payload=40 root=0 queued=none anchor=101,0 edition=1 default=0 realms=0 deps=2 dep=2,0 dep=3,0 provs=0 id=3 parent=2 phase=0 retired=0 generation=0 revision=0 payload=40 root=0 queued=none anchor=102,0 edition=1 default=0 realms=2 realm=2,5 realm=9,1 deps=3 dep=9,1 dep=2,0 dep=2,5 provs=1 prov=3,0,none"
   pub queued-root
       : textOf queued
-      ≡ shown "domain=7 first=1 next=2 plugins=1 id=1 parent=none phase=1 retired=0 generation=1 revision=0 payload=40 root=1 queued=0,24 anchor=9,0 realms=1 realm=2,5 deps=0 provs=1 prov=2,5,none"
+      ≡ shown "domain=7 first=1 next=2 plugins=1 id=1 parent=none phase=1 retired=0 generation=1 revision=0 payload=40 root=1 queued=0,24 anchor=9,0 edition=1 default=0 realms=1 realm=2,5 deps=0 provs=1 prov=2,5,none"
   pub value
       : textOf served
-      ≡ shown "domain=7 first=1 next=2 plugins=1 id=1 parent=none phase=2 retired=1 generation=1 revision=0 payload=40 root=2 queued=none anchor=9,0 realms=1 realm=2,5 deps=0 provs=1 prov=2,5,77"
+      ≡ shown "domain=7 first=1 next=2 plugins=1 id=1 parent=none phase=2 retired=1 generation=1 revision=0 payload=40 root=2 queued=none anchor=9,0 edition=1 default=0 realms=1 realm=2,5 deps=0 provs=1 prov=2,5,77"
   pub last-id : textOf lastId ≡ shown lastIdText
   -- no texts: a leading zero, 2^64, a count too high or too low, a line that does not end or is not there
   pub leading-zero : readText (shown "domain=07 first=0 next=0 plugins=0") ≡ none
@@ -94,7 +94,7 @@ pub record Texts : Type 0 where
   pub nothing : readText [] ≡ none
 
 pub texts : Texts
-unfolding textOf readText insert byId decimalOf digitsIn expect readNumber upTo numberOf valueFrom after checked found lookup count provider rowsInUse badRealms resolve dependencyList dependenciesOf newPlugin register begin ready admit isLive call retire remove offer
+unfolding textOf readText insert byId decimalOf digitsIn expect readNumber upTo numberOf valueFrom after checked found lookup count provider rowsInUse badRealms resolve realmList badEdition dependencyList dependenciesOf newPlugin register begin ready admit isLive call retire remove offer
 texts = record {
   example-text = refl;
   example-back = refl;

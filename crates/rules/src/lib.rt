@@ -1,6 +1,6 @@
 // The types of document 01 that the rules and the code share.
 ghost use mathlib.Core.Path.{_≡_};
-ghost use Rattle.rules.specs.Holds.{port, defaultRealm};
+ghost use Rattle.rules.specs.Holds.{port, defaultRealm, editionNumber, defaultOf};
 ghost use Rattle.rules.specs.Queries.{phaseNumber};
 ghost use Rattle.rules.specs.Generations.{generationOf, nextGeneration};
 
@@ -28,6 +28,43 @@ impl Port {
         ensures { λ r. ⌜ r ≡ port key defaultRealm ⌝ }
     {
         Port::new(key, Port::DEFAULT_REALM)
+    }
+}
+
+// Document 02 [5]: in edition 1 absent keys get realm 0, in edition 2 a default realm that comes with the list.
+pub enum Edition {
+    First,
+    Second(u64),
+}
+
+impl Edition {
+    pub fn number(self) -> u64
+        ensures { λ r. ⌜ r ≡ editionNumber self ⌝ }
+    {
+        match self {
+            Edition::First => 1,
+            Edition::Second(_) => 2,
+        }
+    }
+
+    // The realm of absent keys.
+    pub fn default(self) -> u64
+        ensures { λ r. ⌜ r ≡ defaultOf self ⌝ }
+    {
+        match self {
+            Edition::First => Port::DEFAULT_REALM,
+            Edition::Second(realm) => realm,
+        }
+    }
+
+    // The port of an absent key.
+    pub fn absent(self, key: u64) -> Port
+        ensures { λ r. ⌜ r ≡ port key (defaultOf self) ⌝ }
+    {
+        match self {
+            Edition::First => Port::in_default_realm(key),
+            Edition::Second(realm) => Port::new(key, realm),
+        }
     }
 }
 

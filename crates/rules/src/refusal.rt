@@ -48,3 +48,5 @@ pub const SHORT_BUFFER: u64 = 23;
 pub const BAD_TEXT: u64 = 24;
 
 pub const SAME_DOMAIN: u64 = 25;
+
+pub const BAD_EDITION: u64 = 26;

@@ -3,17 +3,17 @@ use Prim.Native.Nat.{_^_, _-_}
 use mathlib.Core.List.{List, [], _∷_}
 use mathlib.Core.Option.{none, some}
 use Rattle.rules.specs.Holds.{port}
-use Rattle.rules.specs.Refusals.{number, Unknown, Retired, InvalidState, BadRealms}
+use Rattle.rules.specs.Refusals.{number, Unknown, Retired, InvalidState, BadRealms, BadEdition}
 use Rattle.rules.specs.Refusals.{Stale, Unavailable, InUse, Exhausted}
 use Rattle.rules.specs.Refusals.{NotRun, HasChildren, Closed, Undeclared, Duplicate, Missing, ShortBuffer}
 use Rattle.rules.specs.Outcomes.{Refused}
 use Rattle.rules.specs.Lists.{Dependencies, Provisions, RealmRows}
-use Rattle.rules.specs.Queries.{Parent, Anchor, PhaseOf, RetiredMark, Generation, Revision, Payload, RootOf}
+use Rattle.rules.specs.Queries.{Parent, Anchor, EditionOf, PhaseOf, RetiredMark, Generation, Revision, Payload, RootOf}
 use Rattle.rules.specs.Queries.{Domain, FirstId}
 use Rattle.rules.specs.Steps.{Begin, Ready, Fail, Unload, Finish, Replace, Admit, Call, Ask, Retire, RetireChild, Remove, Offer, Write}
 use Rattle.rules.specs.Questions.{ResolveKey, DependencyPort, Fits, Admits, ChildIdentity, Read, Visible, Own, FirstMissing, Matching, Declares, Listed}
 use Rattle.rules.specs.Questions.{AskPlugin, AskRegistry, IdFrom, Text}
-use Rattle.rules.specs.Examples.{registers, plain, ticket, invocation}
+use Rattle.rules.specs.Examples.{inFirst, registers, plain, ticket, invocation}
 use Rattle.rules.specs.Reached.Transcripts.{Line, _↝_, ok, refused, child, keys}
 
 -- A life: a provider (1) of (5,0) and (6,0), and a reader (2) that depends on (5,0) and on its anchor (100,0).
@@ -21,8 +21,10 @@ abbrev pub life : List Line
 life =
     registers none (port 100 0) (6 ∷ 3 ∷ []) [] (5 ∷ 6 ∷ []) ↝ ok (1 ∷ [])
     ∷ registers none (port 101 0) [] (5 ∷ 100 ∷ []) [] ↝ ok (2 ∷ [])
-    ∷ Ask (ResolveKey (2 ∷ []) 6) ↝ refused BadRealms
-    ∷ Ask (ResolveKey (6 ∷ 3 ∷ []) 6) ↝ ok (6 ∷ 3 ∷ [])
+    ∷ Ask (ResolveKey (3 ∷ 0 ∷ 2 ∷ []) 6) ↝ refused BadEdition
+    ∷ Ask (ResolveKey (2 ∷ []) 6) ↝ refused BadEdition
+    ∷ Ask (ResolveKey (inFirst (2 ∷ [])) 6) ↝ refused BadRealms
+    ∷ Ask (ResolveKey (inFirst (6 ∷ 3 ∷ [])) 6) ↝ ok (6 ∷ 3 ∷ [])
     ∷ Ask (DependencyPort 9 5) ↝ refused Unknown
     ∷ Ask (DependencyPort 2 100) ↝ ok (100 ∷ 0 ∷ [])
     ∷ Ask (DependencyPort 2 6) ↝ ok []
@@ -163,6 +165,7 @@ questions =
     ∷ Ask (AskPlugin Parent 1) ↝ ok []
     ∷ Ask (AskPlugin Parent 2) ↝ ok (1 ∷ [])
     ∷ Ask (AskPlugin Anchor 1) ↝ ok (100 ∷ 4 ∷ [])
+    ∷ Ask (AskPlugin EditionOf 1) ↝ ok (1 ∷ 0 ∷ [])
     ∷ Ask (AskPlugin PhaseOf 1) ↝ ok (0 ∷ [])
     ∷ Ask (AskPlugin RetiredMark 1) ↝ ok (0 ∷ [])
     ∷ Ask (AskPlugin Generation 1) ↝ ok (0 ∷ [])

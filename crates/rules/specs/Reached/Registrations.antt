@@ -3,18 +3,19 @@ use Prim.Native.Nat.{ℕ, zero, suc, _+_, _*_, _^_, _-_}
 use mathlib.Core.List.{List, [], _∷_, _++_}
 use mathlib.Core.Option.{none, some}
 use Rattle.rules.specs.Holds.{port}
-use Rattle.rules.specs.Refusals.{Unknown, Retired, InvalidState, BadRealms, TooManyKeys, DuplicateDependency, DuplicateProvision, Taken}
+use Rattle.rules.specs.Refusals.{Unknown, Retired, InvalidState, BadEdition, BadRealms, TooManyKeys, DuplicateDependency, DuplicateProvision, Taken}
 use Rattle.rules.specs.Refusals.{NoId, Full, TooLong, NoRows}
 use Rattle.rules.specs.Queries.{NextId, Registered, RowsInUse}
 use Rattle.rules.specs.Steps.{Begin, Fail, Retire, RetireChild, Ask}
 use Rattle.rules.specs.Questions.{AskRegistry}
-use Rattle.rules.specs.Examples.{registers, plain}
+use Rattle.rules.specs.Examples.{registersBy, registers, plain}
 use Rattle.rules.specs.Reached.Transcripts.{Line, _↝_, ok, refused, keys, realmRows, child}
 
 -- Registration, as far as its checks go without a crowd.
 abbrev pub registrations : List Line
 registrations =
-    registers none (port 100 0) (2 ∷ []) (keys 17 1) [] ↝ refused BadRealms
+    registersBy (3 ∷ 0 ∷ 2 ∷ []) none (port 100 0) [] [] ↝ refused BadEdition
+    ∷ registers none (port 100 0) (2 ∷ []) (keys 17 1) [] ↝ refused BadRealms
     ∷ registers none (port 100 0) (realmRows 17 1 5) [] [] ↝ refused BadRealms
     ∷ registers (some 9) (port 100 0) [] (keys 17 1) [] ↝ refused TooManyKeys
     ∷ registers (some 9) (port 100 0) [] [] (keys 16 1) ↝ refused TooManyKeys

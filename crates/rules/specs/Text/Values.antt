@@ -10,7 +10,7 @@ use Rattle.rules.specs.declared.Phase.{Phase}
 use Rattle.rules.specs.declared.Phase.the-variants.{Idle, Loading, Active, Unloading}
 use Rattle.rules.specs.declared.Root.{Root}
 use Rattle.rules.specs.declared.Root.the-variants.{Unissued, Queued, Spent}
-use Rattle.rules.specs.Holds.{port, Provision}
+use Rattle.rules.specs.Holds.{port, Provision, Edition, First, Second}
 use Rattle.rules.specs.Queries.{phaseNumber}
 use Rattle.text_form.specs.Bytes.{bytes}
 use Rattle.text_form.specs.Forms.{found, torn, expect, Form, readAny, behind, literal, _then_, either, oneOf, like}
@@ -98,3 +98,33 @@ root-again Spent = refl
 
 abbrev pub rootAndQueued : Form Root
 rootAndQueued = like (either unissued (either queued spent spent-apart) issued-apart) fromRoot toRoot root-there root-again
+
+-- Two lines: edition (1 or 2) and default (0 in edition 1).
+abbrev pub firstEdition : Form (Unit {0})
+firstEdition = literal (bytes "edition=1\ndefault=0\n")
+
+abbrev pub secondEdition : Form ℕ
+secondEdition = behind (bytes "edition=2\ndefault=") number
+
+pub second-apart : (d : ℕ) (rest : List ℕ) → firstEdition .read (secondEdition .write d ++ rest) ≡ torn
+unfolding expect
+second-apart d rest = refl
+
+abbrev pub fromEdition : Edition → Unit {0} ⊎ ℕ
+fromEdition First = inl tt
+fromEdition (Second d) = inr d
+
+abbrev pub toEdition : Unit {0} ⊎ ℕ → Edition
+toEdition (inl u) = First
+toEdition (inr d) = Second d
+
+pub edition-there : (a : Unit {0} ⊎ ℕ) → fromEdition (toEdition a) ≡ a
+edition-there (inl u) = refl
+edition-there (inr d) = refl
+
+pub edition-again : (b : Edition) → toEdition (fromEdition b) ≡ b
+edition-again First = refl
+edition-again (Second d) = refl
+
+abbrev pub editionAndDefault : Form Edition
+editionAndDefault = like (either firstEdition secondEdition second-apart) fromEdition toEdition edition-there edition-again
