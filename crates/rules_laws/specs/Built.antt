@@ -7,7 +7,7 @@ use mathlib.Core.Option.{some}
 use lib.ListN.{length}
 use Rattle.rules.specs.Basics.{all, any, isNone, isSome, twice, last}
 use Rattle.rules.specs.declared.Port.{Port}
-use Rattle.rules.specs.Holds.{Provision, Plugin, Registry, plugins, provided, provides, running, lookup, rowsInUse, defaultRealm}
+use Rattle.rules.specs.Holds.{Provision, Plugin, Registry, plugins, provided, provides, running, lookup, rowsInUse, tableOf}
 use Rattle.rules.specs.declared.Phase.the-variants.{Idle, Active}
 use Rattle.rules.specs.declared.Root.the-variants.{Unissued, Queued, Spent}
 use Rattle.rules.specs.Holds.{isIdle}
@@ -18,15 +18,14 @@ use Rattle.rules.specs.Conditions.{needs}
 use Rattle.rules_laws.specs.Laws.Members.{In}
 use Rattle.rules.specs.Limits.{maxPlugins, maxRows, maxDependencyKeys, maxProvisionKeys, maxDependencies, maxRealmRows}
 
--- What registration fixes of a plugin: the limits on its lists, realm keys that rise strictly, realm 0 for any other key, and ports
--- that are different and have the realm that their key resolves to.
+-- What registration fixes of a plugin: the limits on its lists, realm keys that rise strictly, and ports that are different and have
+-- the realm that their key resolves to by the plugin's own list.
 pub record Shaped (p : Plugin) : Type 0 where
   pub realm-rows : length (p .realms .rows) ≤ maxRealmRows
   pub rise : rising (p .realms .rows) ≡ true
-  pub default : p .realms .other ≡ defaultRealm
   pub provisions : length (p .provisions) ≤ maxProvisionKeys
   pub dependencies : length (p .dependencies) ≤ maxDependencies
-  pub resolved : (q : Port) → In q (provided p) → resolve (p .realms) (q .key) ≡ q
+  pub resolved : (q : Port) → In q (provided p) → resolve (tableOf (p .realms)) (q .key) ≡ q
   pub apart : repeats (p .anchor ∷ provided p) ≡ false
 
 -- Its dependency list is one that the rule gives from the parent's list and some at most 16 different declared keys.
@@ -34,7 +33,7 @@ pub record Ruled (parents : List Port) (p : Plugin) : Type 0 where
   pub keys : List ℕ
   pub few : length keys ≤ maxDependencyKeys
   pub differ : twice keys ≡ false
-  pub gives : dependencyList (p .realms) (provided p) (p .anchor) keys parents ≡ p .dependencies
+  pub gives : dependencyList (tableOf (p .realms)) (provided p) (p .anchor) keys parents ≡ p .dependencies
 
 -- What later operations change of it.
 pub record Lively (p : Plugin) : Type 0 where

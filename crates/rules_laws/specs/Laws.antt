@@ -1,5 +1,6 @@
 pub mod Tests
 pub mod Quiet
+pub mod Verdicts
 pub mod Lookups
 pub mod Lowest
 pub mod Placed

@@ -13,7 +13,7 @@ use Rattle.rules.specs.Basics.{first, twice, sum, last}
 use Rattle.rules.specs.declared.Port.{Port}
 use Rattle.rules.specs.Holds.{Plugin, Registry, plugins, lookup, count, provider, opened, rowsOf, sumRows, rowsInUse}
 use Rattle.rules.specs.Outcomes.{Answer, Refused, Accepted, Outcome, tells, refusing, accepting, writes, stores, adds, removes, checked, found, answerOf, after}
-use Rattle.rules.specs.Ports.{badRealms, resolve}
+use Rattle.rules.specs.Ports.{badRealms, resolve, realmList, badEdition}
 use Rattle.rules.specs.Dependencies.{dependencyList}
 use Rattle.rules.specs.Registration.{Definition, parentOf, inheritedFrom, resolved, unoffered, dependenciesUnder, dependenciesOf, newPlugin, register}
 use Rattle.rules.specs.Retirement.{retire, remove}
@@ -81,7 +81,7 @@ rowsAfter ops = sum entryRows (ledger fresh (run fresh ops .events))
 
 -- E2's parent and child have 3 and 5 rows; without the child, 3 are left.
 pub ledger-example : (rowsAfter E2-plugins ≡ 8) × (rowsAfter (E2-plugins ++ Retire 2 ∷ Remove 2 ∷ []) ≡ 3)
-unfolding after checked found lookup count provider rowsInUse badRealms resolve dependencyList dependenciesOf newPlugin register retire remove
+unfolding after checked found lookup count provider rowsInUse badRealms resolve realmList badEdition dependencyList dependenciesOf newPlugin register retire remove
 ledger-example = (refl, refl)
 
 -- The ledger is the registry's: the same entries by id, each once, with the same rows in all.

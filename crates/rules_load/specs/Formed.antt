@@ -1,11 +1,11 @@
--- What the form of a text gives that runs rely on and the conditions do not say: numbers that fit, and realm 0 for any other key.
+-- What the form of a text gives that runs rely on and the conditions do not say: numbers that fit.
 use Prim.Native.Nat.{ℕ, _≤_}
-use mathlib.Core.Path.{_≡_, sym, ap, subst}
+use mathlib.Core.Path.{_≡_, subst}
 use mathlib.Core.List.{List, _∷_}
 use mathlib.Core.Option.{some}
 use mathlib.Core.Logic.{inl, inr}
 use Rattle.rules.specs.Basics.{last}
-use Rattle.rules.specs.Holds.{Realms, Plugin, defaultRealm}
+use Rattle.rules.specs.Holds.{Plugin}
 use Rattle.rules.specs.Text.{Said, block, text, readText, written-read}
 use Rattle.text_form.specs.Forms.{Form, FitAll}
 use Rattle.rules_laws.specs.Laws.Members.{In}
@@ -14,7 +14,6 @@ pub record Formed (s : Said) : Type 0 where
   pub next : s .next ≤ last
   pub revision : (a : Plugin) → In a (s .plugins) → a .revision ≤ last
   pub generation : (a : Plugin) → In a (s .plugins) → a .generation ≤ last
-  pub default : (a : Plugin) → In a (s .plugins) → a .realms .other ≡ defaultRealm
 
 each-fits : {A : Type 0} (f : Form A) (l : List A) → FitAll f l → (a : A) → In a l → f .Fits a
 each-fits f (b ∷ l) h a (inl i) = subst (f .Fits) i (h .0)
@@ -25,7 +24,6 @@ fits-formed s h = record {
   next = h .0 .1 .1;
   generation = λ a m. fits a m .1 .1 .1 .1 .0;
   revision = λ a m. fits a m .1 .1 .1 .1 .1 .0;
-  default = λ a m. ap (λ (z : Realms). z .other) (sym (fits a m .1 .1 .1 .1 .1 .1 .1 .1 .1 .0 .1));
 }
   where
     fits : (a : Plugin) → In a (s .plugins) → block .Fits a

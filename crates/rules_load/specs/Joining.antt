@@ -8,7 +8,7 @@ use lib.ListN.{length}
 use Rattle.rules.specs.Basics.{all, isSome, orNone}
 use Rattle.rules.specs.declared.Port.{Port}
 use Rattle.rules.specs.Limits.{maxPlugins, maxRows, maxDependencyKeys}
-use Rattle.rules.specs.Holds.{Realms, Plugin, Registry, provided, lookup, rowsOf, sumRows}
+use Rattle.rules.specs.Holds.{Realms, tableOf, Plugin, Registry, provided, lookup, rowsOf, sumRows}
 use Rattle.rules.specs.Ports.{rising}
 use Rattle.rules.specs.Registration.{parentOf, inheritedFrom}
 use Rattle.rules.specs.Load.{inPlaces}
@@ -25,7 +25,7 @@ portsFit r parent z anchor provisions dependencies =
     && givenWithin maxDependencyKeys z provisions anchor (inheritedFrom (parentOf r parent)) dependencies
 
 abbrev pub portsJoin : Registry → Plugin → Bool
-portsJoin r p = portsFit r (p .parent) (p .realms) (p .anchor) (provided p) (p .dependencies)
+portsJoin r p = portsFit r (p .parent) (tableOf (p .realms)) (p .anchor) (provided p) (p .dependencies)
 
 -- What is asked of its life alone.
 abbrev pub lifeFits : Plugin → Bool

@@ -99,7 +99,6 @@ module _ (r : Registry) (ps : List Plugin) (l : Lists r ps) where
       next = b .next;
       revision = λ a m. member a m .lively .revision;
       generation = λ a m. member a m .lively .generation;
-      default = λ a m. member a m .shaped .default;
     }
 
   module _ (room : length (r .places) ≡ maxPlugins) (once : twice (idsOf (plugins r)) ≡ false) (f : Formed (saying r ps)) (c : Meets (saying r ps)) where
@@ -121,7 +120,7 @@ module _ (r : Registry) (ps : List Plugin) (l : Lists r ps) where
           older = λ x e. ltb-true x (a .id) (parent-told a m x e .0);
           parent = λ x e. rw (l .finds x) at (parent-told a m x e .1);
           shaped = tests-shaped a (told listsShort (c .short) a m) (told realmsRise (c .realms) a m) (told provisionsResolved (c .resolved) a m)
-              (f .default a (l .there a m)) (own-apart ps apart a (l .there a m));
+              (own-apart ps apart a (l .there a m));
           lively = tests-lively a (told begunOnce (c .begun) a m) (told idleClean (c .idle) a m) (told activeWhole (c .active) a m)
               (told queuedWithin (c .queued) a m) (f .revision a (l .there a m)) (f .generation a (l .there a m));
         }

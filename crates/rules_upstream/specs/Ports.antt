@@ -40,7 +40,7 @@ pub resolve-found : (z : Realms) (row : Port) → rising (z .rows) ≡ true → 
 unfolding resolve
 resolve-found z row e m = found-in (z .other) (z .rows) row e m
 
--- .. and a key without a row gets the other realm, which is 0 in every table that a realm list makes.
+-- .. and a key without a row gets the other realm, which is the default of the list's edition.
 pub resolve-other : (z : Realms) (k : ℕ) → any (λ (x : Port). eqb (x .key) k) (z .rows) ≡ false → resolve z k ≡ port k (z .other)
 unfolding resolve
 resolve-other z k e = other-in (z .other) (z .rows) k e

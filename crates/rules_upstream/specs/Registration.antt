@@ -8,12 +8,12 @@ use mathlib.Core.List.{[], _∷_, map-map, map-id}
 use mathlib.Core.Option.{Option, none, some}
 use mathlib.Core.Logic.{_⊎_, inl, inr, ⊎-elim, _↔_}
 use lib.Dec.{ltb, leb}
-use lib.ListN.{length}
+use lib.ListN.{length, drop}
 use Rattle.rules.specs.Basics.{any, isSome, isNone, holds, last}
 use Rattle.rules.specs.declared.Port.{Port}
 use Rattle.rules.specs.Holds.{Provision, Plugin, Registry, lookup, provider, provided, provides, isIn, count, rowsInUse, rowsOf, isUnloading}
 use Rattle.rules.specs.Outcomes.{Accepted, Outcome, answerOf, after}
-use Rattle.rules.specs.Ports.{badRealms, pairs}
+use Rattle.rules.specs.Ports.{realmList, badEdition, badRealms, pairs}
 use Rattle.rules.specs.Registration.{Definition, parentOf, resolved, claimed, repeats, unoffered, dependenciesOf, newPlugin, registrationChecks, register}
 use Rattle.rules_laws.specs.Laws.Tests.{by-test}
 use Rattle.rules_laws.specs.Laws.Members.{In, same-port, same-self, is-in}
@@ -34,7 +34,7 @@ pub record Registered (r : Registry) (d : Definition) (u : Outcome) : Type 0 whe
   pub next : after r u .next ≡ r .next + 1
   pub parent : plugin .parent ≡ d .parent
   pub anchor : plugin .anchor ≡ d .anchor
-  pub realms : plugin .realms .rows ≡ pairs (d .realms)
+  pub realms : plugin .realms .rows ≡ pairs (drop 2 (d .realms))
   pub dependencies : plugin .dependencies ≡ dependenciesOf r d
   pub provisions : provided plugin ≡ resolved d (d .provisions)
   pub revision : plugin .revision ≡ 0
@@ -54,9 +54,9 @@ enabled r d =
     && not (any (λ q. isSome (provider r q)) (claimed d))
     && ltb (r .next) last
 
--- What document 01 asks besides: well-formed lists (4, 5), and room (10, 11, 12).
+-- What document 01 asks besides: an edition (26), well-formed lists (4, 5), and room (10, 11, 12).
 abbrev pub wellFormed : Definition → Bool
-wellFormed d = not (badRealms (d .realms)) && not (ltb maxDependencyKeys (length (d .dependencies)) || ltb maxProvisionKeys (length (d .provisions)))
+wellFormed d = not (badEdition (d .realms)) && not (badRealms (drop 2 (d .realms))) && not (ltb maxDependencyKeys (length (d .dependencies)) || ltb maxProvisionKeys (length (d .provisions)))
 
 abbrev pub roomFor : Registry → Definition → Bool
 roomFor r d = not (leb maxPlugins (count r)) && not (ltb maxDependencies (length (dependenciesOf r d)))
@@ -81,7 +81,7 @@ module _ (r : Registry) (d : Definition) where
 
   -- .. it answers next id; the new plugin stands there as R says, and nothing else changes.
   pub register-adds : Built r → When (Registered r d) (register r d)
-  unfolding register newPlugin after count
+  unfolding register newPlugin realmList after count
   register-adds b = when-passed (Registered r d) (registrationChecks r d) _ λ c _.
       let j = new-joins r d c in
       let ports = resolved d (d .provisions) in

@@ -6,7 +6,7 @@ use lib.ListN.{length}
 use Rattle.rules.specs.Holds.{Plugin, Registry, plugins}
 use Rattle.text_form.specs.Forms.{writeAll}
 use Rattle.text_form.specs.Lines.{line, list, number, numberOrNone}
-use Rattle.rules.specs.Text.Values.{keyRealm, keyRealmValue, phase, zeroOrOne, rootAndQueued}
+use Rattle.rules.specs.Text.Values.{keyRealm, keyRealmValue, phase, zeroOrOne, rootAndQueued, editionAndDefault}
 use Rattle.rules.specs.Text.{block, byId, textOf}
 
 -- A plugin's lines, and those of plugins one behind the other.
@@ -29,7 +29,7 @@ pub block-parts
     ++ (line "payload" number .write (p .payload)
     ++ (rootAndQueued .write (p .root)
     ++ (line "anchor" keyRealm .write (p .anchor)
-    ++ (list "realms" "realm" keyRealm .write (p .realms .rows)
+    ++ ((editionAndDefault .write (p .realms .edition) ++ list "realms" "realm" keyRealm .write (p .realms .rows))
     ++ (list "deps" "dep" keyRealm .write (p .dependencies)
     ++ list "provs" "prov" keyRealmValue .write (p .provisions)))))))))))
 unfolding blockOf

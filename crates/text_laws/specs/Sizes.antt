@@ -21,9 +21,9 @@ use Rattle.text_form.specs.Words.{noDigit}
 use Rattle.text_form.specs.Forms.{torn, Form, behind, literal, _then_, either, FitAll, writeAll, counted}
 use Rattle.text_form.specs.Numbers.{numberTo, digits-most-20}
 use Rattle.text_form.specs.Lines.{line, list, number, comma, numberOrNone}
-use Rattle.rules.specs.Text.Values.{keyRealm, keyRealmValue, phase, zeroOrOne, rootAndQueued}
+use Rattle.rules.specs.Text.Values.{keyRealm, keyRealmValue, phase, zeroOrOne, rootAndQueued, editionAndDefault}
 use Rattle.text_form.specs.Lines.{none-apart, fromOption}
-use Rattle.rules.specs.Text.Values.{spent-apart, issued-apart, fromRoot}
+use Rattle.rules.specs.Text.Values.{spent-apart, issued-apart, fromRoot, second-apart, fromEdition}
 use Rattle.rules.specs.Text.{header, realms, linesOf, block, text, byId, said, textOf}
 use Rattle.text_laws.specs.Rising.{by-id-in, by-id-sum}
 
@@ -126,8 +126,21 @@ root-most = record {
       .most (fromRoot t) l;
 }
 
-realms-most : Most realms (λ z. 28 + 48 * length (z .rows))
-realms-most = record { most = λ z l. list-most "realms" "realm" 42 port-most .most (z .rows) (l .0) }
+edition-most : Most editionAndDefault (λ e. 39)
+edition-most = record {
+  most = λ e l.
+      either-most second-apart 39
+      (wider (literal-most (bytes "edition=1\ndefault=0\n")) (λ u. 39) (λ u. omega arith))
+      (wider (behind-most numberMost (bytes "edition=2\ndefault=")) (λ d. 39) (λ d. omega arith))
+      .most (fromEdition e) l;
+}
+
+realms-most : Most realms (λ z. 67 + 48 * length (z .rows))
+realms-most = record {
+  most = λ z l.
+      wider (edition-most and list-most "realms" "realm" 42 port-most) (λ x. 67 + 48 * length (x .1)) (λ x. omega arith)
+      .most (z .edition, z .rows) l;
+}
 
 -- Document 01's limits on the lists of a plugin.
 pub record Lists (p : Plugin) : Type 0 where
@@ -137,7 +150,7 @@ pub record Lists (p : Plugin) : Type 0 where
 
 block-length
     : (p : Plugin) → block .Fits p
-    → length (block .write p) ≤ 347 + 48 * length (p .realms .rows) + 46 * length (p .dependencies) + 68 * length (p .provisions)
+    → length (block .write p) ≤ 386 + 48 * length (p .realms .rows) + 46 * length (p .dependencies) + 68 * length (p .provisions)
 block-length p l =
     let x =
     (line-most "id" numberMost
@@ -156,17 +169,17 @@ block-length p l =
     omega (arith, x)
 
 -- So much for a plugin, and 46 for each of its rows.
-pub block-most : (p : Plugin) → block .Fits p → Lists p → length (block .write p) ≤ 1399 + 46 * rowsOf p
+pub block-most : (p : Plugin) → block .Fits p → Lists p → length (block .write p) ≤ 1438 + 46 * rowsOf p
 block-most p l o = omega (arith, block-length p l, o .realm-rows, o .dependencies, o .provisions)
 
 blocks-most
     : (l : List Plugin) → FitAll block l → ((p : Plugin) → In p l → Lists p)
-    → length (writeAll block l) ≤ sum (λ (p : Plugin). 1399 + 46 * rowsOf p) l
+    → length (writeAll block l) ≤ sum (λ (p : Plugin). 1438 + 46 * rowsOf p) l
 blocks-most [] h o = omega arith
 blocks-most (p ∷ l) h o =
     omega (arith, length-append (block .write p) (writeAll block l), block-most p (h .0) (o p (inl refl)), blocks-most l (h .1) (λ q m. o q (inr m)))
 
-sum-rows : (l : List Plugin) → sum (λ (p : Plugin). 1399 + 46 * rowsOf p) l ≡ 1399 * length l + 46 * sumRows l
+sum-rows : (l : List Plugin) → sum (λ (p : Plugin). 1438 + 46 * rowsOf p) l ≡ 1438 * length l + 46 * sumRows l
 sum-rows [] = omega arith
 sum-rows (p ∷ l) = omega (arith, sum-rows l)
 
@@ -179,7 +192,7 @@ plugins-line n h = line-most "plugins" numberMost .most n h
 -- A registry's text, by its plugins and rows.
 pub text-most
     : (r : Registry) → text .Fits (said r) → ((p : Plugin) → In p (plugins r) → Lists p)
-    → length (textOf r) ≤ 110 + 1399 * count r + 46 * rowsInUse r
+    → length (textOf r) ≤ 110 + 1438 * count r + 46 * rowsInUse r
 unfolding textOf count rowsInUse
 text-most r l o =
     let ps = byId (plugins r) in
@@ -192,7 +205,7 @@ text-most r l o =
       header-most .most (r .domain, (r .first, r .next)) (l .0),
       plugins-line (length ps) (l .1 .0),
       blocks-most ps (l .1 .1) (λ p m. o p (by-id-in p (plugins r) m)),
-      by-id-sum (λ (p : Plugin). 1399 + 46 * rowsOf p) (plugins r),
+      by-id-sum (λ (p : Plugin). 1438 + 46 * rowsOf p) (plugins r),
       sum-rows (plugins r),
     )
 
@@ -210,7 +223,7 @@ rows-most (p ∷ l) o =
 -- Of 32 plugins, each as long as it may be; and of a registry that operations build.
 pub any-text
     : (r : Registry) → text .Fits (said r) → ((p : Plugin) → In p (plugins r) → Lists p) → length (r .places) ≤ 32
-    → length (textOf r) ≤ 139086
+    → length (textOf r) ≤ 140334
 unfolding count rowsInUse
 any-text r l o h = omega (arith, text-most r l o, held-most (r .places), rows-most (plugins r) o)
 
@@ -219,6 +232,6 @@ built-lists r b p m =
     let s = b .members p m .shaped in
     record { realm-rows = s .realm-rows; dependencies = s .dependencies; provisions = s .provisions }
 
-pub built-text : (r : Registry) → text .Fits (said r) → Built r → length (textOf r) ≤ 91982
+pub built-text : (r : Registry) → text .Fits (said r) → Built r → length (textOf r) ≤ 93230
 unfolding count
 built-text r l b = omega (arith, text-most r l (built-lists r b), held-most (r .places), b .room, b .rows)

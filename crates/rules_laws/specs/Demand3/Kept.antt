@@ -128,7 +128,7 @@ module _ (s : Registry) (es : List Event) (r : Registry) (w : Linked s es r) whe
   register-kept : (f : Definition) → Good s es r (Register f) (register r f)
   unfolding register newPlugin
   register-kept f = passes _ _ _ λ c.
-      added-one s es r w _ _ (newPlugin r f) (registered (f .payload)) refl refl (leb-false _ _ (c .1 .1 .1 .1 .1 .1 .1 .1 .1 .0)) λ t. record {
+      added-one s es r w _ _ (newPlugin r f) (registered (f .payload)) refl refl (leb-false _ _ (c .1 .1 .1 .1 .1 .1 .1 .1 .1 .1 .0)) λ t. record {
         once = refl;
         there = refl;
         mark = refl;

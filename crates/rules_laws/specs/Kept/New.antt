@@ -7,12 +7,12 @@ use mathlib.Core.List.{List, [], _∷_, map, map-map, map-id}
 use mathlib.Core.Option.{Option, none, some}
 use mathlib.Core.Logic.{inl, inr}
 use lib.Dec.{eqb, ltb}
-use lib.ListN.{length, length-map}
+use lib.ListN.{length, length-map, drop}
 use borrow.Author.Tests.{eqb-true, eqb-false, ltb-false, leb-false, not-false}
 use Rattle.rules.specs.Basics.{any, isSome, isNone, twice, last}
 use Rattle.rules.specs.declared.Port.{Port}
 use Rattle.rules.specs.Holds.{Realms, Provision, Plugin, Registry, lookup, provider, provided, samePort, isIn}
-use Rattle.rules.specs.Ports.{pairs, oddLength, rising, badRealms, realmsOf, resolve}
+use Rattle.rules.specs.Ports.{pairs, oddLength, rising, badRealms, realmList, realmsOf, resolve}
 use Rattle.rules.specs.Registration.{Definition, parentOf, inheritedFrom, resolved, claimed, unoffered, repeats, dependenciesOf, newPlugin, registrationChecks}
 use Rattle.rules_laws.specs.Laws.Tests.{by-test, neither, Passed}
 use Rattle.rules_laws.specs.Laws.Members.{In, any-false, same-port, same-self, is-in}
@@ -64,16 +64,16 @@ module _ (r : Registry) (d : Definition) where
       let ports = resolved d (d .provisions) in
       map-map (λ (v : Provision). v .port) unoffered ports ∙ map-id ports
 
-  new-shaped : badRealms (d .realms) ≡ false → ltb maxProvisionKeys (length (d .provisions)) ≡ false → repeats (claimed d) ≡ false
+  new-shaped : badRealms (drop 2 (d .realms)) ≡ false → ltb maxProvisionKeys (length (d .provisions)) ≡ false → repeats (claimed d) ≡ false
       → ltb maxDependencies (length (dependenciesOf r d)) ≡ false → Shaped (newPlugin r d)
-  unfolding newPlugin badRealms
+  unfolding newPlugin realmList badRealms
   new-shaped bad many twice long =
-      let rows = pairs (d .realms) in
-      let odd = neither (oddLength (d .realms) || ltb maxRealmRows (length rows)) (not (rising rows)) bad in
+      let numbers = drop 2 (d .realms) in
+      let rows = pairs numbers in
+      let odd = neither (oddLength numbers || ltb maxRealmRows (length rows)) (not (rising rows)) bad in
       record {
-        realm-rows = ltb-false maxRealmRows (length rows) (neither (oddLength (d .realms)) (ltb maxRealmRows (length rows)) (odd .0) .1);
+        realm-rows = ltb-false maxRealmRows (length rows) (neither (oddLength numbers) (ltb maxRealmRows (length rows)) (odd .0) .1);
         rise = not-false (rising rows) (odd .1);
-        default = refl;
         provisions = rw (length-map, length-map) (ltb-false maxProvisionKeys _ many);
         dependencies = ltb-false maxDependencies _ long;
         resolved = λ q m. resolved-in (realmsOf (d .realms)) (d .provisions) q (subst (In q) new-ports m);
@@ -106,7 +106,8 @@ module _ (r : Registry) (d : Definition) where
 
   pub new-joins : Passed (registrationChecks r d) → Join r (newPlugin r d)
   unfolding newPlugin
-  new-joins c =
+  new-joins passed =
+      let c = passed .1 in
       let ports = c .1 .1 .1 .1 .1 .1 in
       let limits = ports .1 .1 in
       let keys = neither (ltb maxDependencyKeys (length (d .dependencies))) (ltb maxProvisionKeys (length (d .provisions))) (c .1 .0) in

@@ -46,7 +46,6 @@ module _ (p q : Plugin) (s : Alike p q) where
   alike-shaped a = record {
     realm-rows = rw (s .realms) (a .realm-rows);
     rise = rw (s .realms) (a .rise);
-    default = rw (s .realms) (a .default);
     provisions = rw as-many (a .provisions);
     dependencies = rw (s .dependencies) (a .dependencies);
     resolved = λ k m. rw (s .realms) (a .resolved k (subst (In k) (s .provisions) m));

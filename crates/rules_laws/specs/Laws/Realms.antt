@@ -1,4 +1,4 @@
--- Realm rows: keys that rise, and what a key resolves to.
+-- Realm lists: their numbers, keys that rise, and what a key resolves to.
 use Prim.Native.Nat.{ℕ, zero, suc, _<_}
 use native.Mathlib.Omega.{arith}
 use mathlib.Core.Path.{_≡_, refl}
@@ -8,9 +8,21 @@ use lib.Dec.{eqb, ltb}
 use lib.ListN.{length, getD, take, drop}
 use borrow.Author.Tests.{eqb-true, ltb-true}
 use Rattle.rules.specs.declared.Port.{Port}
-use Rattle.rules.specs.Holds.{port}
-use Rattle.rules.specs.Ports.{rising, resolveIn}
+use Rattle.rules.specs.declared.Edition.{Edition}
+use Rattle.rules.specs.declared.Edition.the-variants.{First, Second}
+use Rattle.rules.specs.Holds.{port, RealmList, editionNumber, defaultOf}
+use Rattle.rules.specs.Ports.{rising, resolveIn, editionOf, realmList, realmNumbers}
 use Rattle.rules_laws.specs.Laws.Tests.{by-test, both}
+use Rattle.rules_laws.specs.Laws.Pairs.{pairs-flat}
+
+-- A kept list is read off its numbers.
+pub realm-list-back : (l : RealmList) → realmList (realmNumbers l) ≡ l
+unfolding realmList
+realm-list-back l = λ x. record { edition = edition-back (l .edition) x; rows = pairs-flat (l .rows) x }
+  where
+    edition-back : (e : Edition) → editionOf (editionNumber e) (defaultOf e) ≡ e
+    edition-back First = refl
+    edition-back (Second d) = refl
 
 -- a key's port has that key
 pub resolve-key-law : (other : ℕ) (rows : List Port) (k : ℕ) → resolveIn other rows k .key ≡ k

@@ -10,7 +10,7 @@ use Rattle.rules.specs.declared.Root.{Root}
 use Rattle.rules.specs.declared.Root.the-variants.{Unissued, Queued, Spent}
 use Rattle.rules.specs.Basics.{any, all, isNone, last}
 use Rattle.rules.specs.Limits.{maxProvisionKeys, maxRealmRows, maxDependencies}
-use Rattle.rules.specs.Holds.{Provision, Plugin, provided, isIdle, isActive, defaultRealm}
+use Rattle.rules.specs.Holds.{Provision, Plugin, provided, isIdle, isActive, tableOf}
 use Rattle.rules.specs.Phases.{isSpent}
 use Rattle.rules.specs.Admission.{isUnissued}
 use Rattle.rules.specs.Registration.{repeats}
@@ -30,7 +30,7 @@ module _ (p : Plugin) where
       (le-leb (length (p .provisions)) maxProvisionKeys (s .provisions))
 
   pub shaped-resolved : Shaped p → provisionsResolved p ≡ true
-  shaped-resolved s = all-intro (resolvedIn (p .realms)) (provided p) (λ q m. rw (s .resolved q m) (same-self q))
+  shaped-resolved s = all-intro (resolvedIn (tableOf (p .realms))) (provided p) (λ q m. rw (s .resolved q m) (same-self q))
 
   module _ (l : Lively p) where
     pub lively-begun : begunOnce p ≡ true
@@ -66,9 +66,9 @@ spent (Queued v a) e = cc
 spent Spent e = refl
 
 module _ (p : Plugin) where
-  pub tests-shaped : listsShort p ≡ true → realmsRise p ≡ true → provisionsResolved p ≡ true → p .realms .other ≡ defaultRealm
+  pub tests-shaped : listsShort p ≡ true → realmsRise p ≡ true → provisionsResolved p ≡ true
       → repeats (claims p) ≡ false → Shaped p
-  tests-shaped e rise resolved plain apart =
+  tests-shaped e rise resolved apart =
       let rows = leb (length (p .realms .rows)) maxRealmRows in
       let dependencies = leb (length (p .dependencies)) maxDependencies in
       let a = both (rows && dependencies) (leb (length (p .provisions)) maxProvisionKeys) e in
@@ -76,10 +76,9 @@ module _ (p : Plugin) where
       record {
         realm-rows = leb-true _ _ (b .0);
         rise = rise;
-        default = plain;
         provisions = leb-true _ _ (a .1);
         dependencies = leb-true _ _ (b .1);
-        resolved = λ q m. sym (same-port _ q (all-true (resolvedIn (p .realms)) (provided p) q resolved m));
+        resolved = λ q m. sym (same-port _ q (all-true (resolvedIn (tableOf (p .realms))) (provided p) q resolved m));
         apart = apart;
       }
 

@@ -12,7 +12,7 @@ use borrow.Author.Tests.{eqb-true, eqb-false, leb-true, le-leb, not-true}
 use Rattle.rules.specs.declared.Port.{Port}
 use Rattle.rules.specs.Basics.{twice}
 use Rattle.rules.specs.Limits.{maxDependencyKeys}
-use Rattle.rules.specs.Holds.{Realms, Plugin, provided, samePort}
+use Rattle.rules.specs.Holds.{tableOf, Realms, Plugin, provided, samePort}
 use Rattle.rules.specs.Ports.{resolve, samePorts}
 use Rattle.rules.specs.Dependencies.{ownPorts, skipped, inherit, candidates, dependencyList}
 use Rattle.rules.specs.Conditions.{givenBy, keysOf, givenWithin}
@@ -77,21 +77,21 @@ module _ (z : Realms) (provisions : List Port) (anchor : Port) (parents list : L
       (λ f. given-within n (rw f at e))
 
 module _ (p : Plugin) (parents : List Port) where
-  pub ruled-found : Ruled parents p → givenWithin maxDependencyKeys (p .realms) (provided p) (p .anchor) parents (p .dependencies) ≡ true
+  pub ruled-found : Ruled parents p → givenWithin maxDependencyKeys (tableOf (p .realms)) (provided p) (p .anchor) parents (p .dependencies) ≡ true
   ruled-found r =
-      tried (p .realms) (provided p) (p .anchor) parents (p .dependencies) maxDependencyKeys (length (r .keys)) (r .few)
+      tried (tableOf (p .realms)) (provided p) (p .anchor) parents (p .dependencies) maxDependencyKeys (length (r .keys)) (r .few)
       (rw (
-        found-again (p .realms) (provided p) (p .anchor) parents (p .dependencies) (r .keys) (r .gives),
+        found-again (tableOf (p .realms)) (provided p) (p .anchor) parents (p .dependencies) (r .keys) (r .gives),
         le-leb (length (r .keys)) maxDependencyKeys (r .few),
         r .differ,
         r .gives,
       ) (ports-refl (p .dependencies)))
 
-  pub found-ruled : givenWithin maxDependencyKeys (p .realms) (provided p) (p .anchor) parents (p .dependencies) ≡ true → Ruled parents p
+  pub found-ruled : givenWithin maxDependencyKeys (tableOf (p .realms)) (provided p) (p .anchor) parents (p .dependencies) ≡ true → Ruled parents p
   found-ruled e =
-      let s = given-within (p .realms) (provided p) (p .anchor) parents (p .dependencies) maxDependencyKeys e in
+      let s = given-within (tableOf (p .realms)) (provided p) (p .anchor) parents (p .dependencies) maxDependencyKeys e in
       let keys = s .0 in
-      let list = dependencyList (p .realms) (provided p) (p .anchor) keys parents in
+      let list = dependencyList (tableOf (p .realms)) (provided p) (p .anchor) keys parents in
       let a = both (leb (length keys) maxDependencyKeys && not (twice keys)) (samePorts list (p .dependencies)) (s .1) in
       let b = both (leb (length keys) maxDependencyKeys) (not (twice keys)) (a .0) in
       record { keys = keys; few = leb-true _ _ (b .0); differ = not-true _ (b .1); gives = ports-same _ _ (a .1) }

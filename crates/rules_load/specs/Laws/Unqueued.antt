@@ -11,7 +11,7 @@ use Rattle.rules.specs.declared.Port.{Port}
 use Rattle.rules.specs.declared.Root.{Root}
 use Rattle.rules.specs.declared.Root.the-variants.{Unissued, Queued, Spent}
 use Rattle.rules.specs.Basics.{any, all, only, orNone, isNone, isSome, last, _⊃_}
-use Rattle.rules.specs.Holds.{Provision, Plugin, provides, running, sumRows, rowsOf, isIdle, isActive, defaultRealm}
+use Rattle.rules.specs.Holds.{Provision, Plugin, provides, running, sumRows, rowsOf, isIdle, isActive}
 use Rattle.rules.specs.Phases.{isSpent}
 use Rattle.rules.specs.Admission.{isUnissued}
 use Rattle.rules.specs.Registration.{inheritedFrom}
@@ -164,5 +164,4 @@ moved-formed d s f = record {
   next = f .next;
   revision = λ a m. let w = was (s .plugins) a m in subst (λ (p : Plugin). p .revision ≤ last) (w .2) (f .revision (w .0) (w .1));
   generation = λ a m. let w = was (s .plugins) a m in subst (λ (p : Plugin). p .generation ≤ last) (w .2) (f .generation (w .0) (w .1));
-  default = λ a m. let w = was (s .plugins) a m in subst (λ (p : Plugin). p .realms .other ≡ defaultRealm) (w .2) (f .default (w .0) (w .1));
 }
