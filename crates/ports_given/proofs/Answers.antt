@@ -23,11 +23,11 @@ use Rattle.ports_inherited.specs.Blocks.{fitted}
 use Rattle.ports_inherited.specs.Answers.{fitted-law, fitted-long}
 
 -- a key resolves to a port with that key, so of a port the realm alone says
-pub resolved-realm : (other : ℕ) (realms : List ℕ) (key realm : ℕ) {q : Port} → q ≡ resolveIn other (reached (pairs realms)) key
-    → eqb (q .realm) realm ≡ resolvedIn (reachedWith other realms) (port key realm)
+pub resolved-realm : (other : ℕ) (rows : List ℕ) (key realm : ℕ) {q : Port} → q ≡ resolveIn other (reached (pairs rows)) key
+    → eqb (q .realm) realm ≡ resolvedIn (reachedWith other rows) (port key realm)
 unfolding resolve
-resolved-realm other realms key realm e =
-    ap (λ (x : Port). eqb (x .realm) realm) e ∙ sym (rw (eq-eqb _ key (resolve-key-law other (reached (pairs realms)) key)))
+resolved-realm other rows key realm e =
+    ap (λ (x : Port). eqb (x .realm) realm) e ∙ sym (rw (eq-eqb _ key (resolve-key-law other (reached (pairs rows)) key)))
 
 -- a list that starts with p
 module _ (f : Port → Bool) {l rest : List Port} {p : Port} (s : l ≡ p ∷ rest) where

@@ -23,20 +23,20 @@ struct FrontKeys {
 }
 
 // Whether a port has the realm that its key resolves to.
-fn is_resolved(other: u64, realms: &[u64], key: u64, realm: u64) -> bool
-    ensures { λ r. ⌜ r ≡ resolvedIn (reachedWith other (now (realms .entry))) (port key realm) ⌝ }
+fn is_resolved(other: u64, rows: &[u64], key: u64, realm: u64) -> bool
+    ensures { λ r. ⌜ r ≡ resolvedIn (reachedWith other (now (rows .entry))) (port key realm) ⌝ }
 {
-    let q = ports_realms::resolve(realms, Port::new(key, other));
+    let q = ports_realms::resolve(rows, Port::new(key, other));
     q.realm == realm
 }
 
 // Whether each port has the realm that its key resolves to.
-pub fn resolved(other: u64, realms: &[u64], ports: &[u64]) -> bool
-    ensures { λ r. ⌜ r ≡ all (resolvedIn (reachedWith other (now (realms .entry)))) (pairs (now (ports .entry))) ⌝ }
+pub fn resolved(other: u64, rows: &[u64], ports: &[u64]) -> bool
+    ensures { λ r. ⌜ r ≡ all (resolvedIn (reachedWith other (now (rows .entry)))) (pairs (now (ports .entry))) ⌝ }
 {
     let mut i: usize = 1;
     while i < ports.len() {
-        if !is_resolved(other, realms, ports[i - 1], ports[i]) {
+        if !is_resolved(other, rows, ports[i - 1], ports[i]) {
             return false;
         }
         i += 2;
@@ -69,8 +69,8 @@ fn first_words(words: &[u64], most: usize) -> &[u64]
 }
 
 // The keys of the most ports in front, at most 16, that have the realm their key resolves to and different keys.
-fn keys_in_front(other: u64, realms: &[u64], list: &[u64]) -> FrontKeys
-    ensures { λ r. ⌜ Most (reachedWith other (now (realms .entry))) (pairs (now (list .entry))) r ⌝ }
+fn keys_in_front(other: u64, rows: &[u64], list: &[u64]) -> FrontKeys
+    ensures { λ r. ⌜ Most (reachedWith other (now (rows .entry))) (pairs (now (list .entry))) r ⌝ }
 {
     let mut keys = [0u64; KEYS];
     let mut n: usize = 0;
@@ -79,7 +79,7 @@ fn keys_in_front(other: u64, realms: &[u64], list: &[u64]) -> FrontKeys
             return FrontKeys { count: n, keys };
         }
         let key = list[n * 2];
-        if !is_resolved(other, realms, key, list[n * 2 + 1]) {
+        if !is_resolved(other, rows, key, list[n * 2 + 1]) {
             return FrontKeys { count: n, keys };
         }
         if has_key(first_words(&keys, n), key) {
@@ -95,17 +95,17 @@ fn keys_in_front(other: u64, realms: &[u64], list: &[u64]) -> FrontKeys
 fn gives(
     other: u64,
     anchor: Port,
-    realms: &[u64],
+    rows: &[u64],
     keys: &[u64],
     provisions: &[u64],
     parents: &[u64],
     list: &[u64],
 ) -> bool
     requires { ⌜ length (now keys) ≤ maxDependencyKeys ⌝ ∗ ⌜ length (pairs (now list)) ≤ maxDependencies ⌝ }
-    ensures { λ r. ⌜ r ≡ samePorts (dependencyList (reachedWith other (now (realms .entry))) (pairs (now (provisions .entry))) anchor
+    ensures { λ r. ⌜ r ≡ samePorts (dependencyList (reachedWith other (now (rows .entry))) (pairs (now (provisions .entry))) anchor
         (now (keys .entry)) (pairs (now (parents .entry)))) (pairs (now (list .entry))) ⌝ }
 {
-    let made = ports_inherited::dependency_list(other, anchor, realms, keys, provisions, parents);
+    let made = ports_inherited::dependency_list(other, anchor, rows, keys, provisions, parents);
     if limits::DEPENDENCIES < made.count {
         return false;
     }
@@ -118,22 +118,22 @@ fn gives(
 pub fn given(
     other: u64,
     anchor: Port,
-    realms: &[u64],
+    rows: &[u64],
     provisions: &[u64],
     parents: &[u64],
     list: &[u64],
 ) -> bool
-    ensures { λ r. ⌜ r ≡ givenList (reachedWith other (now (realms .entry))) (pairs (now (provisions .entry))) anchor
+    ensures { λ r. ⌜ r ≡ givenList (reachedWith other (now (rows .entry))) (pairs (now (provisions .entry))) anchor
         (pairs (now (parents .entry))) (pairs (now (list .entry))) ⌝ }
 {
     if limits::DEPENDENCIES < list.len() / 2 {
         return false;
     }
-    let most = keys_in_front(other, realms, list);
+    let most = keys_in_front(other, rows, list);
     let mut count = most.count;
     loop {
         let keys = first_words(&most.keys, count);
-        if gives(other, anchor, realms, keys, provisions, parents, list) {
+        if gives(other, anchor, rows, keys, provisions, parents, list) {
             return true;
         }
         if count == 0 {

@@ -47,21 +47,21 @@ fn is_own(provisions: &[u64], anchor: Port, key: u64, realm: u64) -> bool
 pub fn dependency_list(
     other: u64,
     anchor: Port,
-    realms: &[u64],
+    rows: &[u64],
     keys: &[u64],
     provisions: &[u64],
     parents: &[u64],
 ) -> Dependencies
-    ensures { λ r. ⌜ r ≡ fitted (dependencyList (reachedWith other (now (realms .entry))) (pairs (now (provisions .entry))) anchor
+    ensures { λ r. ⌜ r ≡ fitted (dependencyList (reachedWith other (now (rows .entry))) (pairs (now (provisions .entry))) anchor
         (take maxDependencyKeys (now (keys .entry))) (pairs (now (parents .entry)))) ⌝ }
 {
     let mut list = [0u64; LIST_ROOM];
-    let mut n = ports_resolved::declared(other, realms, keys, &mut list);
+    let mut n = ports_resolved::declared(other, rows, keys, &mut list);
     let mut c: usize = 0;
     'next: while c / 2 < parents.len() / 2 {
         let at = c / 2 * 2;
         let key = parents[at];
-        let turn = ports_resolved::candidate(other, c % 2, key, parents[at + 1], realms);
+        let turn = ports_resolved::candidate(other, c % 2, key, parents[at + 1], rows);
         let realm = turn.realm;
         c += turn.turns;
         if is_own(provisions, anchor, key, realm) {

@@ -1,1 +1,3 @@
 pub mod Interval
+pub mod Lists
+pub mod Lookups

@@ -7,7 +7,7 @@ use lib.ListN.{length, getD, take, drop}
 use Rattle.rules.specs.Basics.{pick}
 use Rattle.rules.specs.declared.Port.{Port}
 use Rattle.rules.specs.Holds.{port, Realms, isIn}
-use Rattle.rules.specs.Ports.{pairs, resolveIn}
+use Rattle.rules.specs.Ports.{pairs, resolveIn, rowsIn, realmsOf}
 
 -- What a comparison with the middle row leaves: where its key is not above, that row and all behind it; else as many rows in front.
 abbrev pub nearer : ℕ → List Port → List Port
@@ -56,6 +56,9 @@ passing f (p ∷ ps) = pick (f p) (p ∷ passing f ps) (passing f ps)
 unfoldable pub reached : List Port → List Port
 reached rows = passing (λ (row : Port). isIn row (halved (row .key) rows)) rows
 
--- The table that a lent realm list makes where keys are looked up by halving.
+-- The table that lent rows make with a default realm, where keys are looked up by halving; and a lent realm list's.
 abbrev pub reachedWith : ℕ → List ℕ → Realms
-reachedWith other l = record { rows = reached (pairs l); other = other }
+reachedWith other rows = record { rows = reached (pairs rows); other = other }
+
+abbrev pub reachedIn : List ℕ → Realms
+reachedIn l = reachedWith (realmsOf l .other) (rowsIn l)

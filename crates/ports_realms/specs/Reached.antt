@@ -11,12 +11,12 @@ use lib.Seq.{getD-take, getD-drop}
 use borrow.Author.Tests.{ltb-true, ltb-false, leb-true, leb-false, eqb-true, eqb-false, ne-eqb}
 use Rattle.rules.specs.declared.Port.{Port}
 use Rattle.rules.specs.Holds.{port, samePort, isIn}
-use Rattle.rules.specs.Ports.{pairs, rising, badRealms, resolveIn}
+use Rattle.rules.specs.Ports.{pairs, rising, badRealms, resolveIn, rowsIn, realmList, realmsOf}
 use Rattle.rules_laws.specs.Laws.Tests.{by-test}
 use Rattle.rules_laws.specs.Laws.Members.{In, same-port, same-self, is-in}
 use Rattle.rules_laws.specs.Laws.Realms.{rising-at, rising-drop, rising-take}
 use Rattle.ports_realms.specs.Rows.{good-realms}
-use Rattle.ports_realms.specs.Halving.{Search, turned, goneOn, ended, begun, halved, byHalving, passing, reached}
+use Rattle.ports_realms.specs.Halving.{Search, turned, goneOn, ended, begun, halved, byHalving, passing, reached, reachedIn}
 use Rattle.ports_realms.specs.Turns.{nearer-length}
 
 -- what is left is one row of the list, or none
@@ -172,3 +172,8 @@ halving-finds other k rows e = reached-search other k rows ∙ ap (λ l. resolve
 -- A list that passes row 4 is such a list.
 pub good-reached : (l : List ℕ) → badRealms l ≡ false → reached (pairs l) ≡ pairs l
 good-reached l good = reached-all (pairs l) (good-realms l good .2)
+
+-- So a realm list that passes row 4 makes the rule's table.
+pub good-table : (l : List ℕ) → badRealms (rowsIn l) ≡ false → reachedIn l ≡ realmsOf l
+unfolding realmList
+good-table l good = λ i. record { rows = good-reached (rowsIn l) good i; other = realmsOf l .other }

@@ -43,8 +43,8 @@ pub fn repeated_key(keys: &[u64]) -> bool
 }
 
 // The anchor and the ports of the first 15 provision keys.
-pub fn claims(other: u64, anchor: Port, realms: &[u64], keys: &[u64]) -> Claimed
-    ensures { λ r. ⌜ r ≡ claimsOf other (reached (pairs (now (realms .entry)))) anchor (now (keys .entry)) ⌝ }
+pub fn claims(other: u64, anchor: Port, rows: &[u64], keys: &[u64]) -> Claimed
+    ensures { λ r. ⌜ r ≡ claimsOf other (reached (pairs (now (rows .entry)))) anchor (now (keys .entry)) ⌝ }
 {
     let mut list = [0u64; CLAIM_ROOM];
     list[0] = anchor.key;
@@ -57,7 +57,7 @@ pub fn claims(other: u64, anchor: Port, realms: &[u64], keys: &[u64]) -> Claimed
                 ports: list,
             };
         }
-        let q = ports_realms::resolve(realms, Port::new(keys[i], other));
+        let q = ports_realms::resolve(rows, Port::new(keys[i], other));
         list[i * 2 + 2] = q.key;
         list[i * 2 + 3] = q.realm;
         i += 1;
@@ -67,15 +67,15 @@ pub fn claims(other: u64, anchor: Port, realms: &[u64], keys: &[u64]) -> Claimed
 }
 
 // The first 16 declared keys, resolved, in the front of an array that a finished list fits into; their count.
-pub fn declared(other: u64, realms: &[u64], keys: &[u64], list: &mut [u64; LIST_ROOM]) -> usize
-    ensures { λ r. ⌜ Stores (declaredOf other (reached (pairs (now (realms .entry)))) (now (keys .entry))) (now (list .entry)) r (now (list .exit)) ⌝ }
+pub fn declared(other: u64, rows: &[u64], keys: &[u64], list: &mut [u64; LIST_ROOM]) -> usize
+    ensures { λ r. ⌜ Stores (declaredOf other (reached (pairs (now (rows .entry)))) (now (keys .entry))) (now (list .entry)) r (now (list .exit)) ⌝ }
 {
     let mut i: usize = 0;
     while i < keys.len() {
         if i == limits::DEPENDENCY_KEYS {
             return limits::DEPENDENCY_KEYS;
         }
-        let q = ports_realms::resolve(realms, Port::new(keys[i], other));
+        let q = ports_realms::resolve(rows, Port::new(keys[i], other));
         list[i * 2] = q.key;
         list[i * 2 + 1] = q.realm;
         i += 1;
@@ -90,10 +90,10 @@ pub struct Turn {
 }
 
 // The candidate of a port of the parent's list: at turn 0 the port itself, else its key resolved again.
-pub fn candidate(other: u64, turn: usize, key: u64, realm: u64, realms: &[u64]) -> Turn
-    ensures { λ r. ⌜ r ≡ candidateOf other (reached (pairs (now (realms .entry)))) turn key realm ⌝ }
+pub fn candidate(other: u64, turn: usize, key: u64, realm: u64, rows: &[u64]) -> Turn
+    ensures { λ r. ⌜ r ≡ candidateOf other (reached (pairs (now (rows .entry)))) turn key realm ⌝ }
 {
-    let q = ports_realms::resolve(realms, Port::new(key, other));
+    let q = ports_realms::resolve(rows, Port::new(key, other));
     if turn != 0 {
         return Turn {
             realm: q.realm,

@@ -17,13 +17,13 @@ use Rattle.ports_given.proofs.given.Statement.{statement}
 use Rattle.ports_given.proofs.given.Tie as tie
 
 abbrev Inv-loop : tie.InvT-loop
-Inv-loop other anchor realms provisions parents list most count₀ count =
+Inv-loop other anchor rows provisions parents list most count₀ count =
     (count ≤ most .count)
-    × (givenWithin maxDependencyKeys (reachedWith other realms) (pairs provisions) anchor (pairs parents) (pairs list)
-    ≡ givenWithin count (reachedWith other realms) (pairs provisions) anchor (pairs parents) (pairs list))
+    × (givenWithin maxDependencyKeys (reachedWith other rows) (pairs provisions) anchor (pairs parents) (pairs list)
+    ≡ givenWithin count (reachedWith other rows) (pairs provisions) anchor (pairs parents) (pairs list))
 
 abbrev μ-loop : tie.MeasureT-loop
-μ-loop other anchor realms provisions parents list most count₀ count = count
+μ-loop other anchor rows provisions parents list most count₀ count = count
 
 -- a try: the loop's head before it, the keys in front, and the function's entry
 abbrev Try : Type 0
@@ -39,20 +39,20 @@ entry g = head g .before .before .before .before .before .before .before
 told : (g : Try)
     → let a = entry g .args in
     g .gives .result
-    ≡ by (reachedWith (a .other) (a .realms .now)) (pairs (a .provisions .now)) (a .anchor) (pairs (a .parents .now)) (pairs (a .list .now))
+    ≡ by (reachedWith (a .other) (a .rows .now)) (pairs (a .provisions .now)) (a .anchor) (pairs (a .parents .now)) (pairs (a .list .now))
     (head g .loop .count)
 told g =
     let at = head g in
     let a = entry g .args in
-    tried (reachedWith (a .other) (a .realms .now)) (pairs (a .provisions .now)) (a .anchor) (pairs (a .parents .now)) (pairs (a .list .now))
+    tried (reachedWith (a .other) (a .rows .now)) (pairs (a .provisions .now)) (a .anchor) (pairs (a .parents .now)) (pairs (a .list .now))
     (at .before .keys-in-front .ensures .front) (at .loop .count) (at .loop .inv .0) (g .before .first-words .ensures) (g .gives .ensures)
 
 -- and a list that is not too long is given if it is given from at most so many keys
 answer : (g : Try) {b : Bool}
     → let a = entry g .args in
-    givenWithin (head g .loop .count) (reachedWith (a .other) (a .realms .now)) (pairs (a .provisions .now)) (a .anchor) (pairs (a .parents .now))
+    givenWithin (head g .loop .count) (reachedWith (a .other) (a .rows .now)) (pairs (a .provisions .now)) (a .anchor) (pairs (a .parents .now))
     (pairs (a .list .now)) ≡ b
-    → b ≡ givenList (reachedWith (a .other) (a .realms .now)) (pairs (a .provisions .now)) (a .anchor) (pairs (a .parents .now)) (pairs (a .list .now))
+    → b ≡ givenList (reachedWith (a .other) (a .rows .now)) (pairs (a .provisions .now)) (a .anchor) (pairs (a .parents .now)) (pairs (a .list .now))
 answer g e =
     let at = head g in
     let l = pairs (entry g .args .list .now) in
@@ -70,7 +70,7 @@ loop-holds : tie.Need-loop-holds Inv-loop μ-loop
 loop-holds c =
     let a = c .before .before .before .before .before .before .args in (
       omega arith,
-      within-front (reachedWith (a .other) (a .realms .now)) (pairs (a .provisions .now)) (a .anchor) (pairs (a .parents .now))
+      within-front (reachedWith (a .other) (a .rows .now)) (pairs (a .provisions .now)) (a .anchor) (pairs (a .parents .now))
           (pairs (a .list .now)) (c .keys-in-front .ensures),
     )
 
@@ -90,7 +90,7 @@ returns-2 c =
     let g = c .before in
     let a = entry g .args in
     answer g
-    (within-yes (reachedWith (a .other) (a .realms .now)) (pairs (a .provisions .now)) (a .anchor) (pairs (a .parents .now)) (pairs (a .list .now)) _
+    (within-yes (reachedWith (a .other) (a .rows .now)) (pairs (a .provisions .now)) (a .anchor) (pairs (a .parents .now)) (pairs (a .list .now)) _
     (sym (told g) ∙ c .if2 .taken))
 
 returns-3 : tie.Need-returns-3 Inv-loop μ-loop
@@ -99,7 +99,7 @@ returns-3 c =
     let g = e .before in
     let a = entry g .args in
     answer g
-    (within-none (reachedWith (a .other) (a .realms .now)) (pairs (a .provisions .now)) (a .anchor) (pairs (a .parents .now)) (pairs (a .list .now)) _
+    (within-none (reachedWith (a .other) (a .rows .now)) (pairs (a .provisions .now)) (a .anchor) (pairs (a .parents .now)) (pairs (a .list .now)) _
     (c .if3 .taken) (sym (told g) ∙ e .if2 .left))
 
 sub-count : tie.Need-sub-count Inv-loop μ-loop
@@ -115,7 +115,7 @@ loop-again c =
     let a = entry g .args in (
       omega arith,
       head g .loop .inv .1 ∙
-          within-no (reachedWith (a .other) (a .realms .now)) (pairs (a .provisions .now)) (a .anchor) (pairs (a .parents .now)) (pairs (a .list .now)) _
+          within-no (reachedWith (a .other) (a .rows .now)) (pairs (a .provisions .now)) (a .anchor) (pairs (a .parents .now)) (pairs (a .list .now)) _
           (c .if3 .left) (sym (told g) ∙ e .if2 .left),
     )
 

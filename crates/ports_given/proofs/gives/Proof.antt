@@ -16,14 +16,14 @@ use Rattle.ports_given.proofs.gives.Tie as tie
 abbrev ruled : tie.After-dependency-list → List Port
 ruled l =
     let a = l .before .before .before .before .before .before .args in
-    dependencyList (reachedWith (a .other) (a .realms .now)) (pairs (a .provisions .now)) (a .anchor) (a .keys .now) (pairs (a .parents .now))
+    dependencyList (reachedWith (a .other) (a .rows .now)) (pairs (a .provisions .now)) (a .anchor) (a .keys .now) (pairs (a .parents .now))
 
 made : (l : tie.After-dependency-list) → l .dependency-list .result ≡ fitted (ruled l)
 made l =
     let s = l .before .before .before .before .before .before in
     let a = s .args in
     l .dependency-list .ensures
-    ∙ ap fitted (dependency-law (reachedWith (a .other) (a .realms .now)) (pairs (a .provisions .now)) (a .anchor) (a .keys .now) (pairs (a .parents .now))
+    ∙ ap fitted (dependency-law (reachedWith (a .other) (a .rows .now)) (pairs (a .provisions .now)) (a .anchor) (a .keys .now) (pairs (a .parents .now))
     (s .pre .0))
 
 dependency-list-requires : tie.Need-dependency-list-requires

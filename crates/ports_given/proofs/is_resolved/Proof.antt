@@ -16,8 +16,8 @@ resolve-requires c κs = search needs
 returns : tie.Need-returns
 returns c =
     let a = c .before .before .before .before .args in
-    resolved-realm (a .other) (a .realms .now) (a .key) (a .realm)
-    (resolve-with (reached (pairs (a .realms .now))) _ _ _ _ (c .before .resolve .ensures) (c .before .before .new .ensures))
+    resolved-realm (a .other) (a .rows .now) (a .key) (a .realm)
+    (resolve-with (reached (pairs (a .rows .now))) _ _ _ _ (c .before .resolve .ensures) (c .before .before .new .ensures))
 
 pub is-resolved-spec : {M : Type 1} → statement M
 is-resolved-spec = tie.close (tie.spec new-requires resolve-requires returns)

@@ -17,10 +17,10 @@ use Rattle.ports_given.proofs.keys_in_front.Statement.{statement}
 use Rattle.ports_given.proofs.keys_in_front.Tie as tie
 
 abbrev Inv-loop : tie.InvT-loop
-Inv-loop other realms list keys₀ n₀ keys n = Front (reachedWith other realms) (pairs list) n keys
+Inv-loop other rows list keys₀ n₀ keys n = Front (reachedWith other rows) (pairs list) n keys
 
 abbrev μ-loop : tie.MeasureT-loop
-μ-loop other realms list keys₀ n₀ keys n = length list / 2 - n
+μ-loop other rows list keys₀ n₀ keys n = length list / 2 - n
 
 loop-holds : tie.Need-loop-holds Inv-loop μ-loop
 loop-holds c = record { few = omega arith; inside = omega arith; filled = refl; declared = refl }

@@ -15,11 +15,11 @@ use Rattle.ports_given.proofs.resolved.Statement.{statement}
 use Rattle.ports_given.proofs.resolved.Tie as tie
 
 abbrev Inv-loop : tie.InvT-loop
-Inv-loop other realms ports i₀ i =
-    (1 ≤ i) × (all (resolvedIn (reachedWith other realms)) (pairs ports) ≡ all (resolvedIn (reachedWith other realms)) (pairs (drop (i - 1) ports)))
+Inv-loop other rows ports i₀ i =
+    (1 ≤ i) × (all (resolvedIn (reachedWith other rows)) (pairs ports) ≡ all (resolvedIn (reachedWith other rows)) (pairs (drop (i - 1) ports)))
 
 abbrev μ-loop : tie.MeasureT-loop
-μ-loop other realms ports i₀ i = length ports - i
+μ-loop other rows ports i₀ i = length ports - i
 
 loop-holds : tie.Need-loop-holds Inv-loop μ-loop
 loop-holds c = search needs
@@ -48,7 +48,7 @@ returns c =
     let a = at .before .before .before .args in
     let s = pairs-behind (a .ports .now) (at .loop .i) (at .loop .inv .0) (omega arith) in
     sym (at .loop .inv .1
-    ∙ all-miss (resolvedIn (reachedWith (a .other) (a .realms .now))) s (sym (c .before .is-resolved .ensures) ∙ not-true _ (c .if1 .taken)))
+    ∙ all-miss (resolvedIn (reachedWith (a .other) (a .rows .now))) s (sym (c .before .is-resolved .ensures) ∙ not-true _ (c .if1 .taken)))
 
 add-i : tie.Need-add-i Inv-loop μ-loop
 add-i c = search needs
@@ -63,14 +63,14 @@ loop-again c =
     let s = pairs-behind (a .ports .now) (at .loop .i) (at .loop .inv .0) (omega arith) in (
       omega arith,
       at .loop .inv .1
-          ∙ all-hit (resolvedIn (reachedWith (a .other) (a .realms .now))) s (sym (c .before .is-resolved .ensures) ∙ not-false _ (c .if1 .left)),
+          ∙ all-hit (resolvedIn (reachedWith (a .other) (a .rows .now))) s (sym (c .before .is-resolved .ensures) ∙ not-false _ (c .if1 .left)),
     )
 
 returns-2 : tie.Need-returns-2 Inv-loop μ-loop
 returns-2 c =
     let at = c .before in
     let a = at .before .before .before .args in
-    sym (at .loop .inv .1 ∙ ap (all (resolvedIn (reachedWith (a .other) (a .realms .now)))) (pairs-end (a .ports .now) (at .loop .i - 1) (omega arith)))
+    sym (at .loop .inv .1 ∙ ap (all (resolvedIn (reachedWith (a .other) (a .rows .now)))) (pairs-end (a .ports .now) (at .loop .i - 1) (omega arith)))
 
 pub resolved-spec : {M : Type 1} → statement M
 resolved-spec =

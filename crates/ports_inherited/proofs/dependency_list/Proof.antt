@@ -28,20 +28,20 @@ abbrev soFar : ℕ → List ℕ → List Port
 soFar n ports = pairs (take (n * 2) ports)
 
 abbrev Inv-loop : tie.InvT-loop
-Inv-loop other anchor realms keys provisions parents ports n c at key realm k₀ k =
+Inv-loop other anchor rows keys provisions parents ports n c at key realm k₀ k =
     (k ≤ n) × (isIn (port key realm) (soFar n ports) ≡ isIn (port key realm) (drop k (soFar n ports)))
 
 abbrev μ-loop : tie.MeasureT-loop
-μ-loop other anchor realms keys provisions parents ports n c at key realm k₀ k = n - k
+μ-loop other anchor rows keys provisions parents ports n c at key realm k₀ k = n - k
 
 abbrev Inv-next : tie.InvT-next
-Inv-next other anchor realms keys provisions parents ports₀ n₀ c₀ ports n c =
+Inv-next other anchor rows keys provisions parents ports₀ n₀ c₀ ports n c =
     (n ≤ maxDependencies) × Lists listRoom n ports (soFar n ports)
-    × (dependencyList (reachedWith other realms) (pairs provisions) anchor (take maxDependencyKeys keys) (pairs parents)
-    ≡ inherit (ownPorts (pairs provisions) anchor) (drop c (candidates (reachedWith other realms) (pairs parents))) (soFar n ports))
+    × (dependencyList (reachedWith other rows) (pairs provisions) anchor (take maxDependencyKeys keys) (pairs parents)
+    ≡ inherit (ownPorts (pairs provisions) anchor) (drop c (candidates (reachedWith other rows) (pairs parents))) (soFar n ports))
 
 abbrev μ-next : tie.MeasureT-next
-μ-next other anchor realms keys provisions parents ports₀ n₀ c₀ ports n c = length parents / 2 * 2 - c
+μ-next other anchor rows keys provisions parents ports₀ n₀ c₀ ports n c = length parents / 2 * 2 - c
 
 -- the candidate of a turn: the loop's head before it, and the function's entry
 abbrev Turned : Type 0
@@ -60,7 +60,7 @@ abbrev own : Turned → List Port
 own t = ownPorts (pairs (entry t .args .provisions .now)) (entry t .args .anchor)
 
 abbrev rest : Turned → ℕ → List Port
-rest t c = drop c (candidates (reachedWith (entry t .args .other) (entry t .args .realms .now)) (pairs (entry t .args .parents .now)))
+rest t c = drop c (candidates (reachedWith (entry t .args .other) (entry t .args .rows .now)) (pairs (entry t .args .parents .now)))
 
 abbrev port-at : Turned → Port
 port-at t = port (getD (entry t .args .parents .now) (head t .next .c / 2 * 2) 0) (t .candidate .result .realm)
@@ -74,12 +74,12 @@ inside t = t .before .before .before .next-test .taken
 split : (t : Turned) → rest t (head t .next .c) ≡ port-at t ∷ rest t (head t .next .c + 1)
 split t =
     let a = entry t .args in
-    candidate-at (a .other) (a .realms .now) (a .parents .now) (head t .next .c) (inside t) (t .candidate .ensures)
+    candidate-at (a .other) (a .rows .now) (a .parents .now) (head t .next .c) (inside t) (t .candidate .ensures)
 
 few-turns : (t : Turned) → (1 ≤ turns t) × (turns t ≤ 2)
 few-turns t =
     let a = entry t .args in
-    some-turns (a .other) (a .realms .now) (a .parents .now) (head t .next .c) (inside t) (t .candidate .ensures)
+    some-turns (a .other) (a .rows .now) (a .parents .now) (head t .next .c) (inside t) (t .candidate .ensures)
 
 less : (t : Turned)
     → let end = length (entry t .args .parents .now) / 2 * 2 in
@@ -91,7 +91,7 @@ dealt : (t : Turned) (l : List Port) → skipped (own t) l (port-at t) ≡ true
     → inherit (own t) (rest t (head t .next .c + 1)) l ≡ inherit (own t) (rest t (head t .next .c + turns t)) l
 dealt t l k =
     let a = entry t .args in
-    turns-taken (a .other) (a .realms .now) (a .parents .now) (head t .next .c) (inside t) (t .candidate .ensures) (own t) l k
+    turns-taken (a .other) (a .rows .now) (a .parents .now) (head t .next .c) (inside t) (t .candidate .ensures) (own t) l k
 
 -- it is none of its own
 abbrev Free : Type 0
@@ -110,14 +110,14 @@ next-holds : tie.Need-next-holds Inv-loop μ-loop Inv-next μ-next
 unfolding dependencyList resolve
 next-holds c =
     let a = c .before .before .before .before .before .before .args in
-    let f = resolveIn (a .other) (reached (pairs (a .realms .now))) in
+    let f = resolveIn (a .other) (reached (pairs (a .rows .now))) in
     let keys = take maxDependencyKeys (a .keys .now) in
-    let r = declared-lists (a .other) (reached (pairs (a .realms .now))) (a .keys .now) (c .declared .ensures .0) (c .declared .ensures .1) in
+    let r = declared-lists (a .other) (reached (pairs (a .rows .now))) (a .keys .now) (c .declared .ensures .0) (c .declared .ensures .1) in
     let h : c .declared .result ≤ maxDependencies = omega (arith, r .counted, length-map keys f, length-take maxDependencyKeys (a .keys .now)) in (
       h,
       lists-own r,
       ap (λ (l : List Port). inherit (ownPorts (pairs (a .provisions .now)) (a .anchor))
-          (candidates (reachedWith (a .other) (a .realms .now)) (pairs (a .parents .now))) l) (sym (listed r)),
+          (candidates (reachedWith (a .other) (a .rows .now)) (pairs (a .parents .now))) l) (sym (listed r)),
     )
 
 mul-at : tie.Need-mul-at Inv-loop μ-loop Inv-next μ-next
@@ -276,7 +276,7 @@ returns-2 c =
     let v = at .next .inv in
     let l = soFar (at .next .n) (at .next .list) in
     let e = v .2 ∙ ap (λ (cs : List Port). inherit (ownPorts (pairs (a .provisions .now)) (a .anchor)) cs l)
-    (candidates-end (a .other) (a .realms .now) (a .parents .now) (at .next .c) (c .next-test .left)) in
+    (candidates-end (a .other) (a .rows .now) (a .parents .now) (at .next .c) (c .next-test .left)) in
     fitted-lists l (v .1) (v .0) ∙ ap fitted (sym e)
 
 pub dependency-list-spec : {M : Type 1} → statement M

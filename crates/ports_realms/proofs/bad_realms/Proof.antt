@@ -13,16 +13,16 @@ use Rattle.ports_realms.proofs.bad_realms.Statement.{statement}
 use Rattle.ports_realms.proofs.bad_realms.Tie as tie
 
 abbrev Inv-loop : tie.InvT-loop
-Inv-loop realms i₀ i = (2 ≤ i) × (i % 2 ≡ 0) × (rising (pairs realms) ≡ rising (pairs (drop (i - 2) realms)))
+Inv-loop rows i₀ i = (2 ≤ i) × (i % 2 ≡ 0) × (rising (pairs rows) ≡ rising (pairs (drop (i - 2) rows)))
 
 abbrev μ-loop : tie.MeasureT-loop
-μ-loop realms i₀ i = length realms - i
+μ-loop rows i₀ i = length rows - i
 
 returns : tie.Need-returns Inv-loop μ-loop
-returns c = sym (bad-odd (c .before .args .realms .now) (c .if1 .taken))
+returns c = sym (bad-odd (c .before .args .rows .now) (c .if1 .taken))
 
 returns-2 : tie.Need-returns-2 Inv-loop μ-loop
-returns-2 c = sym (bad-long (c .before .before .args .realms .now) (c .before .if1 .left) (omega arith))
+returns-2 c = sym (bad-long (c .before .before .args .rows .now) (c .before .if1 .left) (omega arith))
 
 loop-holds : tie.Need-loop-holds Inv-loop μ-loop
 loop-holds c = search needs
@@ -46,7 +46,7 @@ returns-3 : tie.Need-returns-3 Inv-loop μ-loop
 returns-3 c =
     let at = c .before .before .before .before in
     let i = at .loop .i in
-    let l = at .before .before .before .args .realms .now in
+    let l = at .before .before .before .args .rows .now in
     let even = at .before .before .if1 .left in
     let t = le-ltb (getD l (i - 2) 0) (getD l i 0) (omega arith) in
     let r = rw t at (rising-behind l i (at .loop .inv .0) (omega arith)) in
@@ -62,7 +62,7 @@ loop-again : tie.Need-loop-again Inv-loop μ-loop
 loop-again c =
     let at = c .before .before .before .before in
     let i = at .loop .i in
-    let l = at .before .before .before .args .realms .now in
+    let l = at .before .before .before .args .rows .now in
     let even = at .before .before .if1 .left in
     let t = lt-ltb (getD l (i - 2) 0) (getD l i 0) (omega arith) in
     let r = rw t at (rising-behind l i (at .loop .inv .0) (omega arith)) in
@@ -72,7 +72,7 @@ returns-4 : tie.Need-returns-4 Inv-loop μ-loop
 returns-4 c =
     let at = c .before in
     let i = at .loop .i in
-    let l = at .before .before .before .args .realms .now in
+    let l = at .before .before .before .args .rows .now in
     let m = drop (i - 2) l in
     let short : length (pairs m) ≤ 1 = omega (arith, length-pairs m, length-drop (i - 2) l, c .loop-test .left) in
     sym (bad-rising l (at .before .before .if1 .left) (omega arith) ∙ ap not (at .loop .inv .2 ∙ rising-end (pairs m) short))

@@ -13,7 +13,7 @@ search-requires c κs = search needs
 returns : tie.Need-returns
 returns c =
     let a = c .before .before .before .args in
-    ap (λ (x : Lookup). x .port) (c .before .search .ensures) ∙ reached-search (a .fallback .realm) (a .fallback .key) (pairs (a .realms .now))
+    ap (λ (x : Lookup). x .port) (c .before .search .ensures) ∙ reached-search (a .fallback .realm) (a .fallback .key) (pairs (a .rows .now))
 
 pub resolve-spec : {M : Type 1} → statement M
 resolve-spec = tie.close (tie.spec search-requires returns)

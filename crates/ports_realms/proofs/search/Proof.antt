@@ -10,10 +10,10 @@ use Rattle.ports_realms.proofs.search.Statement.{statement}
 use Rattle.ports_realms.proofs.search.Tie as tie
 
 abbrev Inv-loop : tie.InvT-loop
-Inv-loop realms fallback at₀ rows₀ half₀ comparisons₀ at rows half comparisons = Searching realms (fallback .key) at rows comparisons × (half ≡ rows / 2)
+Inv-loop rows fallback at₀ left₀ half₀ comparisons₀ at left half comparisons = Searching rows (fallback .key) at left comparisons × (half ≡ left / 2)
 
 abbrev μ-loop : tie.MeasureT-loop
-μ-loop realms fallback at₀ rows₀ half₀ comparisons₀ at rows half comparisons = rows
+μ-loop rows fallback at₀ left₀ half₀ comparisons₀ at left half comparisons = left
 
 loop-holds : tie.Need-loop-holds Inv-loop μ-loop
 loop-holds c = (starts _ _, refl)
@@ -41,8 +41,8 @@ add-comparisons c =
     let at = c .before .before .before .before in
     omega (arith, at .loop .inv .0 .few)
 
-sub-rows : tie.Need-sub-rows Inv-loop μ-loop
-sub-rows c = search needs
+sub-left : tie.Need-sub-left Inv-loop μ-loop
+sub-left c = search needs
 
 loop-less : tie.Need-loop-less Inv-loop μ-loop
 loop-less c = search needs
@@ -104,7 +104,7 @@ search-spec =
     mul-at
     add-at
     add-comparisons
-    sub-rows
+    sub-left
     loop-less
     loop-again
     returns

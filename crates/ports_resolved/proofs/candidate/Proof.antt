@@ -19,23 +19,23 @@ returns : tie.Need-returns
 returns c =
     let v = c .before in
     let a = v .before .before .before .args in
-    let e = resolve-with (reached (pairs (a .realms .now))) _ _ _ _ (v .resolve .ensures) (v .before .new .ensures) in
-    second-turn (a .other) (reached (pairs (a .realms .now))) (a .key) (a .turn) (a .realm) (ap (λ (q : Port). q .realm) e) (c .if1 .taken)
+    let e = resolve-with (reached (pairs (a .rows .now))) _ _ _ _ (v .resolve .ensures) (v .before .new .ensures) in
+    second-turn (a .other) (reached (pairs (a .rows .now))) (a .key) (a .turn) (a .realm) (ap (λ (q : Port). q .realm) e) (c .if1 .taken)
 
 returns-2 : tie.Need-returns-2
 returns-2 c =
     let v = c .before .before .before in
     let a = v .before .before .before .args in
-    let e = resolve-with (reached (pairs (a .realms .now))) _ _ _ _ (v .resolve .ensures) (v .before .new .ensures) in
-    both-turns (a .other) (reached (pairs (a .realms .now))) (a .key) (a .turn) (a .realm) (ap (λ (q : Port). q .realm) e) (c .before .before .if1 .left)
+    let e = resolve-with (reached (pairs (a .rows .now))) _ _ _ _ (v .resolve .ensures) (v .before .new .ensures) in
+    both-turns (a .other) (reached (pairs (a .rows .now))) (a .key) (a .turn) (a .realm) (ap (λ (q : Port). q .realm) e) (c .before .before .if1 .left)
     (c .if2 .taken)
 
 returns-3 : tie.Need-returns-3
 returns-3 c =
     let v = c .before .before .before in
     let a = v .before .before .before .args in
-    let e = resolve-with (reached (pairs (a .realms .now))) _ _ _ _ (v .resolve .ensures) (v .before .new .ensures) in
-    first-turn (a .other) (reached (pairs (a .realms .now))) (a .key) (a .turn) (a .realm) (ap (λ (q : Port). q .realm) e) (c .before .before .if1 .left)
+    let e = resolve-with (reached (pairs (a .rows .now))) _ _ _ _ (v .resolve .ensures) (v .before .new .ensures) in
+    first-turn (a .other) (reached (pairs (a .rows .now))) (a .key) (a .turn) (a .realm) (ap (λ (q : Port). q .realm) e) (c .before .before .if1 .left)
     (c .if2 .left)
 
 pub candidate-spec : {M : Type 1} → statement M

@@ -19,12 +19,12 @@ use Rattle.ports_resolved.proofs.claims.Statement.{statement}
 use Rattle.ports_resolved.proofs.claims.Tie as tie
 
 abbrev Inv-loop : tie.InvT-loop
-Inv-loop other realms keys ports₀ i₀ ports i =
+Inv-loop other rows keys ports₀ i₀ ports i =
     (i ≤ maxProvisionKeys) × (i ≤ length keys)
-    × Lists claimRoom (i + 1) ports (pairs (take 2 ports₀) ++ map (resolveIn other (reached (pairs realms))) (take i keys))
+    × Lists claimRoom (i + 1) ports (pairs (take 2 ports₀) ++ map (resolveIn other (reached (pairs rows))) (take i keys))
 
 abbrev μ-loop : tie.MeasureT-loop
-μ-loop other realms keys ports₀ i₀ ports i = length keys - i
+μ-loop other rows keys ports₀ i₀ ports i = length keys - i
 
 array-write-list : tie.Need-array-write-list Inv-loop μ-loop
 array-write-list c = search needs
@@ -86,8 +86,8 @@ loop-again : tie.Need-loop-again Inv-loop μ-loop
 loop-again c =
     let at = c .before .before .before .before .before in
     let a = at .before .before .before .args in
-    let f = resolveIn (a .other) (reached (pairs (a .realms .now))) in
-    let e = resolve-with (reached (pairs (a .realms .now))) _ _ _ _ (c .resolve .ensures) (c .before .new .ensures) in (
+    let f = resolveIn (a .other) (reached (pairs (a .rows .now))) in
+    let e = resolve-with (reached (pairs (a .rows .now))) _ _ _ _ (c .resolve .ensures) (c .before .new .ensures) in (
       omega arith,
       omega arith,
       lists-key f (a .anchor ∷ []) (a .keys .now) (at .loop .i) (at .loop .inv .2) (omega arith) e (omega arith) (omega arith)

@@ -16,13 +16,13 @@ use Rattle.ports_resolved.proofs.declared.Statement.{statement}
 use Rattle.ports_resolved.proofs.declared.Tie as tie
 
 abbrev Inv-loop : tie.InvT-loop
-Inv-loop other realms keys ports₀ i₀ ports i =
+Inv-loop other rows keys ports₀ i₀ ports i =
     (i ≤ maxDependencyKeys) × (i ≤ length keys)
-    × (stored ports₀ 0 (declaredOf other (reached (pairs realms)) keys)
-    ≡ stored ports i (map (resolveIn other (reached (pairs realms))) (drop i (take maxDependencyKeys keys))))
+    × (stored ports₀ 0 (declaredOf other (reached (pairs rows)) keys)
+    ≡ stored ports i (map (resolveIn other (reached (pairs rows))) (drop i (take maxDependencyKeys keys))))
 
 abbrev μ-loop : tie.MeasureT-loop
-μ-loop other realms keys ports₀ i₀ ports i = length keys - i
+μ-loop other rows keys ports₀ i₀ ports i = length keys - i
 
 loop-holds : tie.Need-loop-holds Inv-loop μ-loop
 loop-holds c = (omega arith, omega arith, refl)
@@ -31,7 +31,7 @@ returns : tie.Need-returns Inv-loop μ-loop
 returns c =
     let at = c .before .before in
     let a = at .before .before .before .args in
-    stored-all (resolveIn (a .other) (reached (pairs (a .realms .now)))) (a .keys .now) (at .loop .list)
+    stored-all (resolveIn (a .other) (reached (pairs (a .rows .now)))) (a .keys .now) (at .loop .list)
     (at .loop .i) _ _ (omega (arith, length-take maxDependencyKeys (a .keys .now))) (omega (arith, length-take maxDependencyKeys (a .keys .now)))
     (at .loop .inv .2)
 
@@ -78,15 +78,15 @@ loop-again : tie.Need-loop-again Inv-loop μ-loop
 loop-again c =
     let at = c .before .before .before .before .before in
     let a = at .before .before .before .args in
-    let f = resolveIn (a .other) (reached (pairs (a .realms .now))) in
-    let e = resolve-with (reached (pairs (a .realms .now))) _ _ _ _ (c .resolve .ensures) (c .before .new .ensures) in
+    let f = resolveIn (a .other) (reached (pairs (a .rows .now))) in
+    let e = resolve-with (reached (pairs (a .rows .now))) _ _ _ _ (c .resolve .ensures) (c .before .new .ensures) in
     (omega arith, omega arith, at .loop .inv .2 ∙ stored-next f (a .keys .now) (at .loop .list) (at .loop .i) _ (omega arith) (omega arith) e)
 
 returns-2 : tie.Need-returns-2 Inv-loop μ-loop
 returns-2 c =
     let at = c .before in
     let a = at .before .before .before .args in
-    stored-all (resolveIn (a .other) (reached (pairs (a .realms .now)))) (a .keys .now) (at .loop .list)
+    stored-all (resolveIn (a .other) (reached (pairs (a .rows .now)))) (a .keys .now) (at .loop .list)
     (at .loop .i) _ _ (omega (arith, length-take maxDependencyKeys (a .keys .now))) (omega (arith, length-take maxDependencyKeys (a .keys .now)))
     (at .loop .inv .2)
 
