@@ -78,8 +78,9 @@ maskWord = 23
 abbrev pub valuesWord : ℕ
 valuesWord = 24
 
-abbrev pub realmRowsWord : ℕ
-realmRowsWord = 39
+-- the realm list: edition, default, rows
+abbrev pub editionWord : ℕ
+editionWord = 39
 
 abbrev pub placeWords : ℕ
 placeWords = 72
@@ -137,5 +138,6 @@ anchorWord m i = rowWord (startAt m i + depsAt m i)
 abbrev pub provPart : List ℕ → ℕ → List ℕ
 provPart m i = part m (anchorWord m i + rowWords) (provsAt m i * rowWords)
 
+-- edition and default are as long as a row
 abbrev pub realmPart : List ℕ → ℕ → List ℕ
-realmPart m i = part m (i * placeWords + realmRowsWord) (realmsAt m i * rowWords)
+realmPart m i = part m (i * placeWords + editionWord) ((realmsAt m i + 1) * rowWords)

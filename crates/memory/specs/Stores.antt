@@ -14,7 +14,7 @@ use Rattle.rules_laws.specs.Laws.Tests.{by-test}
 use Rattle.rules.specs.Limits.{maxRows, maxProvisionKeys, maxDependencies, maxRealmRows}
 use Rattle.memory.specs.Layout.{word, part, taken, idAt, startAt, depsAt, provsAt, realmsAt, rowWord, anchorWord, memoryWords, placeWords, places, idWord}
 use Rattle.memory.specs.Layout.{tagWord, parentWord, revisionWord, firstRowWord, dependenciesWord, provisionsWord, realmsWord, maskWord, valuesWord}
-use Rattle.memory.specs.Layout.{realmRowsWord, placeEnd, rowWords, domainWord, firstWord, nextWord, occupancyWord}
+use Rattle.memory.specs.Layout.{editionWord, placeEnd, rowWords, domainWord, firstWord, nextWord, occupancyWord}
 use Rattle.memory.specs.View.{lifeAt, pluginAt, placeAt, placesFrom, view}
 use Rattle.memory.specs.Writes.{putLife, renewedAt}
 use Rattle.memory.specs.Lives.{renewedLife}
@@ -60,10 +60,10 @@ module _ (m m′ : List ℕ) (j : ℕ) (h : j < places) (l : length m ≡ memory
         let f : anchorWord m j + 0 ≡ anchorWord m j = omega arith in
         sym (ap (word m′) e) ∙ behind 0 (omega arith) ∙ ap (word m) f;
     anchor-realm = behind 1 (omega arith);
-    realms = rw realms-kept (part-same m m′ (j * placeWords + realmRowsWord) (j * placeWords + realmRowsWord) (realmsAt m j * rowWords) (omega arith)
+    realms = rw realms-kept (part-same m m′ (j * placeWords + editionWord) (j * placeWords + editionWord) ((realmsAt m j + 1) * rowWords) (omega arith)
         (omega arith)
-        (λ k u. let e : j * placeWords + realmRowsWord + k ≡ j * placeWords + (realmRowsWord + k) = omega arith in
-        rw e (back (realmRowsWord + k) (omega arith) (omega arith))));
+        (λ k u. let e : j * placeWords + editionWord + k ≡ j * placeWords + (editionWord + k) = omega arith in
+        rw e (back (editionWord + k) (omega arith) (omega arith))));
     dependencies =
         ap (λ n. part m′ (rowWord (startAt m′ j)) (n * rowWords)) deps-kept
         ∙ part-same m m′ (rowWord (startAt m′ j)) (rowWord (startAt m j)) (depsAt m j * rowWords) (omega arith) (omega arith) (λ k u. rows k (omega arith));

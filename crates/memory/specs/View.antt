@@ -5,14 +5,14 @@ use mathlib.Core.List.{List, [], _∷_}
 use mathlib.Core.Option.{Option, none, some}
 use lib.Dec.{eqb}
 use Rattle.rules.specs.Basics.{pick}
-use Rattle.rules.specs.Holds.{port, Provision, Plugin, Places, Registry, defaultRealm}
+use Rattle.rules.specs.Holds.{port, Provision, Plugin, Places, Registry}
 use Rattle.rules.specs.Generations.{generationOf}
 use Rattle.rules.specs.declared.Port.{Port}
 use Rattle.rules.specs.declared.Phase.{Phase}
 use Rattle.rules.specs.declared.Phase.the-variants.{Idle, Loading, Active, Unloading}
 use Rattle.rules.specs.declared.Root.{Root}
 use Rattle.rules.specs.declared.Root.the-variants.{Unissued, Queued, Spent}
-use Rattle.rules.specs.Ports.{pairs}
+use Rattle.rules.specs.Ports.{pairs, realmList}
 use Rattle.memory.specs.Layout.{word, taken, idAt, anchorWord, depPart, provPart, realmPart, placeWords, places, domainWord, firstWord, nextWord, tagWord}
 use Rattle.memory.specs.Layout.{parentWord, revisionWord, payloadWord, phaseWord, retiredWord, generationWord, rootWord, rootRevisionWord}
 use Rattle.memory.specs.Layout.{rootArgumentWord, maskWord, valuesWord}
@@ -80,7 +80,7 @@ pluginAt m i = record {
   id = idAt m i;
   parent = parentAt m i;
   anchor = anchorAt m i;
-  realms = record { rows = pairs (realmPart m i); other = defaultRealm };
+  realms = realmList (realmPart m i);
   dependencies = pairs (depPart m i);
   provisions = valued m i 0 (pairs (provPart m i));
   revision = lifeAt m i .revision;

@@ -48,7 +48,12 @@ pub const MASK: usize = 23;
 
 pub const VALUES: usize = 24;
 
-pub const REALM_ROWS: usize = 39;
+// The realm list: edition, default, rows.
+pub const EDITION: usize = 39;
+
+pub const DEFAULT: usize = 40;
+
+pub const REALM_ROWS: usize = 41;
 
 pub const PLACE_WORDS: usize = 72;
 

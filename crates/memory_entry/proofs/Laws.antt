@@ -8,7 +8,7 @@ use lib.ListN.{length, getD, set, drop, drop-of-length-le}
 use lib.Seq.{drop-cons}
 use borrow.Author.Tests.{le-leb, lt-leb}
 use Rattle.rules.specs.Limits.{maxRows, maxDependencies}
-use Rattle.memory.specs.Layout.{rowWord, placeWords, nextWord, idWord, realmRowsWord, rowWords}
+use Rattle.memory.specs.Layout.{rowWord, placeWords, nextWord, idWord, editionWord, rowWords}
 use Rattle.memory.specs.Writes.{puts}
 use Rattle.memory_places.specs.Changes.{occupiedAt}
 use Rattle.memory_entry.specs.Entries.{entryWords, filledPlace}
@@ -35,9 +35,29 @@ puts-next m ws b k h =
 pub puts-end : (m ws : List ℕ) (b k : ℕ) → length ws ≤ k → puts m b k (drop k ws) ≡ m
 puts-end m ws b k h = rw (drop-of-length-le ws h)
 
+-- numbers stored behind two others
+puts-later : (vs m : List ℕ) (a k j : ℕ) → puts m (a + k) j vs ≡ puts m a (k + j) vs
+puts-later [] m a k j = refl
+puts-later (v ∷ vs) m a k j =
+    let e : a + k + j ≡ a + (k + j) = omega arith in
+    let f : k + (j + 1) ≡ k + j + 1 = omega arith in
+    ap (λ i. puts (set m i v) (a + k) (j + 1) vs) e
+    ∙ puts-later vs (set m (a + (k + j)) v) a k (j + 1)
+    ∙ ap (λ n. puts (set m (a + (k + j)) v) a n vs) f
+
+pub puts-led : (m rows : List ℕ) (b v w : ℕ)
+    → puts (set (set m (b + editionWord) v) (b + (editionWord + 1)) w) (b + (editionWord + 2)) 0 rows ≡ puts m (b + editionWord) 0 (v ∷ w ∷ rows)
+puts-led m rows b v w =
+    let e : b + (editionWord + 2) ≡ b + editionWord + 2 = omega arith in
+    let f : b + editionWord ≡ b + editionWord + 0 = omega arith in
+    let g : b + (editionWord + 1) ≡ b + editionWord + (0 + 1) = omega arith in
+    ap (λ a. puts (set (set m (b + editionWord) v) (b + (editionWord + 1)) w) a 0 rows) e
+    ∙ puts-later rows (set (set m (b + editionWord) v) (b + (editionWord + 1)) w) (b + editionWord) 2 0
+    ∙ (λ x. puts (set (set m (f x) v) (g x) w) (b + editionWord) 2 rows)
+
 -- the writer's steps, one after the other
 pub fill-steps : (m m₁ m₂ m₃ m₄ m₅ : List ℕ) (p : ℕ) (e : Entry) (ds cs zs : List ℕ) → e .start ≤ maxRows → length ds ≤ maxDependencies * rowWords
-    → m₁ ≡ puts m (rowWord (e .start)) 0 ds → m₂ ≡ puts m₁ (rowWord (e .start) + length ds) 0 cs → m₃ ≡ puts m₂ (p * placeWords + realmRowsWord) 0 zs
+    → m₁ ≡ puts m (rowWord (e .start)) 0 ds → m₂ ≡ puts m₁ (rowWord (e .start) + length ds) 0 cs → m₃ ≡ puts m₂ (p * placeWords + editionWord) 0 (e .edition ∷ e .default ∷ zs)
     → m₄ ≡ puts m₃ (p * placeWords) idWord (entryWords e) → m₅ ≡ occupiedAt (set m₄ nextWord (e .next)) p → m₅ ≡ filledPlace m p e ds cs zs
 unfolding filledPlace
 fill-steps m m₁ m₂ m₃ m₄ m₅ p e ds cs zs a b e₁ e₂ e₃ e₄ e₅ = rw (le-leb _ _ a, le-leb _ _ b) (rw (e₅, e₄, e₃, e₂, e₁))

@@ -13,17 +13,17 @@ use lib.ListN.{length, getD, drop, length-take, length-drop}
 use lib.Seq.{getD-take, getD-drop, ext-getD}
 use borrow.Author.Tests.{eqb-true, eqb-false}
 use Rattle.rules.specs.Basics.{pick}
-use Rattle.rules.specs.Holds.{Plugin, neverBegun, defaultRealm}
+use Rattle.rules.specs.Holds.{Plugin, neverBegun}
 use Rattle.rules.specs.Generations.{generationOf}
 use Rattle.rules.specs.declared.Port.{Port}
 use Rattle.rules.specs.declared.Phase.the-variants.{Idle}
 use Rattle.rules.specs.declared.Root.the-variants.{Unissued}
-use Rattle.rules.specs.Ports.{pairs}
+use Rattle.rules.specs.Ports.{pairs, realmList}
 use Rattle.rules.specs.Registration.{unoffered}
 use Rattle.rules.specs.Limits.{maxRows, maxProvisionKeys, maxDependencies, maxRealmRows}
 use Rattle.memory.specs.Layout.{word, taken, idAt, startAt, depsAt, provsAt, realmsAt, part, rowWord, depPart, provPart, realmPart, memoryWords, placeWords}
 use Rattle.memory.specs.Layout.{places, rowsStart, idWord, tagWord, parentWord, revisionWord, payloadWord, phaseWord, retiredWord, generationWord, rootWord}
-use Rattle.memory.specs.Layout.{rootRevisionWord, rootArgumentWord, firstRowWord, dependenciesWord, provisionsWord, realmsWord, maskWord, realmRowsWord}
+use Rattle.memory.specs.Layout.{rootRevisionWord, rootArgumentWord, firstRowWord, dependenciesWord, provisionsWord, realmsWord, maskWord, editionWord}
 use Rattle.memory.specs.Layout.{placeEnd, rowWords}
 use Rattle.memory.specs.View.{parentOf, lifeAt, decoded, valueAt, valued, pluginAt}
 use Rattle.memory.specs.Frames.{Kept, withLife, plugin-kept}
@@ -33,7 +33,7 @@ use Rattle.memory_places.specs.Rows.{rowsAt}
 use Rattle.memory_places.specs.Taken.{taken-below}
 use Rattle.memory_rows.specs.Dense.{startWord, used, Dense, start-is}
 
--- What is written of a new plugin: d dependencies, an anchor and c provisions, z realm rows, each as key, realm, key, realm.
+-- What is written of a new plugin: d dependencies, an anchor and c provisions, and a realm list with its edition, its default and z rows.
 pub record Newcomer : Type 0 where
   pub id : ℕ
   pub tag : ℕ
@@ -44,8 +44,14 @@ pub record Newcomer : Type 0 where
   pub anchor : Port
   pub c : ℕ
   pub provisions : List ℕ
+  pub edition : ℕ
+  pub default : ℕ
   pub z : ℕ
   pub realms : List ℕ
+
+-- its realm list's numbers
+abbrev pub listWords : Newcomer → List ℕ
+listWords n = n .edition ∷ n .default ∷ n .realms
 
 -- as the rules have it
 abbrev pub newPluginOf : Newcomer → Plugin
@@ -53,7 +59,7 @@ newPluginOf n = record {
   id = n .id;
   parent = parentOf (n .tag) (n .parent);
   anchor = n .anchor;
-  realms = record { rows = pairs (n .realms); other = defaultRealm };
+  realms = realmList (listWords n);
   dependencies = pairs (n .dependencies);
   provisions = map unoffered (pairs (n .provisions));
   revision = 0;
@@ -95,7 +101,7 @@ pub record Adds (m m′ : List ℕ) (p : ℕ) (n : Newcomer) : Type 0 where
   pub c : word m′ (p * placeWords + provisionsWord) ≡ n .c
   pub z : word m′ (p * placeWords + realmsWord) ≡ n .z
   pub mask : word m′ (p * placeWords + maskWord) ≡ 0
-  pub realms : (k : ℕ) → k < n .z * rowWords → word m′ (p * placeWords + realmRowsWord + k) ≡ getD (n .realms) k 0
+  pub realms : (k : ℕ) → k < (n .z + 1) * rowWords → word m′ (p * placeWords + editionWord + k) ≡ getD (listWords n) k 0
   pub dependencies : (k : ℕ) → k < n .d * rowWords → word m′ (rowWord (used m) + k) ≡ getD (n .dependencies) k 0
   pub anchor-key : word m′ (rowWord (used m + n .d)) ≡ n .anchor .key
   pub anchor-realm : word m′ (rowWord (used m + n .d) + 1) ≡ n .anchor .realm
@@ -230,10 +236,10 @@ module _ (m m′ : List ℕ) (p : ℕ) (n : Newcomer) (h : p < places) (free : t
       (part-list m′ (n .provisions) (rowWord (used m + n .d) + rowWords) (n .c * rowWords) (sized .provisions) (omega (arith, size′, sized .room))
       (r .provisions))
 
-  realms-part : realmPart m′ p ≡ n .realms
+  realms-part : realmPart m′ p ≡ listWords n
   realms-part =
       rw realms-new
-      (part-list m′ (n .realms) (p * placeWords + realmRowsWord) (n .z * rowWords) (sized .realms) (omega (arith, size′, sized .few-realms)) (r .realms))
+      (part-list m′ (listWords n) (p * placeWords + editionWord) ((n .z + 1) * rowWords) (omega (arith, sized .realms)) (omega (arith, size′, sized .few-realms)) (r .realms))
 
   life-new : lifeAt m′ p ≡ record { revision = 0; payload = n .payload; phase = Idle; retired = false; generation = generationOf neverBegun; root = Unissued }
   unfolding lifeAt decoded

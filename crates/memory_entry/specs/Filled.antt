@@ -13,7 +13,7 @@ use borrow.Author.Tests.{le-leb}
 use Rattle.rules.specs.Outcomes.{adds, after}
 use Rattle.rules_laws.specs.Laws.Tests.{by-test}
 use Rattle.rules.specs.Limits.{maxRows, maxDependencies}
-use Rattle.memory.specs.Layout.{word, taken, idAt, rowWord, memoryWords, placeWords, places, nextWord, rowsStart, idWord, realmRowsWord, placeEnd, rowWords}
+use Rattle.memory.specs.Layout.{word, taken, idAt, rowWord, memoryWords, placeWords, places, nextWord, rowsStart, idWord, editionWord, placeEnd, rowWords}
 use Rattle.memory.specs.Layout.{domainWord, firstWord, occupancyWord}
 use Rattle.memory.specs.View.{placeAt, view}
 use Rattle.memory.specs.Writes.{puts}
@@ -25,7 +25,7 @@ use Rattle.memory_places.specs.Free.{free-at}
 use Rattle.memory_places.specs.Placed.{taken-place, free-place, places-added}
 use Rattle.memory_entry.specs.Entries.{entryWords, filledPlace}
 use Rattle.memory_rows.specs.Dense.{used, Dense}
-use Rattle.memory_entry.specs.Addition.{Newcomer, newPluginOf, Sized, Adds, added-dense, added-other, added-plugin}
+use Rattle.memory_entry.specs.Addition.{Newcomer, listWords, newPluginOf, Sized, Adds, added-dense, added-other, added-plugin}
 use Rattle.memory_entry.specs.declared.Entry.{Entry}
 
 -- on any words, there are as many afterwards
@@ -35,13 +35,14 @@ filled-size m p e ds cs zs =
     let r = rowWord (e .start) in
     let m₁ = puts m r 0 ds in
     let m₂ = puts m₁ (r + length ds) 0 cs in
-    let m₃ = puts m₂ (p * placeWords + realmRowsWord) 0 zs in
+    let zs′ = e .edition ∷ e .default ∷ zs in
+    let m₃ = puts m₂ (p * placeWords + editionWord) 0 zs′ in
     let m₄ = puts m₃ (p * placeWords) idWord (entryWords e) in
     by-test (leb (e .start) maxRows)
     (λ t. by-test (leb (length ds) (maxDependencies * rowWords))
     (λ u. rw (t, u) (
     occupied-length (set m₄ nextWord (e .next)) p ∙ length-set m₄ nextWord (e .next) ∙ puts-length (entryWords e) m₃ (p * placeWords) idWord
-    ∙ puts-length zs m₂ (p * placeWords + realmRowsWord) 0 ∙ puts-length cs m₁ (r + length ds) 0 ∙ puts-length ds m r 0))
+    ∙ puts-length zs′ m₂ (p * placeWords + editionWord) 0 ∙ puts-length cs m₁ (r + length ds) 0 ∙ puts-length ds m r 0))
     (λ f. rw (t, f)))
     (λ f. rw f)
 
@@ -56,6 +57,8 @@ entryOf n start next = record {
   dependencies = n .d;
   provisions = n .c;
   realms = n .z;
+  edition = n .edition;
+  default = n .default;
   next = next;
 }
 
@@ -76,7 +79,7 @@ module _ (m : List ℕ) (p : ℕ) (n : Newcomer) (next : ℕ) (lowest : freeAt m
   m₂ = puts m₁ (R + length (n .dependencies)) 0 (claimWords n)
 
   abbrev m₃ : List ℕ
-  m₃ = puts m₂ (p * placeWords + realmRowsWord) 0 (n .realms)
+  m₃ = puts m₂ (p * placeWords + editionWord) 0 (listWords n)
 
   abbrev m₄ : List ℕ
   m₄ = puts m₃ (p * placeWords) idWord (entryWords E)
@@ -104,7 +107,7 @@ module _ (m : List ℕ) (p : ℕ) (n : Newcomer) (next : ℕ) (lowest : freeAt m
   size₂ = puts-length (claimWords n) m₁ (R + length (n .dependencies)) 0 ∙ size₁
 
   size₃ : length m₃ ≡ memoryWords
-  size₃ = puts-length (n .realms) m₂ (p * placeWords + realmRowsWord) 0 ∙ size₂
+  size₃ = puts-length (listWords n) m₂ (p * placeWords + editionWord) 0 ∙ size₂
 
   size₄ : length m₄ ≡ memoryWords
   size₄ = puts-length (entryWords E) m₃ (p * placeWords) idWord ∙ size₃
@@ -120,7 +123,7 @@ module _ (m : List ℕ) (p : ℕ) (n : Newcomer) (next : ℕ) (lowest : freeAt m
   outside : (k : ℕ) → (p * placeWords + idWord ≤ k → k < p * placeWords + placeEnd → ⊥) → word m₄ k ≡ word m₂ k
   outside k f =
       puts-apart (entryWords E) m₃ (p * placeWords) idWord k (λ a b. f (omega arith) (omega arith))
-      ∙ puts-apart (n .realms) m₂ (p * placeWords + realmRowsWord) 0 k (λ a b. f (omega arith) (omega (arith, z .realms, z .few-realms)))
+      ∙ puts-apart (listWords n) m₂ (p * placeWords + editionWord) 0 k (λ a b. f (omega arith) (omega (arith, z .realms, z .few-realms)))
 
   -- a word in front of the new rows
   front : (k : ℕ) → k < R → word m₂ k ≡ word m k
@@ -168,11 +171,11 @@ module _ (m : List ℕ) (p : ℕ) (n : Newcomer) (next : ℕ) (lowest : freeAt m
     z = own 14 (lit< tt);
     mask = own 15 (lit< tt);
     realms = λ k a.
-        let e : p * placeWords + realmRowsWord + k ≡ p * placeWords + realmRowsWord + (0 + k) = omega arith in
-        late (p * placeWords + realmRowsWord + k) (omega arith)
-        ∙ puts-after (entryWords E) m₃ (p * placeWords) idWord (p * placeWords + realmRowsWord + k) (omega arith)
+        let e : p * placeWords + editionWord + k ≡ p * placeWords + editionWord + (0 + k) = omega arith in
+        late (p * placeWords + editionWord + k) (omega arith)
+        ∙ puts-after (entryWords E) m₃ (p * placeWords) idWord (p * placeWords + editionWord + k) (omega arith)
         ∙ ap (word m₃) e
-        ∙ puts-same (n .realms) m₂ (p * placeWords + realmRowsWord) 0 k (omega (arith, z .realms)) (omega (arith, size₂, z .realms, z .few-realms, h));
+        ∙ puts-same (listWords n) m₂ (p * placeWords + editionWord) 0 k (omega (arith, z .realms)) (omega (arith, size₂, z .realms, z .few-realms, h));
     dependencies = λ k a.
         let e : R + k ≡ R + (0 + k) = omega arith in
         row (R + k) (omega arith)

@@ -1,8 +1,9 @@
 // A new plugin in the registry's memory: its rows behind all others, its words at its place, and the place taken.
 ghost use mathlib.Core.Path.{_≡_};
-ghost use Prim.Native.Nat.{_*_, _%_, _<_};
+ghost use mathlib.Core.List.{_∷_};
+ghost use Prim.Native.Nat.{_+_, _*_, _%_, _<_};
 ghost use Rattle.memory.specs.Writes.{puts};
-ghost use Rattle.memory.specs.Layout.{placeWords, places, idWord};
+ghost use Rattle.memory.specs.Layout.{placeWords, places, idWord, editionWord};
 ghost use Rattle.memory_entry.specs.Entries.{entryWords, filledPlace};
 use memory::WORDS;
 use memory::layout;
@@ -26,6 +27,8 @@ pub struct Entry {
     pub dependencies: u64,
     pub provisions: u64,
     pub realms: u64,
+    pub edition: u64,
+    pub default: u64,
     pub next: u64,
 }
 
@@ -45,6 +48,17 @@ fn put_words(m: &mut [u64; WORDS], from: usize, words: &[u64])
         m[from + k] = words[k];
         k += 1;
     }
+}
+
+// A realm list: its edition and default, and the rows behind them.
+fn put_realms(m: &mut [u64; WORDS], place: usize, edition: u64, default: u64, rows: &[u64])
+    requires { ⌜ place < places ⌝ }
+    ensures { λ _. ⌜ now (m .exit) ≡ puts (now (m .entry)) (place * placeWords + editionWord) 0 (edition ∷ default ∷ now (rows .entry)) ⌝ }
+{
+    let b = place * PLACE_WORDS;
+    m[b + layout::EDITION] = edition;
+    m[b + layout::DEFAULT] = default;
+    put_words(m, b + layout::REALM_ROWS, rows);
 }
 
 fn store_entry(m: &mut [u64; WORDS], place: usize, e: Entry)
@@ -93,7 +107,7 @@ pub fn fill_place(
     let row = (start as usize) * ROW_WORDS + ROWS_START;
     put_words(m, row, dependencies);
     put_words(m, row + dependencies.len(), claims);
-    put_words(m, p * PLACE_WORDS + layout::REALM_ROWS, realms);
+    put_realms(m, p, e.edition, e.default, realms);
     store_entry(m, p, e);
     m[layout::NEXT] = e.next;
     memory_places::occupy(m, p);

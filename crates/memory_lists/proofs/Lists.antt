@@ -5,7 +5,7 @@ use mathlib.Core.Path.{_≡_}
 use mathlib.Core.List.{List}
 use Rattle.rules.specs.Holds.{port}
 use Rattle.rules.specs.declared.Port.{Port}
-use Rattle.memory.specs.Layout.{word, part, startAt, depsAt, provsAt, realmsAt, depPart, provPart, realmPart, placeWords, realmRowsWord, rowWords, rowWord}
+use Rattle.memory.specs.Layout.{word, part, startAt, depsAt, provsAt, realmsAt, depPart, provPart, realmPart, placeWords, editionWord, rowWords, rowWord}
 use Rattle.memory.specs.View.{anchorAt}
 
 module _ (m l : List ℕ) (j s d : ℕ) (e : s ≡ startAt m j) (f : d ≡ depsAt m j) where
@@ -17,7 +17,7 @@ module _ (m l : List ℕ) (j s d : ℕ) (e : s ≡ startAt m j) (f : d ≡ depsA
       let k : rowWord (s + d + 1) ≡ rowWord (s + d) + rowWords = omega arith in
       rw (k, e, f, g) at h
 
-pub realm-words : (m l : List ℕ) (j n : ℕ) → n ≡ realmsAt m j → l ≡ part m (j * placeWords + realmRowsWord) (n * rowWords) → l ≡ realmPart m j
+pub realm-words : (m l : List ℕ) (j n : ℕ) → n ≡ realmsAt m j → l ≡ part m (j * placeWords + editionWord) ((n + 1) * rowWords) → l ≡ realmPart m j
 realm-words m l j n e h = rw e at h
 
 pub anchor-words : (m : List ℕ) (j s d : ℕ) (q : Port) → s ≡ startAt m j → d ≡ depsAt m j

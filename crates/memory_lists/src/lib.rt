@@ -64,7 +64,7 @@ pub fn realm_rows(m: &[u64; WORDS], place: usize) -> usize
     at_most(m[b + layout::REALMS] as usize, limits::REALM_ROWS)
 }
 
-// The words of a plugin's dependencies, provisions and realm rows.
+// The words of a plugin's dependencies, provisions and realm list, which edition and default lead.
 pub fn dependency_words(m: &[u64; WORDS], place: usize) -> &[u64]
     ensures { λ r. ⌜ now r ≡ depPart (now (m .entry)) (place % places) ⌝ }
 {
@@ -84,8 +84,8 @@ pub fn provision_words(m: &[u64; WORDS], place: usize) -> &[u64]
 pub fn realm_words(m: &[u64; WORDS], place: usize) -> &[u64]
     ensures { λ r. ⌜ now r ≡ realmPart (now (m .entry)) (place % places) ⌝ }
 {
-    let from = place % PLACES * PLACE_WORDS + layout::REALM_ROWS;
-    let count = realm_rows(m, place) * ROW_WORDS;
+    let from = place % PLACES * PLACE_WORDS + layout::EDITION;
+    let count = (realm_rows(m, place) + 1) * ROW_WORDS;
     some_words(m, from, count)
 }
 

@@ -4,7 +4,7 @@ use mathlib.Core.List.{List, [], _∷_}
 use lib.ListN.{length, replicate}
 use Rattle.rules.specs.Basics.{isSome, orElse, yesNo}
 use Rattle.rules.specs.Conditions.{claims}
-use Rattle.rules.specs.Holds.{Plugin, Registry, plugins, rowsOf}
+use Rattle.rules.specs.Holds.{Plugin, Registry, plugins, rowsOf, editionNumber, defaultOf}
 use Rattle.rules.specs.Ports.{flat}
 use Rattle.memory.specs.Known.{lifeOf}
 use Rattle.memory.specs.Layout.{memoryWords}
@@ -29,6 +29,8 @@ entryFor p start next = record {
   dependencies = length (p .dependencies);
   provisions = length (p .provisions);
   realms = length (p .realms .rows);
+  edition = editionNumber (p .realms .edition);
+  default = defaultOf (p .realms .edition);
   next = next;
 }
 

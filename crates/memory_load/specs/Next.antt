@@ -15,7 +15,7 @@ use Rattle.rules.specs.Limits.{maxRows, maxDependencies}
 use Rattle.rules_laws.specs.Laws.Tests.{by-test}
 use Rattle.memory.specs.Layout.{word, taken, idAt, startAt, rowWord, memoryWords, placeWords, places, domainWord, firstWord, nextWord, occupancyWord, idWord}
 use Rattle.memory.specs.Layout.{revisionWord, payloadWord, phaseWord, retiredWord, generationWord, rootWord, rootRevisionWord, rootArgumentWord, firstRowWord}
-use Rattle.memory.specs.Layout.{realmRowsWord, rowWords}
+use Rattle.memory.specs.Layout.{editionWord, rowWords}
 use Rattle.memory.specs.View.{wordsAt, decoded, lifeAt, pluginAt, placeAt, placesFrom, view}
 use Rattle.memory.specs.Writes.{puts}
 use Rattle.memory.specs.Frames.{plugin-kept, withLife}
@@ -25,7 +25,7 @@ use Rattle.memory_places.specs.Changes.{freeAt, occupiedAt}
 use Rattle.memory_places.specs.Placed.{places-same}
 use Rattle.memory_rows.specs.Dense.{used, Dense}
 use Rattle.memory_entry.specs.Entries.{entryWords, filledPlace}
-use Rattle.memory_entry.specs.Addition.{Newcomer, newPluginOf, Sized}
+use Rattle.memory_entry.specs.Addition.{Newcomer, listWords, newPluginOf, Sized}
 use Rattle.memory_entry.specs.Filled.{filled-size, entryOf, claimWords, filled-view}
 
 -- The places don't read the word of the next id.
@@ -78,7 +78,7 @@ module _ (m : List ℕ) (p : ℕ) (x : Newcomer) (lowest : freeAt m ≡ At p) (d
 
   -- all but the next id
   abbrev rest : List ℕ
-  rest = occupiedAt (puts (puts rows (p * placeWords + realmRowsWord) 0 (x .realms)) (p * placeWords) idWord (entryWords (entryOf x (used m) 0))) p
+  rest = occupiedAt (puts (puts rows (p * placeWords + editionWord) 0 (listWords x)) (p * placeWords) idWord (entryWords (entryOf x (used m) 0))) p
 
   abbrev filled : ℕ → List ℕ
   filled n = filledPlace m p (entryOf x (used m) n) (x .dependencies) (claimWords x) (x .realms)

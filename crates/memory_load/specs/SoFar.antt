@@ -7,7 +7,7 @@ use mathlib.Core.Logic.{_≢_, _⊎_, inl, inr, ⊎-elim}
 use mathlib.Core.List.{List, [], _∷_, _++_}
 use lib.ListN.{length, length-append, length-replicate}
 use Rattle.rules.specs.Conditions.{listsShort}
-use Rattle.rules.specs.Holds.{Plugin, Registry, plugins, rowsOf, sumRows, rowsInUse, defaultRealm}
+use Rattle.rules.specs.Holds.{Plugin, Registry, plugins, rowsOf, sumRows, rowsInUse}
 use Rattle.rules.specs.Limits.{maxPlugins, maxRows}
 use Rattle.rules.specs.Load.{inPlaces}
 use Rattle.rules.specs.Outcomes.{withPlaces, atLowestFree}
@@ -106,7 +106,7 @@ module _ (domain first next : ℕ) where
 
   -- one plugin more
   module _ {from : ℕ} {done : List Plugin} {m : List ℕ} (f : SoFar domain first next from done m) (p : Plugin) (rises : from ≤ p .id)
-      (place : length done < maxPlugins) (short : listsShort p ≡ true) (default : p .realms .other ≡ defaultRealm)
+      (place : length done < maxPlugins) (short : listsShort p ≡ true)
       (room : sumRows done + rowsOf p ≤ maxRows) where
     abbrev m′ : ℕ → List ℕ
     m′ start = loadedPlugin m (length done) start next p
@@ -119,12 +119,12 @@ module _ (domain first next : ℕ) where
     new j t e = omega (arith, f .lower (pluginAt m j) (stands m done (f .few) (f .registry) j t))
 
     more-dense : Dense (m′ (sumRows done))
-    more-dense = subst (λ s. Dense (m′ s)) (f .rows) (loaded-dense m (length done) next p (f .dense) (f .free place) short default fits new)
+    more-dense = subst (λ s. Dense (m′ s)) (f .rows) (loaded-dense m (length done) next p (f .dense) (f .free place) short fits new)
 
     more-view : view (m′ (sumRows done)) ≡ inPlaces (said (done ++ p ∷ []))
     more-view =
         sym (ap (λ s. view (m′ s)) (f .rows))
-        ∙ loaded-view m (length done) next p (f .dense) (f .free place) short default fits new
+        ∙ loaded-view m (length done) next p (f .dense) (f .free place) short fits new
         ∙ ap (λ r. withPlaces r next (atLowestFree p (r .places))) (f .registry)
         ∙ ap (λ ps. record { domain = domain; first = first; next = next; places = ps }) (placed-more maxPlugins done p place)
 

@@ -11,13 +11,14 @@ use lib.ListN.{length, length-map}
 use borrow.Author.Tests.{leb-true}
 use Rattle.rules.specs.Basics.{isSome, orElse, yesNo}
 use Rattle.rules.specs.Conditions.{listsShort, claims}
-use Rattle.rules.specs.Holds.{Provision, Plugin, provided, rowsOf, defaultRealm, withProvisions}
+use Rattle.rules.specs.Holds.{Provision, Plugin, provided, rowsOf, withProvisions, editionNumber, defaultOf}
 use Rattle.rules.specs.declared.Port.{Port}
 use Rattle.rules.specs.Limits.{maxRows, maxDependencies, maxProvisionKeys, maxRealmRows}
 use Rattle.rules.specs.Outcomes.{atLowestFree, withPlaces}
 use Rattle.rules.specs.Ports.{pairs, flat}
 use Rattle.rules.specs.Registration.{unoffered}
 use Rattle.rules_laws.specs.Laws.Pairs.{length-flat, pairs-flat}
+use Rattle.rules_laws.specs.Laws.Realms.{realm-list-back}
 use Rattle.rules_laws.specs.Laws.Tests.{both}
 use Rattle.memory.specs.Known.{lifeOf}
 use Rattle.memory.specs.Layout.{word, taken, idAt, provPart, placeWords, places, occupancyWord, idWord}
@@ -55,6 +56,8 @@ newcomer p = record {
   anchor = p .anchor;
   c = length (p .provisions);
   provisions = flat (provided p);
+  edition = editionNumber (p .realms .edition);
+  default = defaultOf (p .realms .edition);
   z = length (p .realms .rows);
   realms = flat (p .realms .rows);
 }
@@ -64,12 +67,12 @@ pub parent-back : (o : Option ℕ) → parentOf (yesNo (isSome o)) (orElse o 0) 
 parent-back none = refl
 parent-back (some x) = refl
 
-whole-plugin : (p : Plugin) → p .realms .other ≡ defaultRealm → withProvisions (p .provisions) (withLife (newPluginOf (newcomer p)) (lifeOf p)) ≡ p
-whole-plugin p default = λ x. record {
+whole-plugin : (p : Plugin) → withProvisions (p .provisions) (withLife (newPluginOf (newcomer p)) (lifeOf p)) ≡ p
+whole-plugin p = λ x. record {
   id = p .id;
   parent = parent-back (p .parent) x;
   anchor = p .anchor;
-  realms = record { rows = pairs-flat (p .realms .rows) x; other = sym default x };
+  realms = realm-list-back (p .realms) x;
   dependencies = pairs-flat (p .dependencies) x;
   provisions = p .provisions;
   revision = p .revision;
@@ -100,7 +103,7 @@ short-few p short =
     record { realms = leb-true _ _ (b .0); dependencies = leb-true _ _ (b .1); provisions = leb-true _ _ (a .1) }
 
 module _ (m : List ℕ) (i next : ℕ) (p : Plugin) (dense : Dense m) (lowest : freeAt m ≡ At i) (short : listsShort p ≡ true)
-    (default : p .realms .other ≡ defaultRealm) (room : used m + rowsOf p ≤ maxRows) (new : (j : ℕ) → taken m j ≡ true → idAt m j ≢ p .id) where
+    (room : used m + rowsOf p ≤ maxRows) (new : (j : ℕ) → taken m j ≡ true → idAt m j ≢ p .id) where
   h : i < places
   h = free-at m i lowest .below
 
@@ -166,7 +169,7 @@ module _ (m : List ℕ) (i next : ℕ) (p : Plugin) (dense : Dense m) (lowest : 
   plugin₃ : pluginAt m₃ i ≡ p
   plugin₃ =
       put-plugin m₂ i h (dense₂ .size) (p .provisions) (few .provisions) ports
-      ∙ ap (withProvisions (p .provisions)) plugin₂ ∙ whole-plugin p default
+      ∙ ap (withProvisions (p .provisions)) plugin₂ ∙ whole-plugin p
 
   taken₃ : (j : ℕ) → taken m₃ j ≡ taken m₁ j
   taken₃ j = put-taken m₂ i h (dense₂ .size) (maskOf (p .provisions)) (valuesOf (p .provisions)) j ∙ taken₂ j

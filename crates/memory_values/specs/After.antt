@@ -24,7 +24,7 @@ use Rattle.rules.specs.Limits.{maxRows, maxProvisionKeys, maxDependencies, maxR
 use Rattle.memory.specs.Layout.{word, taken, startAt, depsAt, provsAt, realmsAt, rowWord, anchorWord, depPart, provPart, realmPart, memoryWords, placeWords}
 use Rattle.memory.specs.Layout.{places, rowsStart, idWord, tagWord, parentWord, revisionWord, payloadWord, phaseWord, retiredWord, generationWord, rootWord}
 use Rattle.memory.specs.Layout.{rootRevisionWord, rootArgumentWord, firstRowWord, dependenciesWord, provisionsWord, realmsWord, maskWord, valuesWord}
-use Rattle.memory.specs.Layout.{realmRowsWord, placeEnd, occupancyWord}
+use Rattle.memory.specs.Layout.{editionWord, placeEnd, occupancyWord}
 use Rattle.memory.specs.View.{wordsAt, decoded, lifeAt, valueAt, valued, pluginAt}
 use Rattle.memory.specs.Frames.{part-same, plugin-kept, withLife}
 use Rattle.memory.specs.Stores.{kept-frame}
@@ -36,7 +36,7 @@ use Rattle.memory_values.specs.Firsts.{port-least}
 
 -- Only the mask and the values of place i change.
 abbrev pub Others : List ℕ → List ℕ → ℕ → Type 0
-Others m m′ i = (n : ℕ) → (i * placeWords + maskWord ≤ n → n < i * placeWords + realmRowsWord → ⊥) → word m′ n ≡ word m n
+Others m m′ i = (n : ℕ) → (i * placeWords + maskWord ≤ n → n < i * placeWords + editionWord → ⊥) → word m′ n ≡ word m n
 
 module _ (m m′ : List ℕ) (i : ℕ) (h : i < places) (l : length m ≡ memoryWords) (l′ : length m′ ≡ memoryWords) (same : Others m m′ i) where
   words-stay : (k : ℕ) → wordsAt m′ k ≡ wordsAt m k
@@ -104,8 +104,8 @@ module _ (m m′ : List ℕ) (i : ℕ) (h : i < places) (l : length m ≡ memory
   realm-part : realmPart m′ i ≡ realmPart m i
   realm-part =
       rw realms-stay
-      (part-same m m′ (i * placeWords + realmRowsWord) (i * placeWords + realmRowsWord) (realmsAt m i * 2) (omega arith) (omega arith)
-      (λ k u. same (i * placeWords + realmRowsWord + k) (λ a b. omega arith)))
+      (part-same m m′ (i * placeWords + editionWord) (i * placeWords + editionWord) ((realmsAt m i + 1) * 2) (omega arith) (omega arith)
+      (λ k u. same (i * placeWords + editionWord + k) (λ a b. omega arith)))
 
   anchor-key : word m′ (anchorWord m′ i) ≡ word m (anchorWord m i)
   anchor-key = rw (start-stays i, deps-stay) (row-stays (anchorWord m i) (omega arith))

@@ -31,14 +31,8 @@ add-put-words c = search needs
 put-words-requires-2 : tie.Need-put-words-requires-2
 put-words-requires-2 c κs = search needs
 
-mul-put-words : tie.Need-mul-put-words
-mul-put-words c = search needs
-
-add-put-words-2 : tie.Need-add-put-words-2
-add-put-words-2 c = search needs
-
-put-words-requires-3 : tie.Need-put-words-requires-3
-put-words-requires-3 c κs = search needs
+put-realms-requires : tie.Need-put-realms-requires
+put-realms-requires c κs = search needs
 
 store-entry-requires : tie.Need-store-entry-requires
 store-entry-requires c κs = search needs
@@ -58,7 +52,7 @@ returns-3 c =
     (s .if2 .left)
     (c .before .before .before .before .before .before .before .before .put-words .ensures)
     (c .before .before .before .before .before .before .put-words2 .ensures)
-    (c .before .before .before .before .put-words3 .ensures)
+    (c .before .before .before .before .put-realms .ensures)
     (c .before .before .store-entry .ensures)
     (c .occupy .ensures)
 
@@ -73,9 +67,7 @@ fill-place-spec =
     put-words-requires
     add-put-words
     put-words-requires-2
-    mul-put-words
-    add-put-words-2
-    put-words-requires-3
+    put-realms-requires
     store-entry-requires
     element-write-m
     occupy-requires

@@ -15,6 +15,9 @@ add-from c = search needs
 realm-rows-requires : tie.Need-realm-rows-requires
 realm-rows-requires c κs = search needs
 
+add-count : tie.Need-add-count
+add-count c = search needs
+
 mul-count : tie.Need-mul-count
 mul-count c = search needs
 
@@ -29,4 +32,4 @@ returns c =
 pub realm-words-spec : {M : Type 1} → statement M
 realm-words-spec =
     tie.close
-    (tie.spec mul-from add-from realm-rows-requires mul-count some-words-requires returns)
+    (tie.spec mul-from add-from realm-rows-requires add-count mul-count some-words-requires returns)
