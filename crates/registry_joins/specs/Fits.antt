@@ -10,17 +10,17 @@ use borrow.Author.Tests.{le-leb, le-ltb}
 use Rattle.rules.specs.Basics.{all}
 use Rattle.rules.specs.declared.Port.{Port}
 use Rattle.rules.specs.Holds.{Realms, Registry}
-use Rattle.rules.specs.Ports.{pairs, oddLength, rising, badRealms, realmsOf}
+use Rattle.rules.specs.Ports.{pairs, oddLength, rising, badRealms, rowsIn, realmList, realmsOf}
 use Rattle.rules.specs.Conditions.{resolvedIn}
 use Rattle.rules.specs.Limits.{maxRealmRows, maxDependencies}
 use Rattle.rules_laws.specs.Laws.Tests.{by-test}
 use Rattle.rules_load.specs.Joining.{portsFit}
 use Rattle.ports_given.specs.Given.{givenList}
 
--- The realm list passes row 4 and there are at most 48 dependencies; and the ports fit.
+-- The realm rows pass row 4 and there are at most 48 dependencies; and the ports fit.
 unfoldable pub lentFit : Registry → Option ℕ → Port → (realms provisions dependencies : List ℕ) → Bool
 lentFit r parent anchor realms provisions dependencies =
-    not (badRealms realms)
+    not (badRealms (rowsIn realms))
     && leb (length (pairs dependencies)) maxDependencies
     && portsFit r parent (realmsOf realms) anchor (pairs provisions) (pairs dependencies)
 
@@ -30,11 +30,11 @@ listsFit z anchor parents provisions dependencies = all (resolvedIn z) provision
 
 -- Of lists within the limits, whether the ports fit is all that is asked.
 pub lent-fit : (r : Registry) (parent : Option ℕ) (anchor : Port) (realms provisions dependencies : List ℕ)
-    → oddLength realms ≡ false → length (pairs realms) ≤ maxRealmRows → length (pairs dependencies) ≤ maxDependencies
+    → oddLength (rowsIn realms) ≡ false → length (pairs (rowsIn realms)) ≤ maxRealmRows → length (pairs dependencies) ≤ maxDependencies
     → lentFit r parent anchor realms provisions dependencies ≡ portsFit r parent (realmsOf realms) anchor (pairs provisions) (pairs dependencies)
-unfolding lentFit portsFit badRealms
+unfolding lentFit portsFit badRealms realmList
 lent-fit r parent anchor realms provisions dependencies even few short =
-    rw (even, le-ltb maxRealmRows (length (pairs realms)) few, le-leb (length (pairs dependencies)) maxDependencies short)
-    (by-test (rising (pairs realms))
+    rw (even, le-ltb maxRealmRows (length (pairs (rowsIn realms))) few, le-leb (length (pairs dependencies)) maxDependencies short)
+    (by-test (rising (pairs (rowsIn realms)))
     (λ y. rw y)
     (λ n. rw (n, and-false)))

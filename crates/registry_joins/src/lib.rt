@@ -1,10 +1,9 @@
 // Document 02 [4]: whether the ports of a text's plugin fit those that stand in the registry's memory already.
 ghost use mathlib.Core.Path.{_≡_};
-ghost use Rattle.rules.specs.Holds.{defaultRealm};
 ghost use Rattle.rules.specs.Ports.{pairs};
 ghost use Rattle.memory.specs.View.{view};
 ghost use Rattle.memory.specs.Writes.{parentId};
-ghost use Rattle.ports_realms.specs.Halving.{reachedWith};
+ghost use Rattle.ports_realms.specs.Halving.{reachedIn};
 ghost use Rattle.registry_joins.specs.Fits.{lentFit, listsFit};
 use memory::Parent;
 use memory::Place;
@@ -19,23 +18,18 @@ fn lists_fit(
     provisions: &[u64],
     dependencies: &[u64],
 ) -> bool
-    ensures { λ r. ⌜ r ≡ listsFit (reachedWith defaultRealm (now (realms .entry))) anchor (pairs (now (parents .entry)))
+    ensures { λ r. ⌜ r ≡ listsFit (reachedIn (now (realms .entry))) anchor (pairs (now (parents .entry)))
         (pairs (now (provisions .entry))) (pairs (now (dependencies .entry))) ⌝ }
 {
-    if !ports_given::resolved(Port::DEFAULT_REALM, realms, provisions) {
+    let other = ports_realms::default_realm(realms);
+    let rows = ports_realms::rows(realms);
+    if !ports_given::resolved(other, rows, provisions) {
         return false;
     }
-    ports_given::given(
-        Port::DEFAULT_REALM,
-        anchor,
-        realms,
-        provisions,
-        parents,
-        dependencies,
-    )
+    ports_given::given(other, anchor, rows, provisions, parents, dependencies)
 }
 
-// Its realm list passes row 4, its parent stands there, and its lists fit.
+// Its realm rows pass row 4, its parent stands there, and its lists fit.
 pub fn ports_fit(
     m: &[u64; WORDS],
     parent: Parent,
@@ -46,7 +40,7 @@ pub fn ports_fit(
 ) -> bool
     ensures { λ r. ⌜ r ≡ lentFit (view (now (m .entry))) (parentId parent) anchor (now (realms .entry)) (now (provisions .entry)) (now (dependencies .entry)) ⌝ }
 {
-    if ports_realms::bad_realms(realms) {
+    if ports_realms::bad_realms(ports_realms::rows(realms)) {
         return false;
     }
     let Parent::Of(id) = parent else {

@@ -1,6 +1,6 @@
 -- A block's words, and the plugin that they say: its life with no root Queued, and its ports.
 use Prim.Native.Nat.{ℕ, _≤_}
-use mathlib.Core.Path.{_≡_, refl, sym, ap, _∙_}
+use mathlib.Core.Path.{_≡_, refl, ap, _∙_}
 use mathlib.Core.Bool.{Bool, true, false}
 use mathlib.Core.List.{List, [], _∷_}
 use lib.Dec.{eqb}
@@ -9,13 +9,15 @@ use mir.Val.{boolByte}
 use Rattle.rules.specs.Basics.{pick, isSome, orElse, yesNo}
 use Rattle.rules.specs.Limits.{maxRealmRows, maxDependencies}
 use Rattle.rules.specs.declared.Port.{Port}
+use Rattle.rules.specs.declared.Edition.{Edition}
 use Rattle.rules.specs.declared.Root.{Root}
 use Rattle.rules.specs.declared.Root.the-variants.{Unissued, Queued, Spent}
-use Rattle.rules.specs.Holds.{Realms, Plugin, Registry, provided, defaultRealm}
-use Rattle.rules.specs.Ports.{oddLength, flat, realmsOf}
+use Rattle.rules.specs.Holds.{Plugin, Registry, provided, editionNumber, defaultOf}
+use Rattle.rules.specs.Ports.{oddLength, flat, realmNumbers}
 use Rattle.rules.specs.Queries.{phaseNumber}
 use Rattle.rules.specs.Load.{unqueuedRoot, unqueued}
 use Rattle.rules_laws.specs.Laws.Pairs.{pairs-flat}
+use Rattle.rules_laws.specs.Laws.Realms.{realm-list-back}
 use Rattle.rules_load.specs.Joining.{portsJoin}
 use Rattle.memory.specs.View.{parentOf, decoded}
 use Rattle.memory.specs.Writes.{rootTag, rootRevision, rootArgument, encoded}
@@ -33,8 +35,8 @@ unfoldable pub unqueuedTag : ℕ → ℕ
 unqueuedTag n = pick (eqb n 2) 2 0
 
 -- what is written of it beside its life and lists
-abbrev pub entryOf : Block → (rows next : ℕ) → Entry
-entryOf b rows next = record {
+abbrev pub entryOf : Block → Edition → (rows next : ℕ) → Entry
+entryOf b edition rows next = record {
   id = b .id;
   tag = b .tag;
   parent = b .parent;
@@ -43,6 +45,8 @@ entryOf b rows next = record {
   dependencies = b .dependencies;
   provisions = b .provisions;
   realms = b .realms;
+  edition = editionNumber edition;
+  default = defaultOf edition;
   next = next;
 }
 
@@ -98,14 +102,12 @@ flat-even : (l : List Port) → oddLength (flat l) ≡ false
 flat-even [] = refl
 flat-even (p ∷ l) = flat-even l
 
-realms-back : (z : Realms) → z .other ≡ defaultRealm → realmsOf (flat (z .rows)) ≡ z
-realms-back z e = λ x. record { rows = pairs-flat (z .rows) x; other = sym e x }
-
-pub ports-loaded : (r : Registry) (p : Plugin) → p .realms .other ≡ defaultRealm → length (p .realms .rows) ≤ maxRealmRows
-    → length (p .dependencies) ≤ maxDependencies
-    → lentFit r (parentOf (yesNo (isSome (p .parent))) (orElse (p .parent) 0)) (p .anchor) (flat (p .realms .rows)) (flat (provided p)) (flat (p .dependencies))
+pub ports-loaded : (r : Registry) (p : Plugin) → length (p .realms .rows) ≤ maxRealmRows → length (p .dependencies) ≤ maxDependencies
+    → lentFit r (parentOf (yesNo (isSome (p .parent))) (orElse (p .parent) 0)) (p .anchor) (realmNumbers (p .realms)) (flat (provided p))
+    (flat (p .dependencies))
     ≡ portsJoin r p
-ports-loaded r p default realms dependencies =
-    lent-fit r (parentOf (yesNo (isSome (p .parent))) (orElse (p .parent) 0)) (p .anchor) (flat (p .realms .rows)) (flat (provided p)) (flat (p .dependencies))
+ports-loaded r p realms dependencies =
+    lent-fit r (parentOf (yesNo (isSome (p .parent))) (orElse (p .parent) 0)) (p .anchor) (realmNumbers (p .realms)) (flat (provided p))
+    (flat (p .dependencies))
     (flat-even (p .realms .rows)) (rw (pairs-flat (p .realms .rows)) realms) (rw (pairs-flat (p .dependencies)) dependencies)
-    ∙ rw (parent-back (p .parent), realms-back (p .realms) default, pairs-flat (provided p), pairs-flat (p .dependencies))
+    ∙ rw (parent-back (p .parent), realm-list-back (p .realms), pairs-flat (provided p), pairs-flat (p .dependencies))

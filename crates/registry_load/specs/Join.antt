@@ -9,10 +9,12 @@ use mathlib.Core.Option.{Option}
 use lib.ListN.{length, getD, take, drop, length-drop}
 use lib.Seq.{take-all}
 use Rattle.rules.specs.declared.Port.{Port}
-use Rattle.rules.specs.Holds.{port, Plugin, Registry, rowsOf, defaultRealm}
-use Rattle.rules.specs.Ports.{pairs, flat}
+use Rattle.rules.specs.declared.Edition.{Edition}
+use Rattle.rules.specs.Holds.{port, Plugin, Registry, rowsOf}
+use Rattle.rules.specs.Ports.{pairs, flat, realmList, realmNumbers}
 use Rattle.rules.specs.Conditions.{claims}
 use Rattle.rules.specs.Load.{unqueued}
+use Rattle.rules_laws.specs.Laws.Realms.{realm-list-back}
 use Rattle.rules_laws.specs.Laws.Tests.{by-test}
 use Rattle.rules_load.specs.Joining.{portsJoin, lifeFits}
 use Rattle.rules_load.specs.Laws.Lists.{chained-true}
@@ -32,9 +34,9 @@ use Rattle.registry_load.specs.Blocks.{entryOf, loadedLife, life-loaded,
 use Rattle.registry_load.specs.Joined.{fits}
 use Rattle.registry_load.specs.Plugins.{Apart, tornBlock, unfitBlock, JoinRead, refused, joined}
 
--- A block's lists stand in front of the words that they went to; the anchor leads the claims.
+-- A block's lists stand in front of the words that they went to; edition and default lead the realms, the anchor the claims.
 abbrev pub realmsIn : Block → List ℕ → List ℕ
-realmsIn b words = take (b .realms * 2) words
+realmsIn b words = take (b .realms * 2 + 2) words
 
 abbrev pub neededIn : Block → List ℕ → List ℕ
 neededIn b words = take (b .dependencies * 2) words
@@ -73,22 +75,22 @@ module _ (r : Registry) (b : Block) (realms dependencies claims : List ℕ) (fro
 
 unfoldable pub blockPut : List ℕ → Block → (realms dependencies claims values : List ℕ) → (place rows next : ℕ) → List ℕ
 blockPut w b realms dependencies claims values place rows next =
-    loadedPlace w place (entryOf b rows next) (decoded (loadedLife b)) (realmsIn b realms) (neededIn b dependencies) (claimedIn b claims) (b .mask)
-    (take (b .provisions) values)
+    loadedPlace w place (entryOf b (realmList (realmsIn b realms) .edition) rows next) (decoded (loadedLife b)) (drop 2 (realmsIn b realms))
+    (neededIn b dependencies) (claimedIn b claims) (b .mask) (take (b .provisions) values)
 
 -- what is in use then
 abbrev pub joinedBy : Block → ℕ → Joined
 joinedBy b rows = record { next = b .next; rows = rows + b .dependencies + b .provisions + 1; from = b .id + 1 }
 
-pub put-by : (w : List ℕ) (b : Block) (realms dependencies claims values : List ℕ) (place rows next : ℕ) {e : Entry} {life : Life} {r d c v w′ : List ℕ}
-    → e ≡ entryOf b rows next → life ≡ decoded (loadedLife b) → r ≡ realmsIn b realms → d ≡ neededIn b dependencies → c ≡ claimedIn b claims
-    → v ≡ take (b .provisions) values → w′ ≡ loadedPlace w place e life r d c (b .mask) v → w′ ≡ blockPut w b realms dependencies claims values place rows next
+pub put-by : (w : List ℕ) (b : Block) (realms dependencies claims values : List ℕ) (place rows next : ℕ) {l : List ℕ} {o : Edition} {e : Entry} {life : Life} {r d c v w′ : List ℕ}
+    → l ≡ realmsIn b realms → o ≡ realmList l .edition → e ≡ entryOf b o rows next → life ≡ decoded (loadedLife b) → r ≡ drop 2 l
+    → d ≡ neededIn b dependencies → c ≡ claimedIn b claims → v ≡ take (b .provisions) values → w′ ≡ loadedPlace w place e life r d c (b .mask) v → w′ ≡ blockPut w b realms dependencies claims values place rows next
 unfolding blockPut
-put-by w b realms dependencies claims values place rows next e l r d c v put = put ∙ rw (e, l, r, d, c, v)
+put-by w b realms dependencies claims values place rows next listed o e l r d c v put = put ∙ rw (e, l, r, d, c, v, o, listed)
 
 -- the lent words are as many as the lists have room for
 pub record Rooms (l : Lent) : Type 0 where
-  pub realms : length (l .realms) ≡ 32
+  pub realms : length (l .realms) ≡ 34
   pub dependencies : length (l .dependencies) ≡ 96
   pub claims : length (l .claims) ≡ 32
   pub values : length (l .values) ≡ 15
@@ -98,7 +100,7 @@ module _ (p : Plugin) (n from next rows : ℕ) (before : Lent) (size : Rooms bef
   within : Within (blockOf p n) next rows
   within = counts-within (blockOf p n) from next rows (counts-by from next rows p n ∙ fit)
 
-  realms-are : realmsIn (blockOf p n) (listsOf before p .realms) ≡ flat (p .realms .rows)
+  realms-are : realmsIn (blockOf p n) (listsOf before p .realms) ≡ realmNumbers (p .realms)
   realms-are = realms-front p (before .realms) (size .realms) (within .few-realms)
 
   needed-are : neededIn (blockOf p n) (listsOf before p .dependencies) ≡ flat (p .dependencies)
@@ -107,9 +109,9 @@ module _ (p : Plugin) (n from next rows : ℕ) (before : Lent) (size : Rooms bef
   claimed-are : claimedIn (blockOf p n) (listsOf before p .claims) ≡ flat (claims p)
   claimed-are = claims-front p (before .claims) (size .claims) (within .few-provisions)
 
-  ports-are : (r : Registry) → p .realms .other ≡ defaultRealm
+  ports-are : (r : Registry)
       → portsBy r (blockOf p n) (listsOf before p .realms) (listsOf before p .dependencies) (listsOf before p .claims) ≡ portsJoin r p
-  ports-are r default = rw (realms-are, needed-are, claimed-are) (ports-loaded r p default (within .few-realms) (within .few-dependencies))
+  ports-are r = rw (realms-are, needed-are, claimed-are) (ports-loaded r p (within .few-realms) (within .few-dependencies))
 
   put-is : (w : List ℕ) (place : ℕ) → place < places
       → blockPut w (blockOf p n) (listsOf before p .realms) (listsOf before p .dependencies) (listsOf before p .claims) (listsOf before p .values)
@@ -120,18 +122,19 @@ module _ (p : Plugin) (n from next rows : ℕ) (before : Lent) (size : Rooms bef
     mod-eq-of-lt h,
     life-loaded p n,
     realms-are,
+    realm-list-back (p .realms),
     needed-are,
     claimed-are,
     mask-whole p (within .few-provisions),
     values-front p (before .values) (size .values) (within .few-provisions),
   )
 
-fits-are : (w : List ℕ) (p : Plugin) (n from next rows : ℕ) (before : Lent) → Rooms before → p .realms .other ≡ defaultRealm
+fits-are : (w : List ℕ) (p : Plugin) (n from next rows : ℕ) (before : Lent) → Rooms before
     → blockFits (view w) (blockOf p n) (listsOf before p .realms) (listsOf before p .dependencies) (listsOf before p .claims) from next rows
     ≡ fits w from next rows p
 unfolding blockFits fits
-fits-are w p n from next rows before size default = by-test (countsFit from next rows p)
-    (λ y. rw (counts-by from next rows p n, y, life-by p n, ports-are p n from next rows before size y (view w) default))
+fits-are w p n from next rows before size = by-test (countsFit from next rows p)
+    (λ y. rw (counts-by from next rows p n, y, life-by p n, ports-are p n from next rows before size y (view w)))
     (λ f. rw (counts-by from next rows p n, f))
 
 abbrev refusal : Joined
@@ -149,14 +152,14 @@ module _ (t : List ℕ) (at : ℕ) (w : List ℕ) (place from next rows : ℕ) (
     abbrev fit : Bool
     fit = blockFits (view w) b (after .realms) (after .dependencies) (after .claims) from next rows
 
-    fit-is : (p : Plugin) → p .realms .other ≡ defaultRealm → b ≡ blockOf p n → after ≡ listsOf before p → fit ≡ fits w from next rows p
-    fit-is p default i j = rw (i, j) (fits-are w p n from next rows before size default)
+    fit-is : (p : Plugin) → b ≡ blockOf p n → after ≡ listsOf before p → fit ≡ fits w from next rows p
+    fit-is p i j = rw (i, j) (fits-are w p n from next rows before size)
 
     pub join-unfit : {r : Joined} {w′ : List ℕ} → r ≡ refusal → fit ≡ false → JoinRead t at w place from next rows r w′
     join-unfit i f =
         let k = block-whole n x e in
         let p = k .0 in
-        refuses i (unfitBlock p n (k .2) (sym (fit-is p (k .1) (k .3) (k .4)) ∙ f))
+        refuses i (unfitBlock p n (k .1) (sym (fit-is p (k .2) (k .3)) ∙ f))
 
     pub join-within : fit ≡ true → Within b next rows
     unfolding blockFits
@@ -171,15 +174,15 @@ module _ (t : List ℕ) (at : ℕ) (w : List ℕ) (place from next rows : ℕ) (
     join-fits y h {r} {w′} said put =
         let k = block-whole n x e in
         let p = k .0 in
-        let z = sym (fit-is p (k .1) (k .3) (k .4)) ∙ y in
+        let z = sym (fit-is p (k .2) (k .3)) ∙ y in
         let counts = chained-true (countsFit from next rows p) (lifeFits p ∷ portsJoin (view w) p ∷ []) z .0 in
         let same : blockPut w b (after .realms) (after .dependencies) (after .claims) (after .values) (place % places) rows next
         ≡ blockPut w (blockOf p n) (listsOf before p .realms) (listsOf before p .dependencies) (listsOf before p .claims) (listsOf before p .values)
         (place % places) rows next =
-        ap (λ (c : Block). blockPut w c (after .realms) (after .dependencies) (after .claims) (after .values) (place % places) rows next) (k .3)
-        ∙ ap (λ (l : Lent). blockPut w (blockOf p n) (l .realms) (l .dependencies) (l .claims) (l .values) (place % places) rows next) (k .4) in
+        ap (λ (c : Block). blockPut w c (after .realms) (after .dependencies) (after .claims) (after .values) (place % places) rows next) (k .2)
+        ∙ ap (λ (l : Lent). blockPut w (blockOf p n) (l .realms) (l .dependencies) (l .claims) (l .values) (place % places) rows next) (k .3) in
         let written = put ∙ same ∙ put-is p n from next rows before size counts w place h in
         let i : rows + length (p .dependencies) + length (p .provisions) + 1 ≡ rows + rowsOf p = omega arith in
         let told : r ≡ record { next = At n; rows = rows + rowsOf p; from = p .id + 1 } =
-        said ∙ ap (λ (c : Block). joinedBy c rows) (k .3) ∙ (λ u. record { next = At n; rows = i u; from = p .id + 1 }) in
-        rw (written, told) (joined p n (k .1) (k .2) z)
+        said ∙ ap (λ (c : Block). joinedBy c rows) (k .2) ∙ (λ u. record { next = At n; rows = i u; from = p .id + 1 }) in
+        rw (written, told) (joined p n (k .1) z)

@@ -8,7 +8,7 @@ use lib.Dec.{leb}
 use lib.ListN.{length, drop, length-append, length-map}
 use borrow.Author.Tests.{leb-true, ltb-true}
 use Rattle.rules.specs.Limits.{maxPlugins, maxRows}
-use Rattle.rules.specs.Holds.{Plugin, plugins, rowsOf, sumRows, defaultRealm}
+use Rattle.rules.specs.Holds.{Plugin, plugins, rowsOf, sumRows}
 use Rattle.rules.specs.Text.{Said, block}
 use Rattle.rules.specs.Conditions.{listsShort, loadable}
 use Rattle.rules.specs.Load.{unqueued}
@@ -41,7 +41,7 @@ pub data Apart (t : List ℕ) (at : ℕ) (w : List ℕ) (from next rows : ℕ) :
 -- What is left of a block at a place: the plugin in the words, or nothing that is asked for again.
 pub data JoinRead (t : List ℕ) (at : ℕ) (w : List ℕ) (place from next rows : ℕ) : Joined → List ℕ → Type 0 where
   refused : (w′ : List ℕ) → Apart t at w from next rows → JoinRead t at w place from next rows (record { next = Torn; rows = 0; from = 0 }) w′
-  joined : (p : Plugin) (n : ℕ) → p .realms .other ≡ defaultRealm → Reads (block .read) t (At at) p (At n) → fits w from next rows p ≡ true
+  joined : (p : Plugin) (n : ℕ) → Reads (block .read) t (At at) p (At n) → fits w from next rows p ≡ true
       → JoinRead t at w place from next rows (record { next = At n; rows = rows + rowsOf p; from = p .id + 1 }) (loadedPlugin w place rows next (unqueued p))
 
 -- Some plugins have joined.
@@ -104,10 +104,10 @@ module _ (t : List ℕ) (at domain first next : ℕ) where
         unfit-refused w from next (f .done) p few held s (more .0) (f .ids ∙ ap (λ i. behindIds i (f .done)) (sym a)) (sym b)
         (more .1 ∙ append-assoc (f .done) (p ∷ []) (more .0)) (ap (λ r. fits w from next r p) (sym (f .used)) ∙ u)
 
-    pub plugins-more : (p : Plugin) (n : ℕ) → p .realms .other ≡ defaultRealm → Reads (block .read) t (At place) p (At n) → fits w from next rows p ≡ true
+    pub plugins-more : (p : Plugin) (n : ℕ) → Reads (block .read) t (At place) p (At n) → fits w from next rows p ≡ true
         → PluginsSoFar t at domain first next (loadedPlugin w k rows next (unqueued p)) n (rows + rowsOf p) (p .id + 1) (k + 1)
     unfolding joins
-    plugins-more p n default x y =
+    plugins-more p n x y =
         let done = f .done in
         let passes = fits-passes w from next done p few held (ap (λ r. fits w from next r p) (sym (f .used)) ∙ y) in
         let asked = chained-true (leb from (p .id))
@@ -115,7 +115,7 @@ module _ (t : List ℕ) (at domain first next : ℕ) where
         let same : sumRows (map unqueued done) ≡ rows = rows-unqueued done ∙ sym (f .used) in
         let size : length (map unqueued done) ≡ k = length-map done unqueued ∙ sym (f .count) in
         let room = leb-true (sumRows done + rowsOf p) maxRows (asked .1 .0) in
-        let one = so-far-next domain first next (f .written) (unqueued p) (leb-true from (p .id) (asked .0)) (omega arith) (asked .1 .1 .0) default
+        let one = so-far-next domain first next (f .written) (unqueued p) (leb-true from (p .id) (asked .0)) (omega arith) (asked .1 .1 .0)
         (omega (arith, rows-unqueued done)) in
         record {
           done = done ++ p ∷ [];
@@ -138,15 +138,15 @@ module _ (t : List ℕ) (at domain first next : ℕ) where
     pub plugins-torn : {r : Joined} {w′ : List ℕ} → JoinRead t place w k from next rows r w′ → r .next ≡ Torn → (w″ : List ℕ)
         → PluginsRead t at count domain first next Torn w″
     plugins-torn (refused w′ a) e w″ = stopped w″ (plugins-stop a)
-    plugins-torn (joined p n default x y) e w″ = let z : _≡_ {A = ℕ} 0 1 = cc in absurd (omega arith)
+    plugins-torn (joined p n x y) e w″ = let z : _≡_ {A = ℕ} 0 1 = cc in absurd (omega arith)
 
     pub plugins-next : {r : Joined} {w′ : List ℕ} (n : ℕ) → JoinRead t place w k from next rows r w′ → r .next ≡ At n
         → PluginsSoFar t at domain first next w′ n (r .rows) (r .from) (k + 1)
     plugins-next n (refused w′ a) e = let z : _≡_ {A = ℕ} 0 1 = cc in absurd (omega arith)
-    plugins-next n (joined p m default x y) e =
+    plugins-next n (joined p m x y) e =
         let i : m ≡ n = cc in
         subst (λ (j : ℕ). PluginsSoFar t at domain first next (loadedPlugin w k rows next (unqueued p)) j (rows + rowsOf p) (p .id + 1) (k + 1)) i
-        (plugins-more p m default x y)
+        (plugins-more p m x y)
 
 -- Too many plugins, and a next id below the first.
 pub many-unfit : (t : List ℕ) (at count first next : ℕ) → at ≤ length t → maxPlugins < count → Unfit t at count first next

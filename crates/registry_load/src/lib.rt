@@ -21,6 +21,7 @@ use memory::WORDS;
 use memory::Words;
 use memory_entry::Entry;
 use rules::Done;
+use rules::Edition;
 use rules::limits;
 use rules::refusal;
 use text_read::Next;
@@ -119,8 +120,8 @@ fn unqueued(root: u64) -> u64
 }
 
 // What is written of a block's plugin beside its life and lists.
-fn entry(b: Block, rows: usize, next: u64) -> Entry
-    ensures { λ r. ⌜ r ≡ entryOf b rows next ⌝ }
+fn entry(b: Block, edition: Edition, rows: usize, next: u64) -> Entry
+    ensures { λ r. ⌜ r ≡ entryOf b edition rows next ⌝ }
 {
     Entry {
         id: b.id,
@@ -131,6 +132,8 @@ fn entry(b: Block, rows: usize, next: u64) -> Entry
         dependencies: b.dependencies,
         provisions: b.provisions,
         realms: b.realms,
+        edition: edition.number(),
+        default: edition.default(),
         next,
     }
 }
@@ -201,7 +204,7 @@ fn fits(
         w,
         memory::parent_from(b.tag, b.parent),
         ports::port_at(claimed, 0),
-        memory_lists::some_words(realms, 0, (b.realms as usize) * 2),
+        memory_lists::some_words(realms, 0, (b.realms as usize) * 2 + 2),
         memory_lists::some_words(claimed, 2, claimed.len()),
         memory_lists::some_words(dependencies, 0, (b.dependencies as usize) * 2),
     )
@@ -223,12 +226,13 @@ fn put(
     ensures { λ r. ⌜ (r ≡ joinedBy b rows) × (now (w .exit) ≡ blockPut (now (w .entry)) b (now (realms .entry)) (now (dependencies .entry))
         (now (claims .entry)) (now (values .entry)) (place % places) rows next) ⌝ }
 {
+    let listed = memory_lists::some_words(realms, 0, (b.realms as usize) * 2 + 2);
     memory_load::load_place(
         w,
         place,
-        entry(b, rows, next),
+        entry(b, ports_realms::edition(listed), rows, next),
         life(b),
-        memory_lists::some_words(realms, 0, (b.realms as usize) * 2),
+        ports_realms::rows(listed),
         memory_lists::some_words(dependencies, 0, (b.dependencies as usize) * 2),
         memory_lists::some_words(claims, 0, (b.provisions as usize) * 2 + 2),
         b.mask,

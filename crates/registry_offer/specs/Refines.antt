@@ -21,7 +21,7 @@ use Rattle.rules_laws.specs.Built.{Built}
 use Rattle.rules_laws.specs.Laws.Tests.{by-test, neither, checked-elim}
 use Rattle.memory.specs.Ways.{leftBy}
 use Rattle.memory.specs.Layout.{word, taken, idAt, depsAt, provsAt, provPart, memoryWords, placeWords, places, idWord, firstRowWord, dependenciesWord}
-use Rattle.memory.specs.Layout.{provisionsWord, realmsWord, maskWord, valuesWord, realmRowsWord, domainWord, firstWord, nextWord}
+use Rattle.memory.specs.Layout.{provisionsWord, realmsWord, maskWord, valuesWord, editionWord, domainWord, firstWord, nextWord}
 use Rattle.rules.specs.Limits.{maxProvisionKeys}
 use Rattle.memory.specs.View.{valueAt, pluginAt, placeAt, view}
 use Rattle.memory.specs.Writes.{findAt}
@@ -51,7 +51,7 @@ module _ (m : List ℕ) (i j v : ℕ) (d : Dense m) (h : i < places) (below : j 
   m′ = withValue m i j v
 
   -- only the mask and the values of the place change
-  same : (n : ℕ) → (i * placeWords + maskWord ≤ n → n < i * placeWords + realmRowsWord → ⊥) → word m′ n ≡ word m n
+  same : (n : ℕ) → (i * placeWords + maskWord ≤ n → n < i * placeWords + editionWord → ⊥) → word m′ n ≡ word m n
   unfolding withValue
   same n a = by-test (eqb (maskBit m i j) 1)
       (λ t. rw t)

@@ -8,16 +8,17 @@ use lib.ListN.{getD}
 use Rattle.rules.specs.Basics.{yesNo, one}
 use Rattle.rules.specs.declared.Port.{Port}
 use Rattle.rules.specs.declared.Phase.{Phase}
-use Rattle.rules.specs.Holds.{port, Plugin}
+use Rattle.rules.specs.declared.Edition.{Edition}
+use Rattle.rules.specs.Holds.{port, Plugin, editionNumber, defaultOf}
 use Rattle.rules.specs.Outcomes.{Answer, Refused, Accepted, answerOf, lentAfter}
-use Rattle.rules.specs.Ports.{pairs, flat}
-use Rattle.rules.specs.Queries.{Field, Parent, Anchor, PhaseOf, RetiredMark, phaseNumber, fieldOf, askPlugin}
+use Rattle.rules.specs.Ports.{pairs, flat, realmList}
+use Rattle.rules.specs.Queries.{Field, Parent, Anchor, EditionOf, PhaseOf, RetiredMark, phaseNumber, fieldOf, askPlugin}
 use Rattle.rules.specs.Dependencies.{firstPort, dependencyPort}
 use Rattle.rules.specs.Lists.{Which, listing, list}
 use Rattle.ports.specs.declared.Found.the-variants as found
 use Rattle.ports.specs.Answers.{firstFrom}
 use Rattle.ports.specs.Found.{first-port-law, first-port-none}
-use Rattle.memory.specs.Layout.{depPart, places}
+use Rattle.memory.specs.Layout.{depPart, realmPart, places}
 use Rattle.memory.specs.View.{parentAt, anchorAt, lifeAt, pluginAt, view}
 use Rattle.memory.specs.Writes.{findAt, parentId}
 use Rattle.memory.specs.Known.{at-place, lifeOf, life-of}
@@ -67,6 +68,12 @@ module _ (m : List ℕ) (id i : ℕ) (e : findAt m id ≡ At i) where
   pub anchor-answer : (q : Port) → q ≡ anchorAt m (i % places) → Accepted (flat (q ∷ [])) ≡ answerOf (askPlugin (view m) Anchor id)
   unfolding pluginAt
   anchor-answer q h = rw h (answer Anchor)
+
+  pub edition-answer : (l : List ℕ) → l ≡ realmPart m (i % places) → (o : Edition) → o ≡ realmList l .edition
+      → Accepted (editionNumber o ∷ defaultOf o ∷ []) ≡ answerOf (askPlugin (view m) EditionOf id)
+  unfolding pluginAt
+  edition-answer l h o g =
+      ap (λ (x : Edition). Accepted (editionNumber x ∷ defaultOf x ∷ [])) (g ∙ ap (λ x. realmList x .edition) h) ∙ answer EditionOf
 
   -- the port of a dependency key
   module _ (k : ℕ) (l : List ℕ) (h : l ≡ depPart m (i % places)) where

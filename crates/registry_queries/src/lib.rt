@@ -3,12 +3,13 @@ ghost use mathlib.Core.Path.{_≡_};
 ghost use Rattle.rules.specs.Dependencies.{dependencyPort};
 ghost use Rattle.rules.specs.Lists.{list, Dependencies, Provisions, RealmRows};
 ghost use Rattle.rules.specs.Outcomes.{answerOf, lentAfter, Meets};
-ghost use Rattle.rules.specs.Queries.{askPlugin, Parent, Anchor, PhaseOf, RetiredMark, Generation, Revision, Payload, RootOf};
+ghost use Rattle.rules.specs.Queries.{askPlugin, Parent, Anchor, EditionOf, PhaseOf, RetiredMark, Generation, Revision, Payload, RootOf};
 ghost use Rattle.rules.specs.Answers.{numberAnswer};
 ghost use Rattle.memory.specs.View.{view};
-ghost use Rattle.registry_queries.specs.Answers.{perhapsAnswer, portAnswer, rootAnswer};
+ghost use Rattle.registry_queries.specs.Answers.{perhapsAnswer, portAnswer, rootAnswer, editionAnswer};
 use memory::Place;
 use memory::WORDS;
+use rules::Edition;
 use rules::Number;
 use rules::Port;
 use rules::Root;
@@ -28,6 +29,11 @@ pub enum PortAnswer {
 
 pub enum RootAnswer {
     Is(Root),
+    Refused(u64),
+}
+
+pub enum EditionAnswer {
+    Is(Edition),
     Refused(u64),
 }
 
@@ -51,6 +57,16 @@ pub fn anchor(m: &[u64; WORDS], id: u64) -> PortAnswer
         return PortAnswer::Refused(refusal::UNKNOWN);
     };
     PortAnswer::Is(memory_lists::anchor(m, at))
+}
+
+// The edition of its realm list, with its default.
+pub fn edition(m: &[u64; WORDS], id: u64) -> EditionAnswer
+    ensures { λ r. ⌜ editionAnswer r ≡ answerOf (askPlugin (view (now (m .entry))) EditionOf id) ⌝ }
+{
+    let Place::At(at) = memory::find(m, id) else {
+        return EditionAnswer::Refused(refusal::UNKNOWN);
+    };
+    EditionAnswer::Is(ports_realms::edition(memory_lists::realm_words(m, at)))
 }
 
 // 0 Idle, 1 Loading, 2 Active, 3 Unloading.
@@ -163,5 +179,6 @@ pub fn list_realms(m: &[u64; WORDS], id: u64, place: usize, buffer: &mut [u64]) 
     let Place::At(at) = memory::find(m, id) else {
         return Number::Refused(refusal::UNKNOWN);
     };
-    ports_listed::list_ports(place, memory_lists::realm_words(m, at), buffer)
+    let realms = memory_lists::realm_words(m, at);
+    ports_listed::list_ports(place, ports_realms::rows(realms), buffer)
 }

@@ -6,11 +6,13 @@ use mathlib.Core.Path.{_≡_, sym, ap, _∙_}
 use mathlib.Core.Logic.{_≢_}
 use mathlib.Core.List.{List, [], _∷_}
 use mathlib.Core.Option.{Option}
-use lib.ListN.{length, take}
+use lib.ListN.{length, take, drop}
 use lib.Seq.{take-all}
 use borrow.Author.Tests.{eqb-false}
 use Rattle.rules.specs.Basics.{last}
+use Rattle.rules.specs.declared.Edition.{Edition}
 use Rattle.rules.specs.Holds.{rowsInUse}
+use Rattle.rules.specs.Ports.{realmList}
 use Rattle.rules.specs.Outcomes.{Refused, Accepted}
 use Rattle.rules_laws.specs.Laws.Tests.{Passed}
 use Rattle.memory.specs.Layout.{word, places, nextWord}
@@ -23,8 +25,8 @@ use Rattle.memory_entry.specs.declared.Entry.{Entry}
 use Rattle.rules.specs.Registration.{roomChecks}
 use Rattle.rules.specs.declared.Done.{Done}
 use Rattle.rules.specs.declared.Done.the-variants as done
-use Rattle.registry_register.specs.Verdicts.{verdict}
-use Rattle.registry_register.specs.Runs.{passes}
+use Rattle.rules.specs.Answers.{verdict}
+use Rattle.rules_laws.specs.Laws.Verdicts.{passes}
 use Rattle.registry_register.specs.Written.{newEntry, lateVerdict, settledAnswer, settledWords}
 
 -- as many rows as there are
@@ -58,12 +60,15 @@ module _ (m : List ℕ) (parent : Option ℕ) (payload count : ℕ) (ds cs zs : 
         let c : _≡_ {A = ℕ} 0 1 = cc in
         omega arith
 
-    pub settle-writes : (at : ℕ) → freeAt m ≡ At at → (b : ℕ) → b ≡ length cs / 2 - 1 → (n : Entry) → n ≡ newEntry m parent payload count b (length zs / 2)
-        → (m′ : List ℕ) → m′ ≡ filledPlace m (at % places) n ds cs zs
-        → (Accepted (n .id ∷ []) ≡ settledAnswer m count cs) × (m′ ≡ settledWords m parent payload count ds cs zs)
-    unfolding settledAnswer settledWords
-    settle-writes at f b g n h m′ s =
-        let t : lateVerdict m count cs ≡ done.Accepted = sym e ∙ z in
-        let p : at % places ≡ at = mod-eq-of-lt (free-at m at f .below) in
-        let k : n ≡ newEntry m parent payload count (length cs / 2 - 1) (length zs / 2) = h ∙ ap (λ x. newEntry m parent payload count x (length zs / 2)) g in
-        (rw t (ap (λ (x : Entry). Accepted (x .id ∷ [])) k), rw (t, f) (s ∙ ap (λ x. filledPlace m x n ds cs zs) p ∙ ap (λ x. filledPlace m at x ds cs zs) k))
+    module _ (at : ℕ) (f : freeAt m ≡ At at) (rows : List ℕ) (behind : rows ≡ drop 2 zs) (o : Edition) (read : o ≡ realmList zs .edition)
+        (b : ℕ) (g : b ≡ length cs / 2 - 1) (n : Entry) (h : n ≡ newEntry m parent payload o count b (length rows / 2))
+        (m′ : List ℕ) (s : m′ ≡ filledPlace m (at % places) n ds cs rows) where
+      entry-is : n ≡ newEntry m parent payload (realmList zs .edition) count (length cs / 2 - 1) (length (drop 2 zs) / 2)
+      entry-is = h ∙ (λ i. newEntry m parent payload (read i) count (g i) (length (behind i) / 2))
+
+      pub settle-writes : (Accepted (n .id ∷ []) ≡ settledAnswer m count cs) × (m′ ≡ settledWords m parent payload count ds cs zs)
+      unfolding settledAnswer settledWords
+      settle-writes =
+          let t : lateVerdict m count cs ≡ done.Accepted = sym e ∙ z in
+          let p : at % places ≡ at = mod-eq-of-lt (free-at m at f .below) in
+          (rw t (ap (λ (x : Entry). Accepted (x .id ∷ [])) entry-is), rw (t, f) (s ∙ (λ i. filledPlace m (p i) (entry-is i) ds cs (behind i))))

@@ -10,7 +10,7 @@ use lib.Seq.{take-all}
 use borrow.Author.Tests.{ltb-false, lt-ltb, leb-true, leb-false}
 use Rattle.rules.specs.Holds.{Registry, provided, rowsOf, rowsInUse}
 use Rattle.rules.specs.declared.Port.{Port}
-use Rattle.rules.specs.Ports.{pairs, flat, badRealms, realmsOf}
+use Rattle.rules.specs.Ports.{pairs, flat, badRealms, realmList, realmsOf}
 use Rattle.rules.specs.Dependencies.{dependencyList}
 use Rattle.rules.specs.Outcomes.{Refused, adds, answerOf}
 use Rattle.rules.specs.Registration.{Definition, parentOf, inheritedFrom, resolved, claimed, unoffered, dependenciesOf, newPlugin, claimChecks, roomChecks}
@@ -28,7 +28,7 @@ use Rattle.memory.specs.declared.Parent.the-variants as parents
 use Rattle.memory.specs.declared.Place.{Place}
 use Rattle.memory.specs.declared.Place.the-variants.{At, None}
 use Rattle.memory_places.specs.Changes.{freeAt}
-use Rattle.ports_realms.specs.Halving.{reached, reachedWith}
+use Rattle.ports_realms.specs.Halving.{reached}
 use Rattle.ports_realms.specs.Reached.{good-reached}
 use Rattle.ports.specs.Places.{length-pairs, length-flat, pairs-flat, flat-pairs-even}
 use Rattle.ports_realms.specs.Rows.{good-realms}
@@ -43,10 +43,11 @@ use Rattle.rules.specs.declared.Done.{Done}
 use Rattle.rules.specs.declared.Done.the-variants as done
 use Rattle.registry_register.specs.declared.checks.Early.{Early}
 use Rattle.registry_register.specs.declared.checks.Early.the-variants as early
-use Rattle.registry_register.specs.Verdicts.{verdict, under, placeAbove}
-use Rattle.registry_register.specs.Runs.{under-passed, under-refused, passes, RefusesWith, asks, claims, room, early-refuses, claims-refuse, late-refuses}
-use Rattle.registry_register.specs.Runs.{all-pass}
-use Rattle.registry_register.specs.Parts.{dependenciesAt}
+use Rattle.rules.specs.Answers.{verdict}
+use Rattle.rules_laws.specs.Laws.Verdicts.{passes, RefusesWith}
+use Rattle.registry_register.specs.Verdicts.{under, placeAbove}
+use Rattle.registry_register.specs.Runs.{under-passed, under-refused, asks, claims, room, early-refuses, claims-refuse, late-refuses, all-pass}
+use Rattle.registry_register.specs.Parts.{dependenciesAt, claimsIn, listIn}
 use Rattle.registry_register.specs.Written.{definition, newEntry, writtenAt, addedTo, lateVerdict, settledAnswer, settledWords}
 use Rattle.rules.specs.declared.Number.{Number}
 use Rattle.rules.specs.Answers.{numberAnswer}
@@ -91,7 +92,7 @@ module _ (m : List ℕ) (parent : Parent) (anchor : Port) (zs ks vs : List ℕ) 
     pub early-told : (n : ℕ) → v ≡ early.Refused n → (Refused n [] ≡ answerOf (register r d)) × (m ≡ addedTo m (register r d))
     early-told n z = refused n (early-refuses r d n (under-refused _ _ n (sym said ∙ z)))
 
-    module _ (above : Place) (passed : v ≡ early.Passed above) (c : Claimed) (made : c ≡ claimsOf 0 (reached (pairs zs)) anchor vs)
+    module _ (above : Place) (passed : v ≡ early.Passed above) (c : Claimed) (made : c ≡ claimsIn zs anchor vs)
         (cw : List ℕ) (front : cw ≡ take (c .count * 2) (c .ports)) where
       e : verdict (asks r d) ≡ done.Accepted
       e = under-passed (placeAbove m parent) (verdict (asks r d)) above (sym said ∙ passed) .0
@@ -99,11 +100,14 @@ module _ (m : List ℕ) (parent : Parent) (anchor : Port) (zs ks vs : List ℕ) 
       place : placeAbove m parent ≡ above
       place = under-passed (placeAbove m parent) (verdict (asks r d)) above (sym said ∙ passed) .1
 
-      good : badRealms zs ≡ false
-      good = passes (asks r d) e .0
+      good : badRealms (drop 2 zs) ≡ false
+      good = passes (asks r d) e .1 .0
+
+      reaches : reached (pairs (drop 2 zs)) ≡ pairs (drop 2 zs)
+      reaches = good-reached (drop 2 zs) good
 
       few : (ltb maxDependencyKeys (length ks) ≡ false) × (ltb maxProvisionKeys (length vs) ≡ false)
-      few = neither (ltb maxDependencyKeys (length ks)) (ltb maxProvisionKeys (length vs)) (passes (asks r d) e .1 .0)
+      few = neither (ltb maxDependencyKeys (length ks)) (ltb maxProvisionKeys (length vs)) (passes (asks r d) e .1 .1 .0)
 
       few-keys : length ks ≤ maxDependencyKeys
       few-keys = ltb-false _ _ (few .0)
@@ -112,10 +116,11 @@ module _ (m : List ℕ) (parent : Parent) (anchor : Port) (zs ks vs : List ℕ) 
       few-provisions = ltb-false _ _ (few .1)
 
       claim-words : cw ≡ flat (claimed d)
+      unfolding realmList
       claim-words =
           front
-          ∙ ap (λ (x : Claimed). take (x .count * 2) (x .ports)) (made ∙ ap (λ (rows : List Port). claimsOf 0 rows anchor vs) (good-reached zs good))
-          ∙ listed-words (claims-law 0 (pairs zs) anchor vs few-provisions)
+          ∙ ap (λ (x : Claimed). take (x .count * 2) (x .ports)) (made ∙ ap (λ (rows : List Port). claimsOf (realmsOf zs .other) rows anchor vs) reaches)
+          ∙ listed-words (claims-law (realmsOf zs .other) (pairs (drop 2 zs)) anchor vs few-provisions)
           ∙ ap (λ ps. flat (anchor ∷ ps)) (sym (map-resolve (realmsOf zs) vs))
 
       claim-ports : pairs cw ≡ claimed d
@@ -131,23 +136,20 @@ module _ (m : List ℕ) (parent : Parent) (anchor : Port) (zs ks vs : List ℕ) 
         pub claims-told : (n : ℕ) → t ≡ done.Refused n → (Refused n [] ≡ answerOf (register r d)) × (m ≡ addedTo m (register r d))
         claims-told n z = refused n (claims-refuse r d e n (sym taken ∙ z))
 
-        module _ (free : t ≡ done.Accepted) (pw : List ℕ) (rest : pw ≡ part cw 2 (length cw))
-            (iw : List ℕ) (rows : iw ≡ dependenciesAt m above)
-            (l : Dependencies) (listed : l ≡ fitted (dependencyList (reachedWith 0 zs) (pairs pw) anchor (take maxDependencyKeys ks) (pairs iw)))
-            (dw : List ℕ) (first : dw ≡ take (l .count * 2) (l .ports)) where
+        module _ (free : t ≡ done.Accepted) (l : Dependencies) (listed : l ≡ listIn m above anchor zs ks cw) (dw : List ℕ) (first : dw ≡ take (l .count * 2) (l .ports)) where
           none-taken : verdict (claims r d) ≡ done.Accepted
           none-taken = sym taken ∙ free
 
-          provisions : pairs pw ≡ resolved d vs
+          provisions : pairs (part cw 2 (length cw)) ≡ resolved d vs
           provisions =
-              ap pairs (rest ∙ take-all (length cw) (drop 2 cw) (simp length-drop (omega arith)) ∙ ap (drop 2) claim-words) ∙ pairs-flat (resolved d vs)
+              ap pairs (take-all (length cw) (drop 2 cw) (simp length-drop (omega arith)) ∙ ap (drop 2) claim-words) ∙ pairs-flat (resolved d vs)
 
           list : l ≡ fitted (dependenciesOf r d)
-          unfolding dependenciesOf
+          unfolding dependenciesOf realmList
           list =
               listed
-              ∙ ap fitted ((λ i. dependencyList (record { rows = good-reached zs good i; other = 0 }) (provisions i) anchor (take maxDependencyKeys ks)
-              ((ap pairs (rows ∙ ap (dependenciesAt m) (sym place)) ∙ inherits) i))
+              ∙ ap fitted ((λ i. dependencyList (record { rows = reaches i; other = realmsOf zs .other }) (provisions i) anchor (take maxDependencyKeys ks)
+              ((ap (λ p. pairs (dependenciesAt m p)) (sym place) ∙ inherits) i))
               ∙ dependency-law (realmsOf zs) (resolved d vs) anchor ks (inheritedFrom (parentOf r (parentId parent))) few-keys)
 
           late-is : lateVerdict m (l .count) cw ≡ verdict (room r d)
@@ -175,15 +177,17 @@ module _ (m : List ℕ) (parent : Parent) (anchor : Port) (zs ks vs : List ℕ) 
             all-claims : cw ≡ flat (anchor ∷ provided (newPlugin r d))
             all-claims = claim-words ∙ ap (λ ps. flat (anchor ∷ ps)) (sym (new-ports r d))
 
-            realm-words : zs ≡ flat (pairs zs)
-            realm-words = sym (flat-pairs-even zs (good-realms zs good .0))
+            realm-words : drop 2 zs ≡ flat (pairs (drop 2 zs))
+            realm-words = sym (flat-pairs-even (drop 2 zs) (good-realms (drop 2 zs) good .0))
 
-            written : writtenAt m (freeAt m) (newEntry m (parentId parent) payload (l .count) (length cw / 2 - 1) (length zs / 2)) dw cw zs
+            written : writtenAt m (freeAt m)
+                (newEntry m (parentId parent) payload (realmList zs .edition) (l .count) (length cw / 2 - 1) (length (drop 2 zs) / 2)) dw cw (drop 2 zs)
                 ≡ addedTo m (adds (newPlugin r d) (r .next ∷ []))
-            unfolding leftBy newPlugin
+            unfolding leftBy newPlugin realmList
             written = λ i.
-                writtenAt m (freeAt m) (newEntry m (parentId parent) payload (list-count i) (provision-count i) (sym (length-pairs zs) i)) (list-words i)
-                (all-claims i) (realm-words i)
+                writtenAt m (freeAt m)
+                (newEntry m (parentId parent) payload (realmList zs .edition) (list-count i) (provision-count i) (sym (length-pairs (drop 2 zs)) i))
+                (list-words i) (all-claims i) (realm-words i)
 
           pub settled-told : (x : Number) → numberAnswer x ≡ settledAnswer m (l .count) cw
               → (m′ : List ℕ) → m′ ≡ settledWords m (parentId parent) payload (l .count) dw cw zs

@@ -7,18 +7,19 @@ use mathlib.Core.Bool.{true}
 use mathlib.Core.List.{List, [], _∷_, map}
 use mathlib.Core.Option.{Option, none, some}
 use lib.Dec.{ltb}
-use lib.ListN.{length, length-map}
+use lib.ListN.{length, length-map, drop}
 use borrow.Author.Tests.{ltb-false}
-use Rattle.rules.specs.Holds.{Registry, rowsOf, rowsInUse}
-use Rattle.rules.specs.Ports.{pairs, flat, realmsOf, resolve}
+use Rattle.rules.specs.Holds.{Registry, rowsOf, rowsInUse, editionNumber, defaultOf}
+use Rattle.rules.specs.Ports.{flat, realmList, realmsOf, resolve}
 use Rattle.rules.specs.Outcomes.{Outcome, adds, after}
 use Rattle.rules.specs.Registration.{Definition, resolved, unoffered, dependenciesOf, newPlugin, registrationChecks, register}
 use Rattle.rules_laws.specs.Built.{Built}
 use Rattle.rules_laws.specs.Kept.New.{new-ports}
+use Rattle.rules_laws.specs.Laws.Realms.{realm-list-back}
 use Rattle.rules_laws.specs.Laws.Tests.{neither, Passed, checked-elim}
 use Rattle.memory.specs.Ways.{leftBy}
 use Rattle.memory.specs.Layout.{word, taken, idAt, nextWord}
-use Rattle.rules.specs.Limits.{maxRows, maxDependencies, maxDependencyKeys, maxProvisionKeys}
+use Rattle.rules.specs.Limits.{maxRows, maxDependencies, maxDependencyKeys, maxProvisionKeys, maxRealmRows}
 use Rattle.memory.specs.View.{parentOf, pluginAt, view}
 use Rattle.memory.specs.declared.Place.{Place}
 use Rattle.memory.specs.declared.Place.the-variants.{At, None}
@@ -62,23 +63,29 @@ module _ (m : List ℕ) (d : Definition) where
     anchor = d .anchor;
     c = length (map unoffered (resolved d (d .provisions)));
     provisions = flat (resolved d (d .provisions));
-    z = length (pairs (d .realms));
-    realms = flat (pairs (d .realms));
+    edition = editionNumber (realmList (d .realms) .edition);
+    default = defaultOf (realmList (d .realms) .edition);
+    z = length (realmList (d .realms) .rows);
+    realms = flat (realmList (d .realms) .rows);
   }
 
   same : newPluginOf n ≡ newPlugin r d
   unfolding newPlugin view
-  same = rw (parent-back (d .parent), pairs-flat (dependenciesOf r d), pairs-flat (resolved d (d .provisions)), pairs-flat (pairs (d .realms)))
+  same = rw (parent-back (d .parent), pairs-flat (dependenciesOf r d), pairs-flat (resolved d (d .provisions)), realm-list-back (realmList (d .realms)))
 
   module _ (dense : Dense m) (fresh : Fresh m) (p : Passed (registrationChecks r d)) where
     rows : rowsInUse r + rowsOf (newPlugin r d) ≤ maxRows
-    rows = ltb-false _ _ (p .1 .1 .1 .1 .1 .1 .1 .1 .1 .1 .1 .0)
+    rows = ltb-false _ _ (p .1 .1 .1 .1 .1 .1 .1 .1 .1 .1 .1 .1 .0)
 
     fits : length (dependenciesOf r d) ≤ maxDependencies
-    fits = ltb-false _ _ (p .1 .1 .1 .1 .1 .1 .1 .1 .1 .1 .0)
+    fits = ltb-false _ _ (p .1 .1 .1 .1 .1 .1 .1 .1 .1 .1 .1 .0)
 
     few : length (d .provisions) ≤ maxProvisionKeys
-    few = ltb-false _ _ (neither (ltb maxDependencyKeys (length (d .dependencies))) (ltb maxProvisionKeys (length (d .provisions))) (p .1 .0) .1)
+    few = ltb-false _ _ (neither (ltb maxDependencyKeys (length (d .dependencies))) (ltb maxProvisionKeys (length (d .provisions))) (p .1 .1 .0) .1)
+
+    few-rows : length (realmList (d .realms) .rows) ≤ maxRealmRows
+    unfolding realmList
+    few-rows = omega (arith, length-pairs (drop 2 (d .realms)), good-realms (drop 2 (d .realms)) (p .1 .0) .1)
 
     sized : Sized m n
     unfolding newPlugin
@@ -87,10 +94,10 @@ module _ (m : List ℕ) (d : Definition) where
         record {
           dependencies = omega (arith, length-flat (dependenciesOf r d));
           provisions = omega (arith, c, length-flat (resolved d (d .provisions)));
-          realms = omega (arith, length-flat (pairs (d .realms)));
+          realms = omega (arith, length-flat (realmList (d .realms) .rows));
           few-dependencies = fits;
           few-provisions = omega (arith, c, few, length-map (d .provisions) (resolve (realmsOf (d .realms))));
-          few-realms = omega (arith, length-pairs (d .realms), good-realms (d .realms) (p .0) .1);
+          few-realms = few-rows;
           room = omega (arith, rows, used-is m (dense .size), c);
         }
 
@@ -106,7 +113,7 @@ module _ (m : List ℕ) (d : Definition) where
     registered : (free : Place) → freeAt m ≡ free → Refines m (addedTo m o) o
     registered None e =
         let a = count-full m e in
-        let b = p .1 .1 .1 .1 .1 .1 .1 .1 .1 .0 in
+        let b = p .1 .1 .1 .1 .1 .1 .1 .1 .1 .1 .0 in
         let z : _≡_ {A = ℕ} 0 1 = cc in
         absurd (omega arith)
     registered (At at) e = rw (written at e) record {

@@ -1,10 +1,7 @@
--- What a run of the rule's checks comes to, in this crate's enums.
+-- What the early run of checks comes to, in this crate's enums.
 use Prim.Native.Nat.{ℕ}
-use mathlib.Core.List.{List, [], _∷_}
-use Rattle.rules.specs.Basics.{pick}
+use mathlib.Core.List.{List}
 use Rattle.rules.specs.Holds.{port}
-use Rattle.rules.specs.Refusals.{number}
-use Rattle.rules.specs.Outcomes.{Check}
 use Rattle.rules.specs.Registration.{Definition}
 use Rattle.memory.specs.Writes.{parentId, findAt}
 use Rattle.memory.specs.declared.Parent.{Parent}
@@ -16,12 +13,7 @@ use Rattle.rules.specs.declared.Done.the-variants as done
 use Rattle.registry_register.specs.declared.checks.Early.{Early}
 use Rattle.registry_register.specs.declared.checks.Early.the-variants as early
 
--- passed, or the number of the first check that refuses
-unfoldable pub verdict : List Check → Done
-verdict [] = done.Accepted
-verdict (c ∷ cs) = pick (c .test) (done.Refused (number (c .refusal))) (verdict cs)
-
--- the same under a parent at a place
+-- the verdict under a parent at a place
 abbrev pub under : Place → Done → Early
 under at done.Accepted = early.Passed at
 under at (done.Refused n) = early.Refused n

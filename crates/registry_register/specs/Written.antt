@@ -4,9 +4,10 @@ use mathlib.Core.Path.{_≡_, refl}
 use mathlib.Core.List.{List, [], _∷_}
 use mathlib.Core.Option.{Option}
 use lib.ListN.{length}
-use Rattle.rules.specs.Holds.{Plugin, provided, rowsInUse}
+use Rattle.rules.specs.Holds.{Plugin, provided, rowsInUse, editionNumber, defaultOf}
 use Rattle.rules.specs.declared.Port.{Port}
-use Rattle.rules.specs.Ports.{flat}
+use Rattle.rules.specs.declared.Edition.{Edition}
+use Rattle.rules.specs.Ports.{flat, rowsIn, realmList}
 use Rattle.rules.specs.Outcomes.{Answer, Refused, Accepted, Outcome}
 use Rattle.rules.specs.Registration.{Definition, roomChecks}
 use Rattle.memory.specs.Layout.{word, nextWord}
@@ -20,7 +21,7 @@ use Rattle.memory_places.specs.Changes.{freeAt}
 use Rattle.memory_entry.specs.Entries.{filledPlace}
 use Rattle.memory_entry.specs.Filled.{filled-size}
 use Rattle.memory_entry.specs.declared.Entry.{Entry}
-use Rattle.registry_register.specs.Verdicts.{verdict}
+use Rattle.rules.specs.Answers.{verdict}
 use Rattle.rules.specs.declared.Done.{Done}
 use Rattle.rules.specs.declared.Done.the-variants as done
 use Rattle.registry_register.specs.Parts.{tagOf, wordOf}
@@ -37,8 +38,8 @@ definition parent anchor realms dependencies provisions payload = record {
 }
 
 -- The words of a new plugin beside its lists: next id is its id, and its rows stand behind all others.
-abbrev pub newEntry : List ℕ → Option ℕ → ℕ → ℕ → ℕ → ℕ → Entry
-newEntry m parent payload dependencies provisions realms = record {
+abbrev pub newEntry : List ℕ → Option ℕ → ℕ → Edition → ℕ → ℕ → ℕ → Entry
+newEntry m parent payload edition dependencies provisions realms = record {
   id = word m nextWord;
   tag = tagOf parent;
   parent = wordOf parent;
@@ -47,6 +48,8 @@ newEntry m parent payload dependencies provisions realms = record {
   dependencies = dependencies;
   provisions = provisions;
   realms = realms;
+  edition = editionNumber edition;
+  default = defaultOf edition;
   next = word m nextWord + 1;
 }
 
@@ -58,7 +61,8 @@ writtenAt m None e dependencies claims realms = m
 -- The words after a registration: the new plugin stands at the lowest free place.
 abbrev pub entered : List ℕ → Plugin → List ℕ
 entered m q =
-    writtenAt m (freeAt m) (newEntry m (q .parent) (q .payload) (length (q .dependencies)) (length (q .provisions)) (length (q .realms .rows)))
+    writtenAt m (freeAt m)
+    (newEntry m (q .parent) (q .payload) (q .realms .edition) (length (q .dependencies)) (length (q .provisions)) (length (q .realms .rows)))
     (flat (q .dependencies)) (flat (q .anchor ∷ provided q)) (flat (q .realms .rows))
 
 abbrev pub adding : Way
@@ -85,7 +89,8 @@ settledAnswer m count claims = answerBy (lateVerdict m count claims) (word m nex
 unfoldable pub settledWords : List ℕ → Option ℕ → ℕ → ℕ → List ℕ → List ℕ → List ℕ → List ℕ
 settledWords m parent payload count dependencies claims realms =
     wordsBy (lateVerdict m count claims) m
-    (writtenAt m (freeAt m) (newEntry m parent payload count (length claims / 2 - 1) (length realms / 2)) dependencies claims realms)
+    (writtenAt m (freeAt m) (newEntry m parent payload (realmList realms .edition) count (length claims / 2 - 1) (length (rowsIn realms) / 2))
+    dependencies claims (rowsIn realms))
 
 -- what the late checks and the writing answer and leave
 abbrev pub Settles : List ℕ → Option ℕ → ℕ → ℕ → List ℕ → List ℕ → List ℕ → Answer → List ℕ → Type 0

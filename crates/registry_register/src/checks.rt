@@ -5,7 +5,8 @@ ghost use Rattle.rules.specs.Ports.{pairs};
 ghost use Rattle.rules.specs.Registration.{parentChecks, askedChecks, claimChecks, roomChecks};
 ghost use Rattle.memory.specs.View.{view};
 ghost use Rattle.memory.specs.Writes.{parentId};
-ghost use Rattle.registry_register.specs.Verdicts.{verdict, under, placeAbove, asked};
+ghost use Rattle.rules.specs.Answers.{verdict};
+ghost use Rattle.registry_register.specs.Verdicts.{under, placeAbove, asked};
 use memory::Parent;
 use memory::Place;
 use memory::WORDS;
@@ -43,7 +44,7 @@ fn parent_verdict(m: &[u64; WORDS], parent: Parent) -> Early
     }
 }
 
-// 4, 5, the parent's checks, 6.
+// 26, 4, 5, the parent's checks, 6.
 pub fn early_verdict(
     m: &[u64; WORDS],
     parent: Parent,
@@ -54,8 +55,8 @@ pub fn early_verdict(
     ensures { λ r. ⌜ r ≡ under (placeAbove (now (m .entry)) parent) (verdict (askedChecks (view (now (m .entry)))
         (asked parent (now (realms .entry)) (now (dependencies .entry)) (now (provisions .entry))))) ⌝ }
 {
-    if ports_realms::bad_realms(realms) {
-        return Early::Refused(refusal::BAD_REALMS);
+    if let Done::Refused(n) = ports_realms::list_verdict(realms) {
+        return Early::Refused(n);
     }
     if limits::DEPENDENCY_KEYS < dependencies.len() {
         return Early::Refused(refusal::TOO_MANY_KEYS);

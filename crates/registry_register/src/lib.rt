@@ -11,13 +11,16 @@ ghost use Rattle.rules.specs.Answers.{numberAnswer};
 ghost use Rattle.memory.specs.Layout.{word, nextWord};
 ghost use Rattle.memory.specs.View.{view};
 ghost use Rattle.memory.specs.Writes.{parentId};
-ghost use Rattle.registry_register.specs.Parts.{dependenciesAt, tagOf, wordOf};
+ghost use Rattle.registry_register.specs.Parts.{dependenciesAt, tagOf, wordOf, claimsIn, listIn};
 ghost use Rattle.registry_register.specs.Written.{definition, newEntry, Settles, addedTo};
 use memory::Parent;
 use memory::Place;
 use memory::WORDS;
 use memory_entry::Entry;
+use ports_inherited::Dependencies;
+use ports_resolved::Claimed;
 use rules::Done;
+use rules::Edition;
 use rules::Number;
 use rules::Port;
 use rules::refusal;
@@ -81,13 +84,14 @@ fn entry(
     m: &[u64; WORDS],
     parent: Parent,
     payload: u64,
+    edition: Edition,
     start: usize,
     dependencies: usize,
     provisions: usize,
     realms: usize,
 ) -> Entry
     requires { ⌜ word (now m) nextWord ≢ last ⌝ ∗ ⌜ start ≡ rowsInUse (view (now m)) ⌝ }
-    ensures { λ r. ⌜ r ≡ newEntry (now (m .entry)) (parentId parent) payload dependencies provisions realms ⌝ }
+    ensures { λ r. ⌜ r ≡ newEntry (now (m .entry)) (parentId parent) payload edition dependencies provisions realms ⌝ }
 {
     let id = memory::next_id(m);
     Entry {
@@ -99,8 +103,39 @@ fn entry(
         dependencies: dependencies as u64,
         provisions: provisions as u64,
         realms: realms as u64,
+        edition: edition.number(),
+        default: edition.default(),
         next: id + 1,
     }
+}
+
+// The anchor and the ports that its provisions claim.
+fn claimed(anchor: Port, realms: &[u64], provisions: &[u64]) -> Claimed
+    ensures { λ r. ⌜ r ≡ claimsIn (now (realms .entry)) anchor (now (provisions .entry)) ⌝ }
+{
+    let other = ports_realms::default_realm(realms);
+    ports_resolved::claims(other, anchor, ports_realms::rows(realms), provisions)
+}
+
+// Its dependency list under a parent at this place; the provisions stand behind the anchor.
+fn listed(
+    m: &[u64; WORDS],
+    above: Place,
+    anchor: Port,
+    realms: &[u64],
+    dependencies: &[u64],
+    claims: &[u64],
+) -> Dependencies
+    ensures { λ r. ⌜ r ≡ listIn (now (m .entry)) above anchor (now (realms .entry)) (now (dependencies .entry)) (now (claims .entry)) ⌝ }
+{
+    ports_inherited::dependency_list(
+        ports_realms::default_realm(realms),
+        anchor,
+        ports_realms::rows(realms),
+        dependencies,
+        memory_lists::some_words(claims, 2, claims.len()),
+        inherited(m, above),
+    )
 }
 
 // 9, 10, 11, 12; then the plugin goes to the lowest free place.
@@ -117,27 +152,29 @@ fn settle(
         (now (dependencies .entry)) (now (claims .entry)) (now (realms .entry)) (numberAnswer r) (now (m .exit)) ⌝ }
 {
     let claimed = claims.len() / 2;
-    let rows = memory_places::rows_in_use(m);
-    if let Done::Refused(n) = checks::late_verdict(m, rows, count, claimed) {
+    let used = memory_places::rows_in_use(m);
+    if let Done::Refused(n) = checks::late_verdict(m, used, count, claimed) {
         return Number::Refused(n);
     }
     let Place::At(at) = memory_places::lowest_free(m) else {
         return Number::Refused(refusal::FULL);
     };
+    let rows = ports_realms::rows(realms);
     let e = entry(
         m,
         parent,
         payload,
-        rows,
+        ports_realms::edition(realms),
+        used,
         count,
         behind_anchor(claimed),
-        realms.len() / 2,
+        rows.len() / 2,
     );
-    memory_entry::fill_place(m, at, e, realms, dependencies, claims);
+    memory_entry::fill_place(m, at, e, rows, dependencies, claims);
     Number::Is(e.id)
 }
 
-// 4, 5, the parent's 1, 2, 3, then 6; 7, 8; 9, 10, 11, 12. It answers the new id.
+// 26, 4, 5, the parent's 1, 2, 3, then 6; 7, 8; 9, 10, 11, 12. It answers the new id.
 pub fn register(
     m: &mut [u64; WORDS],
     parent: Parent,
@@ -155,20 +192,12 @@ pub fn register(
         Early::Passed(place) => place,
         Early::Refused(n) => return Number::Refused(n),
     };
-    let claimed = ports_resolved::claims(Port::DEFAULT_REALM, anchor, realms, provisions);
-    let claims = first_rows(&claimed.ports, claimed.count);
+    let own = claimed(anchor, realms, provisions);
+    let claims = first_rows(&own.ports, own.count);
     if let Done::Refused(n) = checks::claim_verdict(m, claims) {
         return Number::Refused(n);
     }
-    let provided = memory_lists::some_words(claims, 2, claims.len());
-    let list = ports_inherited::dependency_list(
-        Port::DEFAULT_REALM,
-        anchor,
-        realms,
-        dependencies,
-        provided,
-        inherited(m, above),
-    );
+    let list = listed(m, above, anchor, realms, dependencies, claims);
     settle(
         m,
         parent,

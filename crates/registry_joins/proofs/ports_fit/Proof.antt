@@ -5,14 +5,18 @@ use Rattle.registry_joins.proofs.Laws.{fit-bad, fit-alone, fit-orphan, 
 use Rattle.registry_joins.proofs.ports_fit.Statement.{statement}
 use Rattle.registry_joins.proofs.ports_fit.Tie as tie
 
+rows-requires : tie.Need-rows-requires
+rows-requires c κs = search needs
+
 bad-realms-requires : tie.Need-bad-realms-requires
 bad-realms-requires c κs = search needs
 
 returns : tie.Need-returns
 returns c =
     let b = c .before in
-    let a = b .before .before .before .before .args in
-    fit-bad (a .m .now) (a .parent) (a .anchor) (a .realms .now) (a .provisions .now) (a .dependencies .now) (sym (b .bad-realms .ensures) ∙ c .if1 .taken)
+    let r = b .before in
+    let a = r .before .before .before .before .args in
+    fit-bad (a .m .now) (a .parent) (a .anchor) (a .realms .now) (a .provisions .now) (a .dependencies .now) _ (r .rows .ensures) (sym (b .bad-realms .ensures) ∙ c .if1 .taken)
 
 enum-known-parent : tie.Need-enum-known-parent
 enum-known-parent c = search needs
@@ -32,9 +36,10 @@ returns-2 c =
     let t = w .before .before in
     let e = t .before .before in
     let b = e .before in
-    let a = b .before .before .before .before .args in
+    let r = b .before in
+    let a = r .before .before .before .before .args in
     fit-alone (a .m .now) (a .parent) (a .anchor) (a .realms .now) (a .provisions .now) (a .dependencies .now)
-    (sym (b .bad-realms .ensures) ∙ e .if1 .left) (t .enum-told .given .1) _ (w .some-words .ensures) (c .lists-fit .ensures)
+    _ (r .rows .ensures) (sym (b .bad-realms .ensures) ∙ e .if1 .left) (t .enum-told .given .1) _ (w .some-words .ensures) (c .lists-fit .ensures)
 
 find-requires : tie.Need-find-requires
 find-requires c κs = search needs
@@ -51,9 +56,10 @@ returns-3 c =
     let p = f .before .before in
     let e = p .before .before in
     let b = e .before in
-    let a = b .before .before .before .before .args in
+    let r = b .before in
+    let a = r .before .before .before .before .args in
     fit-orphan (a .m .now) (a .parent) (a .anchor) (a .realms .now) (a .provisions .now) (a .dependencies .now)
-    (sym (b .bad-realms .ensures) ∙ e .if1 .left) _ (p .parent .given .1) (sym (f .find .ensures) ∙ c .enum-told2 .given .1)
+    _ (r .rows .ensures) (sym (b .bad-realms .ensures) ∙ e .if1 .left) _ (p .parent .given .1) (sym (f .find .ensures) ∙ c .enum-told2 .given .1)
 
 dependency-words-requires : tie.Need-dependency-words-requires
 dependency-words-requires c κs = search needs
@@ -69,15 +75,17 @@ returns-4 c =
     let p = f .before .before in
     let e = p .before .before in
     let b = e .before in
-    let a = b .before .before .before .before .args in
+    let r = b .before in
+    let a = r .before .before .before .before .args in
     fit-child (a .m .now) (a .parent) (a .anchor) (a .realms .now) (a .provisions .now) (a .dependencies .now)
-    (sym (b .bad-realms .ensures) ∙ e .if1 .left) _ (p .parent .given .1) _ (sym (f .find .ensures) ∙ q .at .given .1)
+    _ (r .rows .ensures) (sym (b .bad-realms .ensures) ∙ e .if1 .left) _ (p .parent .given .1) _ (sym (f .find .ensures) ∙ q .at .given .1)
     _ (w .dependency-words .ensures) (c .lists-fit2 .ensures)
 
 pub ports-fit-spec : {M : Type 1} → statement M
 ports-fit-spec =
     tie.close
     (tie.spec
+    rows-requires
     bad-realms-requires
     returns
     enum-known-parent

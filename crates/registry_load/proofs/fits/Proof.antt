@@ -61,6 +61,13 @@ mul-some-words-2 c =
     let a = f .before .args in
     omega (arith, counts-within (a .b) (a .from) (a .next) (a .rows) (sym (f .counts-fit .ensures) ∙ not-false _ (e .if1 .left)) .few-realms)
 
+add-some-words-2 : tie.Need-add-some-words-2
+add-some-words-2 c =
+    let e = c .before .before .before .before .before .before .before in
+    let f = e .before in
+    let a = f .before .args in
+    omega (arith, counts-within (a .b) (a .from) (a .next) (a .rows) (sym (f .counts-fit .ensures) ∙ not-false _ (e .if1 .left)) .few-realms)
+
 some-words-requires-2 : tie.Need-some-words-requires-2
 some-words-requires-2 c κs = search needs
 
@@ -112,6 +119,7 @@ fits-spec =
     parent-from-requires
     port-at-requires
     mul-some-words-2
+    add-some-words-2
     some-words-requires-2
     some-words-requires-3
     mul-some-words-3

@@ -1,5 +1,6 @@
 -- `list_realms` meets its contract.
-use mathlib.Core.Path.{sym, _∙_}
+use mathlib.Core.Path.{sym, ap, _∙_}
+use lib.ListN.{drop}
 use Rattle.rules.specs.Lists.{RealmRows}
 use Rattle.registry_queries.proofs.Laws.{no-list, list-answer}
 use borrow.Author.Needs.{needs}
@@ -21,6 +22,9 @@ returns c = no-list _ _ (sym (c .before .before .find .ensures) ∙ c .enum-told
 realm-words-requires : tie.Need-realm-words-requires
 realm-words-requires c κs = search needs
 
+rows-requires : tie.Need-rows-requires
+rows-requires c κs = search needs
+
 list-ports-requires : tie.Need-list-ports-requires
 list-ports-requires c κs = search needs
 
@@ -30,9 +34,11 @@ same-length c = search needs
 returns-2 : tie.Need-returns-2
 returns-2 c =
     let l = c .before .before in
-    let a = l .before .before .before .before in
-    list-answer _ _ _ (sym (a .before .before .find .ensures) ∙ a .at .given .1) RealmRows _ _ _ _ _ (l .before .before .realm-words .ensures)
-    (l .list-ports .ensures)
+    let r = l .before .before in
+    let w = r .before in
+    let a = w .before .before in
+    list-answer _ _ _ (sym (a .before .before .find .ensures) ∙ a .at .given .1) RealmRows _ _ _ _ _
+    (r .rows .ensures ∙ ap (drop 2) (w .realm-words .ensures)) (l .list-ports .ensures)
 
 pub list-realms-spec : {M : Type 1} → statement M
 list-realms-spec =
@@ -43,6 +49,7 @@ list-realms-spec =
     enum-told
     returns
     realm-words-requires
+    rows-requires
     list-ports-requires
     same-length
     returns-2)

@@ -11,8 +11,8 @@ use Rattle.rules.specs.Holds.{Registry, provider, count, isUnloading}
 use Rattle.rules.specs.Refusals.{DuplicateDependency}
 use Rattle.rules.specs.Outcomes.{Check, _⇒_}
 use Rattle.rules.specs.declared.Port.{Port}
-use Rattle.rules.specs.Ports.{badRealms, realmsOf}
-use Rattle.rules.specs.Registration.{Definition, resolved, repeats, parentChecks, askedChecks, claimChecks, roomChecks}
+use Rattle.rules.specs.Ports.{realmChecks, realmsOf}
+use Rattle.rules.specs.Registration.{Definition, resolved, repeats, parentChecks, keyChecks, askedChecks, claimChecks, roomChecks}
 use Rattle.rules.specs.Limits.{maxRows, maxDependencies, maxDependencyKeys, maxProvisionKeys}
 use Rattle.memory.specs.Layout.{word, places, nextWord}
 use Rattle.memory.specs.View.{pluginAt, lifeAt, view}
@@ -29,8 +29,10 @@ use Rattle.rules.specs.declared.Done.{Done}
 use Rattle.rules.specs.declared.Done.the-variants.{Accepted, Refused}
 use Rattle.registry_register.specs.declared.checks.Early.{Early}
 use Rattle.registry_register.specs.declared.checks.Early.the-variants as early
-use Rattle.registry_register.specs.Verdicts.{verdict, under, placeAbove}
-use Rattle.registry_register.specs.Runs.{under-passed, under-refused, verdict-first, verdict-then}
+use Rattle.rules.specs.Answers.{verdict}
+use Rattle.rules_laws.specs.Laws.Verdicts.{verdict-first, verdict-then}
+use Rattle.registry_register.specs.Verdicts.{under, placeAbove}
+use Rattle.registry_register.specs.Runs.{under-passed, under-refused}
 
 -- 9, 10, 11, 12
 next-of : (m : List ℕ) (n : ℕ) → n ≡ word m nextWord → n ≡ view m .next
@@ -101,32 +103,41 @@ module _ (m : List ℕ) (p : Parent) where
       pub parent-unloading : l .retired ≡ false → isUnloading (l .phase) ≡ true → early.Refused 3 ≡ of-parent
       parent-unloading t u = sym (known ∙ rw (t, u))
 
--- 4, 5, the parent's, 6
-module _ (r : Registry) (d : Definition) (at : Place) where
+-- 26, 4, 5, the parent's, 6
+module _ (r : Registry) (d : Definition) (at : Place) (v : Done) (given : v ≡ verdict (realmChecks (d .realms))) where
   abbrev asks : Early
   asks = under at (verdict (askedChecks r d))
 
-  pub early-4 : badRealms (d .realms) ≡ true → early.Refused 4 ≡ asks
-  unfolding verdict
-  early-4 e = rw e
+  pub early-list : (n : ℕ) → v ≡ Refused n → early.Refused n ≡ asks
+  early-list n z = sym (ap (under at) (verdict-first (realmChecks (d .realms)) (keyChecks r d) n (sym given ∙ z)))
 
-  module _ (e : badRealms (d .realms) ≡ false) where
+  module _ (good : v ≡ Accepted) where
+    behind : verdict (askedChecks r d) ≡ verdict (keyChecks r d)
+    behind = verdict-then (realmChecks (d .realms)) (keyChecks r d) (sym given ∙ good)
+
+    five : verdict (keyChecks r d) ≡ Refused 5 → early.Refused 5 ≡ asks
+    five u = sym (ap (under at) (behind ∙ u))
+
     pub early-5-dependencies : maxDependencyKeys < length (d .dependencies) → early.Refused 5 ≡ asks
     unfolding verdict
-    early-5-dependencies h = rw (e, lt-ltb maxDependencyKeys (length (d .dependencies)) h)
+    early-5-dependencies h = five (rw (lt-ltb maxDependencyKeys (length (d .dependencies)) h))
 
     module _ (h : length (d .dependencies) ≤ maxDependencyKeys) where
       pub early-5-provisions : maxProvisionKeys < length (d .provisions) → early.Refused 5 ≡ asks
       unfolding verdict
-      early-5-provisions k = rw (e, le-ltb maxDependencyKeys (length (d .dependencies)) h, lt-ltb maxProvisionKeys (length (d .provisions)) k)
+      early-5-provisions k =
+          five (rw (le-ltb maxDependencyKeys (length (d .dependencies)) h, lt-ltb maxProvisionKeys (length (d .provisions)) k))
 
       module _ (k : length (d .provisions) ≤ maxProvisionKeys) (p : Early) (f : p ≡ under at (verdict (parentChecks r (d .parent)))) where
         abbrev six : List Check
         six = (repeats (resolved d (d .dependencies)) ⇒ DuplicateDependency) ∷ []
 
-        rest : verdict (askedChecks r d) ≡ verdict (parentChecks r (d .parent) ++ six)
+        few : verdict (keyChecks r d) ≡ verdict (parentChecks r (d .parent) ++ six)
         unfolding verdict
-        rest = rw (e, le-ltb maxDependencyKeys (length (d .dependencies)) h, le-ltb maxProvisionKeys (length (d .provisions)) k)
+        few = rw (le-ltb maxDependencyKeys (length (d .dependencies)) h, le-ltb maxProvisionKeys (length (d .provisions)) k)
+
+        rest : verdict (askedChecks r d) ≡ verdict (parentChecks r (d .parent) ++ six)
+        rest = behind ∙ few
 
         pub early-parent : (n : ℕ) → p ≡ early.Refused n → p ≡ asks
         early-parent n z =

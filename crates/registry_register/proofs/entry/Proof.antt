@@ -13,22 +13,32 @@ parent-tag-requires c κs = search needs
 parent-word-requires : tie.Need-parent-word-requires
 parent-word-requires c κs = search needs
 
-add-t15 : tie.Need-add-t15
-add-t15 c = search needs
+number-requires : tie.Need-number-requires
+number-requires c κs = search needs
+
+default-requires : tie.Need-default-requires
+default-requires c κs = search needs
+
+add-t18 : tie.Need-add-t18
+add-t18 c = search needs
 
 returns : tie.Need-returns
 returns c =
-    let t = c .before in
+    let d = c .before in
+    let w = d .before in
+    let t = w .before in
     let n = t .before in
     λ i. record {
       id = n .next-id .ensures i;
       tag = t .parent-tag .ensures i;
-      parent = c .parent-word .ensures i;
+      parent = w .parent-word .ensures i;
       payload = n .before .args .payload;
       start = n .before .pre .1 i;
       dependencies = n .before .args .dependencies;
       provisions = n .before .args .provisions;
       realms = n .before .args .realms;
+      edition = d .number .ensures i;
+      default = c .default .ensures i;
       next = n .next-id .ensures i + 1;
     }
 
@@ -39,5 +49,7 @@ entry-spec =
     next-id-requires
     parent-tag-requires
     parent-word-requires
-    add-t15
+    number-requires
+    default-requires
+    add-t18
     returns)

@@ -1,6 +1,6 @@
 -- `register` meets its contract: the early checks refuse, the claimed ports are refused, or `settle` says.
-use borrow.Author.Needs.{needs}
 use Rattle.registry_register.proofs.Whole.{early-told, claims-told, settled-told}
+use borrow.Author.Needs.{needs}
 use Rattle.registry_register.proofs.register.Statement.{statement}
 use Rattle.registry_register.proofs.register.Tie as tie
 
@@ -20,8 +20,8 @@ returns c =
     early-told (a .m .now) (a .parent) (a .anchor) (a .realms .now) (a .dependencies .now) (a .provisions .now)
     (a .payload) _ (v .early-verdict .ensures) _ (c .before .n .given .1)
 
-claims-requires : tie.Need-claims-requires
-claims-requires c κs = search needs
+claimed-requires : tie.Need-claimed-requires
+claimed-requires c κs = search needs
 
 first-rows-requires : tie.Need-first-rows-requires
 first-rows-requires c κs = search needs
@@ -41,20 +41,14 @@ returns-2 c =
     let v = q .before .before in
     let a = v .before .before .before .before .before .args in
     claims-told (a .m .now) (a .parent) (a .anchor) (a .realms .now) (a .dependencies .now) (a .provisions .now)
-    (a .payload) _ (v .early-verdict .ensures) _ (q .place .given .1) _ (p .claims .ensures) _ (f .first-rows .ensures) _ (t .claim-verdict .ensures)
+    (a .payload) _ (v .early-verdict .ensures) _ (q .place .given .1) _ (p .claimed .ensures) _ (f .first-rows .ensures) _ (t .claim-verdict .ensures)
     _ (c .before .n2 .given .1)
 
 enum-told : tie.Need-enum-told
 enum-told c = search needs
 
-some-words-requires : tie.Need-some-words-requires
-some-words-requires c κs = search needs
-
-inherited-requires : tie.Need-inherited-requires
-inherited-requires c κs = search needs
-
-dependency-list-requires : tie.Need-dependency-list-requires
-dependency-list-requires c κs = search needs
+listed-requires : tie.Need-listed-requires
+listed-requires c κs = search needs
 
 first-rows-requires-2 : tie.Need-first-rows-requires-2
 first-rows-requires-2 c κs = search needs
@@ -66,17 +60,16 @@ returns-3 : tie.Need-returns-3
 returns-3 c =
     let w = c .before in
     let l = w .before .before .before .before .before in
-    let i = l .before in
-    let s = i .before .before in
-    let t = s .before .before .before in
+    let o = l .before .before in
+    let t = o .before .before in
     let f = t .before .before in
     let p = f .before .before .before .before in
     let q = p .before .before in
     let v = q .before .before in
     let a = v .before .before .before .before .before .args in
     settled-told (a .m .now) (a .parent) (a .anchor) (a .realms .now) (a .dependencies .now) (a .provisions .now)
-    (a .payload) _ (v .early-verdict .ensures) _ (q .place .given .1) _ (p .claims .ensures) _ (f .first-rows .ensures) _ (t .claim-verdict .ensures)
-    (s .before .enum-told .given .1) _ (s .some-words .ensures) _ (i .inherited .ensures) _ (l .dependency-list .ensures) _ (w .first-rows2 .ensures)
+    (a .payload) _ (v .early-verdict .ensures) _ (q .place .given .1) _ (p .claimed .ensures) _ (f .first-rows .ensures) _ (t .claim-verdict .ensures)
+    (o .enum-told .given .1) _ (l .listed .ensures) _ (w .first-rows2 .ensures)
     (c .settle .result) (c .settle .ensures .0) _ (c .settle .ensures .1)
 
 pub register-spec : {M : Type 1} → statement M
@@ -87,15 +80,13 @@ register-spec =
     enum-known-place
     enum-known-n
     returns
-    claims-requires
+    claimed-requires
     first-rows-requires
     claim-verdict-requires
     enum-known-n-2
     returns-2
     enum-told
-    some-words-requires
-    inherited-requires
-    dependency-list-requires
+    listed-requires
     first-rows-requires-2
     settle-requires
     returns-3)
