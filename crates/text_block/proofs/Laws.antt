@@ -8,7 +8,9 @@ use mathlib.Core.Option.{Option}
 use lib.ListN.{length, getD, drop}
 use Rattle.rules.specs.Limits.{maxProvisionKeys}
 use Rattle.rules.specs.declared.Port.{Port}
-use Rattle.rules.specs.Ports.{pairs}
+use Rattle.rules.specs.declared.Edition.{Edition}
+use Rattle.rules.specs.Text.Values.{editionAndDefault}
+use Rattle.rules.specs.Ports.{pairs, realmList}
 use Rattle.text_form.specs.Bytes.{bytes}
 use Rattle.text_laws.specs.Parts.{blockOf}
 use Rattle.memory.specs.Layout.{idAt, depPart, provPart, realmPart}
@@ -19,10 +21,16 @@ use Rattle.memory_values.specs.Firsts.{few-words}
 use Rattle.ports.specs.Places.{pairs-at, pairs-end, length-pairs}
 use Rattle.text_lines.specs.Lines.{ended, orNone, pair, portLines}
 use Rattle.memory_lists.specs.Listed.{valued-length}
-use Rattle.text_block.specs.Parts.{nameLines, lifeLines, portsLines, listLines, provisionLine, provisionLines, provisionsLines, or-none, block-by-parts}
+use Rattle.text_block.specs.Parts.{nameLines, lifeLines, portsLines, realmLines, listLines, provisionLine, provisionLines, provisionsLines}
+use Rattle.text_block.specs.Parts.{or-none, block-by-parts}
 
 pub ports-bytes : (plural name ports : List ℕ) → (plural ++ ended (length ports / 2) 10) ++ portLines name (pairs ports) ≡ portsLines plural name (pairs ports)
 ports-bytes plural name ports = rw (length-pairs ports)
+
+pub realm-bytes : (l : List ℕ) {e : Edition} {rows : List ℕ} → e ≡ realmList l .edition → rows ≡ drop 2 l
+    → editionAndDefault .write e ++ portsLines (bytes "realms=") (bytes "realm=") (pairs rows) ≡ realmLines (realmList l)
+unfolding realmLines realmList
+realm-bytes l e f = rw (e, f)
 
 -- the provisions from the j-th on, with their values
 abbrev pub provsFrom : List ℕ → ℕ → ℕ → List ℕ → List ℕ
@@ -37,7 +45,7 @@ module _ (m : List ℕ) (i : ℕ) where
   pub list-bytes
       : {a : Port} {zs ds : List ℕ} → a ≡ anchorAt m i → zs ≡ realmPart m i → ds ≡ depPart m i
       → (bytes "anchor=" ++ pair (a .key) (a .realm))
-      ++ (portsLines (bytes "realms=") (bytes "realm=") (pairs zs) ++ portsLines (bytes "deps=") (bytes "dep=") (pairs ds))
+      ++ (realmLines (realmList zs) ++ portsLines (bytes "deps=") (bytes "dep=") (pairs ds))
       ≡ listLines (pluginAt m i)
   unfolding listLines pluginAt
   list-bytes e f g = rw (e, f, g)

@@ -9,8 +9,8 @@ use Rattle.rules.specs.declared.Port.{Port}
 use Rattle.rules.specs.declared.Phase.{Phase}
 use Rattle.rules.specs.declared.Root.{Root}
 use Rattle.rules.specs.declared.Root.the-variants.{Unissued, Queued, Spent}
-use Rattle.rules.specs.Holds.{Provision, Plugin}
-use Rattle.rules.specs.Text.Values.{keyRealm, keyRealmValue, phase, zeroOrOne, rootAndQueued}
+use Rattle.rules.specs.Holds.{RealmList, Provision, Plugin}
+use Rattle.rules.specs.Text.Values.{keyRealm, keyRealmValue, phase, zeroOrOne, rootAndQueued, editionAndDefault}
 use Rattle.text_form.specs.Bytes.{bytes}
 use Rattle.text_form.specs.Forms.{writeAll}
 use Rattle.text_form.specs.Lines.{line, number, numberOrNone}
@@ -44,11 +44,15 @@ lifeLines l =
 abbrev pub portsLines : List ℕ → List ℕ → List Port → List ℕ
 portsLines plural name ps = (plural ++ ended (length ps) 10) ++ portLines name ps
 
--- anchor, realms, dependencies
+-- edition, default, realms
+unfoldable pub realmLines : RealmList → List ℕ
+realmLines l = editionAndDefault .write (l .edition) ++ portsLines (bytes "realms=") (bytes "realm=") (l .rows)
+
+-- anchor, the realm list, dependencies
 unfoldable pub listLines : Plugin → List ℕ
 listLines p =
     line "anchor" keyRealm .write (p .anchor)
-    ++ (portsLines (bytes "realms=") (bytes "realm=") (p .realms .rows)
+    ++ (realmLines (p .realms)
     ++ portsLines (bytes "deps=") (bytes "dep=") (p .dependencies))
 
 -- a line for each provision
@@ -93,7 +97,7 @@ regroup
 regroup a b c d e f g h i j k l = simp append-assoc
 
 pub block-by-parts : (p : Plugin) → blockOf p ≡ nameLines p ++ (lifeLines (lifeOf p) ++ (listLines p ++ provisionsLines (p .provisions)))
-unfolding nameLines lifeLines listLines
+unfolding nameLines lifeLines realmLines listLines
 block-by-parts p =
     block-parts p
     ∙ rw (root-lines (p .root), realm-rows (p .realms .rows), deps-rows (p .dependencies), prov-rows (p .provisions))
@@ -107,7 +111,7 @@ block-by-parts p =
     (line "payload" number .write (p .payload))
     (rootLines (p .root))
     (line "anchor" keyRealm .write (p .anchor))
-    (portsLines (bytes "realms=") (bytes "realm=") (p .realms .rows))
+    (realmLines (p .realms))
     (portsLines (bytes "deps=") (bytes "dep=") (p .dependencies))
     (provisionsLines (p .provisions)))
 

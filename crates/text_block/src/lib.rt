@@ -5,11 +5,12 @@ ghost use Prim.Native.Nat.{_%_};
 ghost use Rattle.memory.specs.Layout.{places};
 ghost use Rattle.rules.specs.Limits.{maxProvisionKeys};
 ghost use Rattle.rules.specs.Answers.{optionOf};
-ghost use Rattle.rules.specs.Ports.{pairs};
+ghost use Rattle.rules.specs.Ports.{pairs, realmList};
 ghost use Rattle.memory.specs.View.{valueAt, pluginAt};
 ghost use Rattle.text_laws.specs.Parts.{blockOf};
 ghost use Rattle.text_lines.specs.Laid.{Laid};
-ghost use Rattle.text_block.specs.Parts.{nameLines, phaseLine, retiredLine, lifeLines, portsLines, listLines, provisionLine, provisionsLines};
+ghost use Rattle.text_block.specs.Parts.{nameLines, phaseLine, retiredLine, lifeLines, portsLines, realmLines, listLines, provisionLine};
+ghost use Rattle.text_block.specs.Parts.{provisionsLines};
 use memory::Life;
 use memory::Parent;
 use memory::WORDS;
@@ -80,19 +81,27 @@ fn ports_lines(text: &mut [u8], at: usize, plural: &[u8], name: &[u8], ports: &[
     text_lines::port_lines(text, behind, name, ports)
 }
 
-// anchor, realms, deps
+// edition, default and realms, off a list that edition and default lead
+fn realm_lines(text: &mut [u8], at: usize, list: &[u64]) -> usize
+    ensures { λ r. ⌜ Laid (realmLines (realmList (now (list .entry)))) at (now (text .entry)) (now (text .exit)) r ⌝ }
+{
+    let behind = text_lines::edition_lines(text, at, ports_realms::edition(list));
+    ports_lines(
+        text,
+        behind,
+        b"realms=",
+        b"realm=",
+        ports_realms::rows(list),
+    )
+}
+
+// anchor, edition, default, realms, deps
 fn list_lines(m: &[u64; WORDS], place: usize, text: &mut [u8], at: usize) -> usize
     ensures { λ r. ⌜ Laid (listLines (pluginAt (now (m .entry)) (place % places))) at (now (text .entry)) (now (text .exit)) r ⌝ }
 {
     let anchor = memory_lists::anchor(m, place);
     let realms = text_lines::pair_line(text, at, b"anchor=", anchor.key, anchor.realm);
-    let deps = ports_lines(
-        text,
-        realms,
-        b"realms=",
-        b"realm=",
-        memory_lists::realm_words(m, place),
-    );
+    let deps = realm_lines(text, realms, memory_lists::realm_words(m, place));
     ports_lines(
         text,
         deps,

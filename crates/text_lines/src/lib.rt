@@ -7,8 +7,10 @@ ghost use lib.ListN.{length};
 ghost use Rattle.rules.specs.Basics.{last};
 ghost use Rattle.rules.specs.Answers.{optionOf};
 ghost use Rattle.rules.specs.Ports.{pairs};
+ghost use Rattle.rules.specs.Text.Values.{editionAndDefault};
 ghost use Rattle.text_lines.specs.Laid.{laid, Laid};
 ghost use Rattle.text_lines.specs.Lines.{ended, orNone, pair, triple, rootLines, portLines};
+use rules::Edition;
 use rules::Optional;
 use rules::Root;
 
@@ -159,6 +161,16 @@ pub fn root_lines(text: &mut [u8], at: usize, root: Root) -> usize
             argument,
         ),
         Root::Spent => put(text, at, b"root=2\nqueued=none\n"),
+    }
+}
+
+// The lines edition and default.
+pub fn edition_lines(text: &mut [u8], at: usize, edition: Edition) -> usize
+    ensures { λ r. ⌜ Laid (editionAndDefault .write edition) at (now (text .entry)) (now (text .exit)) r ⌝ }
+{
+    match edition {
+        Edition::First => put(text, at, b"edition=1\ndefault=0\n"),
+        Edition::Second(default) => number_line(text, at, b"edition=2\ndefault=", default),
     }
 }
 

@@ -6,7 +6,9 @@ use mathlib.Core.Option.{Option, none}
 use Rattle.rules.specs.Holds.{port}
 use Rattle.rules.specs.declared.Root.{Root}
 use Rattle.rules.specs.declared.Root.the-variants.{Unissued, Queued, Spent}
+use Rattle.rules.specs.declared.Edition.the-variants.{First, Second}
 use Rattle.rules.specs.Text.Values.{keyRealm, keyRealmValue, unissued, queued, spent, spent-apart, issued-apart, toRoot, rootAndQueued}
+use Rattle.rules.specs.Text.Values.{firstEdition, secondEdition, second-apart, toEdition, editionAndDefault}
 use Rattle.memory.specs.View.{parentOf}
 use Rattle.text_form.specs.Bytes.{bytes}
 use Rattle.text_form.specs.Forms.{expect, nothing, literal, _then_, either}
@@ -103,3 +105,20 @@ root-told Unissued (At n) r x e = rw e (record { reads = x; one = refl })
 root-told (Queued v a) (At n) r x e = rw e (record { reads = x; one = refl })
 root-told Spent (At n) r x e = rw e (record { reads = x; one = refl })
 root-told y Torn r x e = rw e (record { reads = torn-any x Unissued; one = refl })
+
+-- edition and default
+module _ {t : List ℕ} {at m : Next} (x : Reads (expect (bytes "edition=")) t at tt m) {n : Next} (u : Reads (expect (bytes "1\ndefault=0\n")) t m tt n) where
+  first-next : Reads (firstEdition .read) t at tt n
+  first-next = literal-next (bytes "edition=1\ndefault=0\n") (expect-next (bytes "edition=") (bytes "1\ndefault=0\n") x u)
+
+  pub edition-first : (next : ℕ) → n ≡ At next → Reads (editionAndDefault .read) t at First (At next)
+  edition-first next e =
+      like-next (either firstEdition secondEdition second-apart) toEdition
+      (either-first firstEdition secondEdition second-apart (reads-at first-next e))
+
+  pub edition-second : n ≡ Torn → {k q : Next} {d : ℕ} → Reads (expect (bytes "2\ndefault=")) t m tt k → Reads (readNumber 10) t k d q
+      → Reads (editionAndDefault .read) t at (Second d) q
+  edition-second e y z =
+      like-next (either firstEdition secondEdition second-apart) toEdition
+      (either-second firstEdition secondEdition second-apart (reads-at first-next e)
+      (behind-next (bytes "edition=2\ndefault=") number (expect-next (bytes "edition=") (bytes "2\ndefault=") x y) z))

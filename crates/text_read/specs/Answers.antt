@@ -9,9 +9,11 @@ use lib.Dec.{eqb}
 use Rattle.rules.specs.declared.Port.{Port}
 use Rattle.rules.specs.declared.Phase.{Phase}
 use Rattle.rules.specs.declared.Root.{Root}
+use Rattle.rules.specs.declared.Edition.{Edition}
 use Rattle.rules.specs.Basics.{yesNo, isSome, orElse}
-use Rattle.rules.specs.Holds.{port}
+use Rattle.rules.specs.Holds.{port, editionNumber, defaultOf}
 use Rattle.rules.specs.Holds as holds
+use Rattle.rules.specs.Ports.{editionOf}
 use Rattle.rules.specs.Queries.{phaseNumber}
 use Rattle.memory.specs.View.{parentOf, phaseOf, rootOf}
 use Rattle.memory.specs.Writes.{rootTag, rootRevision, rootArgument}
@@ -23,6 +25,7 @@ use Rattle.text_read.specs.declared.NumberOrNone.{NumberOrNone}
 use Rattle.text_read.specs.declared.Pair.{Pair}
 use Rattle.text_read.specs.declared.Provision.{Provision}
 use Rattle.text_read.specs.declared.Rooted.{Rooted}
+use Rattle.text_read.specs.declared.Editioned.{Editioned}
 use Rattle.text_read.specs.Reads.{Reads, next-one, value-one}
 
 -- From a place on a form reads what the answer says, and the answer is the one that says it.
@@ -95,6 +98,14 @@ rootSaid r next = rootedSaid (rootTag r) (rootRevision r) (rootArgument r) next
 abbrev pub RootRead : (List ℕ → Read Root) → List ℕ → Next → Rooted → Type 0
 RootRead = Told (λ r. rootOf (r .root) (r .revision) (r .argument)) (λ r. r .next) rootSaid
 
+-- edition and default
+abbrev pub editionSaid : Edition → Next → Editioned
+editionSaid e (At next) = record { edition = editionNumber e; default = defaultOf e; next = At next }
+editionSaid e Torn = record { edition = 0; default = 0; next = Torn }
+
+abbrev pub EditionRead : (List ℕ → Read Edition) → List ℕ → Next → Editioned → Type 0
+EditionRead = Told (λ r. editionOf (r .edition) (r .default)) (λ r. r .next) editionSaid
+
 -- Two answers that a promise allows are equal.
 module _ {A R : Type 0} (value : R → A) (next : R → Next) (say : A → Next → R) (blank : (a b : A) → say a Torn ≡ say b Torn) where
   same-said : {read : List ℕ → Read A} {t : List ℕ} {at m n : Next} {a b : A} → Reads read t at a m → Reads read t at b n → say a m ≡ say b n
@@ -127,3 +138,6 @@ provision-one x y = told-one provisionIn (λ r. r .next) provisionSaid (λ a b. 
 
 pub root-one : {t : List ℕ} {at : Next} {read : List ℕ → Read Root} {r s : Rooted} → RootRead read t at r → RootRead read t at s → r ≡ s
 root-one x y = told-one (λ r. rootOf (r .root) (r .revision) (r .argument)) (λ r. r .next) rootSaid (λ a b. refl) x y
+
+pub edition-one : {t : List ℕ} {at : Next} {read : List ℕ → Read Edition} {r s : Editioned} → EditionRead read t at r → EditionRead read t at s → r ≡ s
+edition-one x y = told-one (λ r. editionOf (r .edition) (r .default)) (λ r. r .next) editionSaid (λ a b. refl) x y

@@ -61,6 +61,11 @@ reads-at x e = rw e at x
 pub reads-none : {A : Type 0} (read : List ℕ → Read A) (t : List ℕ) (at : Next) (a : A) → at ≡ Torn → Reads read t at a Torn
 reads-none read t at a e = rw e (record { said = refl; fits = tt })
 
+-- What is whole began at a place.
+pub came : {A : Type 0} {read : List ℕ → Read A} {t : List ℕ} {at : Next} {a : A} {n : ℕ} → Reads read t at a (At n) → (k : ℕ) × (at ≡ At k)
+came {at = At k} x = (k, refl)
+came {t = t} {at = Torn} {a} {n} x = torn-found a (drop n t) (sym (x .said))
+
 -- Two answers have the same place behind them, and where there is one the same value.
 torn-at : {A P : Type 0} (a : A) (t : List ℕ) (n : ℕ) (r : Read A) → inText t a (At n) ≡ r → r ≡ torn → P
 torn-at a t n r x y = torn-found a (drop n t) (sym y ∙ sym x)

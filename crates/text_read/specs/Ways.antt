@@ -39,7 +39,7 @@ pub then-next : {A B : Type 0} (f : Form A) (g : Form B) {t : List ℕ} {at m n 
 then-next f g {t} {n = n} {a} {b} x y =
     go-on (f .read) (λ a r. andThen (g .read r) (λ b s. found (a, b) s)) t x (go-on (g .read) (λ b s. found (a, b) s) t y (ends (a, b) t n (y .fits)))
 
--- The same values held in another way: `like` and `likeSome`.
+-- The same values held in another way.
 pub like-next : {A B : Type 0} (f : Form A) (to : A → B) {t : List ℕ} {at n : Next} {a : A}
     → Reads (f .read) t at a n → Reads (λ s. andThen (f .read s) (λ a r. found (to a) r)) t at (to a) n
 like-next f to {t} {n = n} {a} x = go-on (f .read) (λ a r. found (to a) r) t x (ends (to a) t n (x .fits))

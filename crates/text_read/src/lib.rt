@@ -9,9 +9,9 @@ ghost use Rattle.text_form.specs.Forms.{expect, behind};
 ghost use Rattle.text_form.specs.Words.{noDigit};
 ghost use Rattle.text_form.specs.Numbers.{readNumber};
 ghost use Rattle.text_form.specs.Lines.{line, number, numberOrNone};
-ghost use Rattle.rules.specs.Text.Values.{phase, zeroOrOne, keyRealm, keyRealmValue, rootAndQueued};
+ghost use Rattle.rules.specs.Text.Values.{phase, zeroOrOne, keyRealm, keyRealmValue, rootAndQueued, editionAndDefault};
 ghost use Rattle.text_read.specs.Reads.{Reads};
-ghost use Rattle.text_read.specs.Answers.{NumberRead, PhaseRead, MarkRead, OptionRead, PairRead, ProvisionRead, RootRead, rootedSaid};
+ghost use Rattle.text_read.specs.Answers.{NumberRead, PhaseRead, MarkRead, OptionRead, PairRead, ProvisionRead, RootRead, EditionRead, rootedSaid};
 ghost use Rattle.text_read.specs.Numbers.{stopAt, valueTo};
 
 // A place of a text, or that what was to be read before it does not stand there.
@@ -55,6 +55,13 @@ pub struct Rooted {
     pub root: u64,
     pub revision: u64,
     pub argument: u64,
+    pub next: Next,
+}
+
+// Edition 1 or 2 as the line says it; the default is 0 in edition 1.
+pub struct Editioned {
+    pub edition: u64,
+    pub default: u64,
     pub next: Next,
 }
 
@@ -338,4 +345,34 @@ pub fn root_lines(text: &[u8], at: Next) -> Rooted
     }
     let spent = literal(text, root, b"2\nqueued=none\n");
     root_answer(2, 0, 0, spent)
+}
+
+// The two lines edition and default: 1 and 0, or 2 and a number.
+pub fn edition_lines(text: &[u8], at: Next) -> Editioned
+    ensures { λ r. ⌜ EditionRead (editionAndDefault .read) (now (text .entry)) at r ⌝ }
+{
+    let edition = literal(text, at, b"edition=");
+    let first = literal(text, edition, b"1\ndefault=0\n");
+    if let Next::At(next) = first {
+        return Editioned {
+            edition: 1,
+            default: 0,
+            next: Next::At(next),
+        };
+    }
+    let second = literal(text, edition, b"2\ndefault=");
+    let default = number_to(text, second, 10);
+    let end = default.next;
+    let Next::At(next) = end else {
+        return Editioned {
+            edition: 0,
+            default: 0,
+            next: Next::Torn,
+        };
+    };
+    Editioned {
+        edition: 2,
+        default: default.value,
+        next: Next::At(next),
+    }
 }

@@ -1,18 +1,17 @@
 -- A block from its lines: each line goes on where the one before it ends, and what they say together is a plugin.
 use Prim.Native.Nat.{ℕ}
-use mathlib.Core.Path.{_≡_, refl, sym, ap, _∙_, subst}
+use mathlib.Core.Path.{_≡_, sym, ap, _∙_, subst}
 use mathlib.Core.Bool.{Bool, not}
 use mathlib.Core.List.{List}
 use mathlib.Core.Option.{Option}
 use lib.Dec.{eqb}
 use Rattle.rules.specs.declared.Phase.{Phase}
 use Rattle.rules.specs.declared.Root.{Root}
-use lib.ListN.{drop}
-use Rattle.rules.specs.Holds.{Plugin, port, defaultRealm}
+use Rattle.rules.specs.Holds.{Plugin, port}
 use Rattle.rules.specs.Text.{Lines, lines, pluginOf, block, realms}
 use Rattle.rules.specs.Text.Values as values
 use Rattle.rules.specs.Text.Values.{keyRealm, keyRealmValue, rootAndQueued, zeroOrOne}
-use Rattle.text_form.specs.Forms.{Read, _then_, torn-found}
+use Rattle.text_form.specs.Forms.{_then_}
 use Rattle.text_form.specs.Lines.{line, list, number, numberOrNone}
 use Rattle.memory.specs.View.{parentOf, phaseOf, rootOf}
 use Rattle.text_read.specs.declared.Next.{Next}
@@ -21,7 +20,7 @@ use Rattle.text_read.specs.declared.Number.{Number}
 use Rattle.text_read.specs.declared.NumberOrNone.{NumberOrNone}
 use Rattle.text_read.specs.declared.Pair.{Pair}
 use Rattle.text_read.specs.declared.Rooted.{Rooted}
-use Rattle.text_read.specs.Reads.{Reads, reads-at}
+use Rattle.text_read.specs.Reads.{Reads, reads-at, came}
 use Rattle.text_read.specs.Ways.{then-next, like-next}
 use Rattle.text_read.specs.Answers.{NumberRead, PhaseRead, MarkRead, OptionRead, PairRead, RootRead, phaseSaid, markSaid, optionSaid, rootSaid}
 use Rattle.text_read_block.specs.declared.Head.{Head}
@@ -31,11 +30,6 @@ use Rattle.text_read_block.specs.Rows.{rowPut, rowsPut}
 use Rattle.text_read_block.specs.Lists.{portsOf}
 use Rattle.text_read_block.specs.Blocks.{HeadRead, ListsRead, BlockRead, Lent, blank, empty, blockOf, listsOf}
 use Rattle.text_read_block.specs.Blocks.BlockRead.{torn, whole}
-
--- What is whole began at a place.
-came : {A : Type 0} {read : List ℕ → Read A} {t : List ℕ} {at : Next} {a : A} {n : ℕ} → Reads read t at a (At n) → (k : ℕ) × (at ≡ At k)
-came {at = At k} x = (k, refl)
-came {t = t} {at = Torn} {a} {n} x = torn-found a (drop n t) (sym (x .said))
 
 module _ (t : List ℕ) (at : Next) (id : Number) (parent : NumberOrNone) (phase retired generation revision payload : Number) (root : Rooted) (anchor : Pair)
   where
@@ -174,7 +168,7 @@ module _ (t : List ℕ) (at : Next) (before : Lent) (head : Head) (lists : Lists
                     (
                       port (head .key) (head .realm),
                       (
-                        record { rows = l .realms-read .ports; other = defaultRealm },
+                        l .realms-read .list,
                         (l .dependencies-read .ports, l .provisions-read .provisions),
                       ),
                     ),
@@ -212,8 +206,7 @@ module _ (t : List ℕ) (at : Next) (before : Lent) (head : Head) (lists : Lists
         (then-next (line "payload" number) f8 (h .payload-read)
         (then-next rootAndQueued f9 (h .root-read)
         (then-next (line "anchor" keyRealm) f10 (h .anchor-read)
-        (then-next realms f11
-        (like-next (list "realms" "realm" keyRealm) (λ rows. record { rows = rows; other = defaultRealm }) (l .realms-read .reads))
+        (then-next realms f11 (l .realms-read .reads)
         (then-next (list "deps" "dep" keyRealm) f12 (l .dependencies-read .reads) (l .provisions-read .reads)))))))))))
 
     all-read : Reads (block .read) t at plugin (lists .next)
@@ -253,14 +246,16 @@ module _ (t : List ℕ) (at : Next) (before : Lent) (head : Head) (lists : Lists
     abbrev after : Lent
     after = record { realms = rows; dependencies = needs; claims = claims; values = kept }
 
-    stored : listsOf before plugin ≡ after
+    stored : (n : ℕ) → lists .next ≡ At n → listsOf before plugin ≡ after
     unfolding rowsPut
-    stored =
+    stored n e =
         let v = l .provisions-read in
+        let b = came (reads-at (v .reads) e) in
+        let c = came (reads-at (l .dependencies-read .reads) (b .1)) in
         let anchored : claims ≡ rowsPut (rowPut (before .claims) 0 (head .key) (head .realm)) 1 (portsOf (v .provisions)) =
         v .claims-stored ∙ ap (λ (w : List ℕ). rowsPut w 1 (portsOf (v .provisions))) f in
         sym (λ x. record {
-          realms = l .realms-read .stored x;
+          realms = l .realms-read .stored (c .0) (c .1) x;
           dependencies = l .dependencies-read .stored x;
           claims = anchored x;
           values = v .values-stored x;
@@ -270,4 +265,4 @@ module _ (t : List ℕ) (at : Next) (before : Lent) (head : Head) (lists : Lists
         (record { realms = rows; dependencies = needs; claims = claims; values = kept })
     block-said n e =
         subst (λ (b : Block). BlockRead t at before b after) (numbers n e)
-        (subst (BlockRead t at before (blockOf plugin n)) stored (whole plugin n refl (reads-at all-read e)))
+        (subst (BlockRead t at before (blockOf plugin n)) (stored n e) (whole plugin n (reads-at all-read e)))

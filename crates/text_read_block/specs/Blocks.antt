@@ -11,8 +11,8 @@ use Rattle.rules.specs.Basics.{isSome, orElse, yesNo}
 use Rattle.rules.specs.Limits.{maxProvisionKeys, maxRealmRows, maxDependencies}
 use Rattle.rules.specs.declared.Phase.{Phase}
 use Rattle.rules.specs.declared.Root.{Root}
-use Rattle.rules.specs.Holds.{Plugin, port, provided, defaultRealm}
-use Rattle.rules.specs.Ports.{flat}
+use Rattle.rules.specs.Holds.{Plugin, port, provided}
+use Rattle.rules.specs.Ports.{flat, realmNumbers}
 use Rattle.rules.specs.Queries.{phaseNumber}
 use Rattle.rules.specs.Conditions.{claims}
 use Rattle.rules.specs.Text.{block}
@@ -28,7 +28,7 @@ use Rattle.text_read_block.specs.declared.Head.{Head}
 use Rattle.text_read_block.specs.declared.Lists.{Lists}
 use Rattle.text_read_block.specs.declared.Block.{Block}
 use Rattle.text_read_block.specs.Rows.{rowsPut, allPut, rows-front, all-front}
-use Rattle.text_read_block.specs.Lists.{PortsRead, ProvisionsRead}
+use Rattle.text_read_block.specs.Lists.{PortsRead, RealmsRead, ProvisionsRead, realmRows}
 use Rattle.text_read_block.specs.Valued.{valuedOf}
 
 -- The lines before the lists, each from the place behind the one before it.
@@ -75,9 +75,9 @@ pub record HeadRead (t : List ℕ) (at : Next) (r : Head) : Type 0 where
 pub record ListsRead (t : List ℕ) (at : Next) (rows needs claims values : List ℕ) (r : Lists) (rows′ needs′ claims′ values′ : List ℕ) : Type 0 where
   pub realms-end : Next
   pub dependencies-end : Next
-  pub realms-read : PortsRead (bytes "realms=") (bytes "realm=") t at rows (record { count = r .realms; next = realms-end }) rows′
+  pub realms-read : RealmsRead t at rows (record { count = r .realms; next = realms-end }) rows′
   pub dependencies-read
-      : PortsRead (bytes "deps=") (bytes "dep=") t realms-end needs (record { count = r .dependencies; next = dependencies-end }) needs′
+      : PortsRead (bytes "deps=") (bytes "dep=") t realms-end needs 0 (record { count = r .dependencies; next = dependencies-end }) needs′
   pub provisions-read : ProvisionsRead t dependencies-end claims values
       (record { count = r .provisions; valued = r .valued; mask = r .mask; next = r .next }) claims′ values′
 
@@ -111,7 +111,7 @@ blank = record {
 
 -- and the words that it leaves
 abbrev pub empty : Lent
-empty = record { realms = replicate 32 0; dependencies = replicate 96 0; claims = replicate 32 0; values = replicate 15 0 }
+empty = record { realms = replicate 34 0; dependencies = replicate 96 0; claims = replicate 32 0; values = replicate 15 0 }
 
 -- the numbers of a plugin, and the place behind its block
 abbrev pub blockOf : Plugin → ℕ → Block
@@ -137,7 +137,7 @@ blockOf p n = record {
 -- its lists at the front of lent words, as far as they have room
 abbrev pub listsOf : Lent → Plugin → Lent
 listsOf before p = record {
-  realms = rowsPut (before .realms) 0 (p .realms .rows);
+  realms = rowsPut (before .realms) 0 (realmRows (p .realms));
   dependencies = rowsPut (before .dependencies) 0 (p .dependencies);
   claims = rowsPut (before .claims) 0 (claims p);
   values = allPut (before .values) 0 (valuesOf (p .provisions));
@@ -146,29 +146,28 @@ listsOf before p = record {
 -- Of a torn block nothing is told: what was read before the tear is cleared.
 pub data BlockRead (t : List ℕ) (at : Next) (before : Lent) : Block → Lent → Type 0 where
   torn : (p : Plugin) → Reads (block .read) t at p Torn → BlockRead t at before blank empty
-  whole : (p : Plugin) (n : ℕ) → p .realms .other ≡ defaultRealm → Reads (block .read) t at p (At n)
-      → BlockRead t at before (blockOf p n) (listsOf before p)
+  whole : (p : Plugin) (n : ℕ) → Reads (block .read) t at p (At n) → BlockRead t at before (blockOf p n) (listsOf before p)
 
 -- By the place behind it.
 pub block-torn : {t : List ℕ} {at : Next} {before after : Lent} {b : Block} → BlockRead t at before b after → b .next ≡ Torn
     → (p : Plugin) × Reads (block .read) t at p Torn
 block-torn (torn p x) e = (p, x)
-block-torn (whole p n d x) e = let z : _≡_ {A = ℕ} 0 1 = cc in absurd (omega arith)
+block-torn (whole p n x) e = let z : _≡_ {A = ℕ} 0 1 = cc in absurd (omega arith)
 
 pub block-whole : {t : List ℕ} {at : Next} {before after : Lent} {b : Block} (n : ℕ) → BlockRead t at before b after → b .next ≡ At n
-    → (p : Plugin) × (p .realms .other ≡ defaultRealm) × Reads (block .read) t at p (At n) × (b ≡ blockOf p n) × (after ≡ listsOf before p)
+    → (p : Plugin) × Reads (block .read) t at p (At n) × (b ≡ blockOf p n) × (after ≡ listsOf before p)
 block-whole n (torn p x) e = let z : _≡_ {A = ℕ} 0 1 = cc in absurd (omega arith)
-block-whole {t} {at} n (whole p m d x) e =
+block-whole {t} {at} n (whole p m x) e =
     let i : m ≡ n = cc in
-    (p, d, subst (λ (k : ℕ). Reads (block .read) t at p (At k)) i x, ap (blockOf p) i, refl)
+    (p, subst (λ (k : ℕ). Reads (block .read) t at p (At k)) i x, ap (blockOf p) i, refl)
 
 -- Two outcomes that the promise allows are equal.
 pub block-one : {t : List ℕ} {at : Next} {before x y : Lent} {a b : Block}
     → BlockRead t at before a x → BlockRead t at before b y → (a ≡ b) × (x ≡ y)
 block-one (torn p x) (torn q y) = (refl, refl)
-block-one (torn p x) (whole q n d y) = let e = next-one x y in let z : _≡_ {A = ℕ} 0 1 = cc in absurd (omega arith)
-block-one (whole p m c x) (torn q y) = let e = next-one x y in let z : _≡_ {A = ℕ} 0 1 = cc in absurd (omega arith)
-block-one {before = before} (whole p m c x) (whole q n d y) =
+block-one (torn p x) (whole q n y) = let e = next-one x y in let z : _≡_ {A = ℕ} 0 1 = cc in absurd (omega arith)
+block-one (whole p m x) (torn q y) = let e = next-one x y in let z : _≡_ {A = ℕ} 0 1 = cc in absurd (omega arith)
+block-one {before = before} (whole p m x) (whole q n y) =
     let e = next-one x y in
     let i : m ≡ n = cc in
     let j : p ≡ q = value-one x y in
@@ -176,11 +175,11 @@ block-one {before = before} (whole p m c x) (whole q n d y) =
 
 -- Lists that have room stand in front of their words.
 module _ (p : Plugin) (into : List ℕ) where
-  pub realms-front : length into ≡ 32 → length (p .realms .rows) ≤ maxRealmRows
-      → take (length (p .realms .rows) * 2) (rowsPut into 0 (p .realms .rows)) ≡ flat (p .realms .rows)
+  pub realms-front : length into ≡ 34 → length (p .realms .rows) ≤ maxRealmRows
+      → take (length (p .realms .rows) * 2 + 2) (rowsPut into 0 (realmRows (p .realms))) ≡ realmNumbers (p .realms)
   realms-front l h =
-      let e : length (p .realms .rows) * 2 ≡ (0 + length (p .realms .rows)) * 2 = omega arith in
-      rw e (rows-front into 0 (p .realms .rows) (omega arith))
+      let e : length (p .realms .rows) * 2 + 2 ≡ (0 + suc (length (p .realms .rows))) * 2 = omega arith in
+      rw e (rows-front into 0 (realmRows (p .realms)) (omega arith))
 
   pub dependencies-front : length into ≡ 96 → length (p .dependencies) ≤ maxDependencies
       → take (length (p .dependencies) * 2) (rowsPut into 0 (p .dependencies)) ≡ flat (p .dependencies)

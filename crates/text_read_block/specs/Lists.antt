@@ -1,17 +1,19 @@
 -- What is read of a list: its lines, how many they are, and where they went.
 use Prim.Native.Nat.{ℕ, _+_, _^_}
 use mathlib.Core.Path.{_≡_}
-use mathlib.Core.List.{List, map}
+use mathlib.Core.List.{List, _∷_, map}
 use lib.Dec.{eqb, ltb}
 use lib.ListN.{length, take}
 use Rattle.rules.specs.Basics.{pick}
 use Rattle.rules.specs.Limits.{maxProvisionKeys}
 use Rattle.rules.specs.declared.Port.{Port}
-use Rattle.rules.specs.Holds.{Provision}
+use Rattle.rules.specs.Holds.{port, RealmList, Provision, editionNumber, defaultOf}
+use Rattle.rules.specs.Text.{realms}
 use Rattle.rules.specs.Text.Values.{keyRealm, keyRealmValue}
 use Rattle.text_form.specs.Forms.{Form, behind, counted}
 use Rattle.text_form.specs.Lines.{list, number}
 use Rattle.text_read.specs.declared.Next.{Next}
+use Rattle.text_read.specs.declared.Next.the-variants.{At}
 use Rattle.text_read.specs.Reads.{Reads}
 use Rattle.memory_values.specs.Values.{maskOf, valuesOf}
 use Rattle.text_read_block.specs.declared.Listed.{Listed}
@@ -23,11 +25,22 @@ use Rattle.text_read_block.specs.Valued.{valuedOf}
 abbrev pub portLines : (plural key : List ℕ) → Form (List Port)
 portLines plural key = counted (behind plural number) (behind key keyRealm)
 
-pub record PortsRead (plural key t : List ℕ) (at : Next) (before : List ℕ) (r : Listed) (after : List ℕ) : Type 0 where
+pub record PortsRead (plural key t : List ℕ) (at : Next) (before : List ℕ) (row : ℕ) (r : Listed) (after : List ℕ) : Type 0 where
   pub ports : List Port
   pub reads : Reads (portLines plural key .read) t at ports (r .next)
   pub count : r .count ≡ length ports
-  pub stored : after ≡ rowsPut before 0 ports
+  pub stored : after ≡ rowsPut before row ports
+
+-- A realm list as rows: edition and default lead.
+abbrev pub realmRows : RealmList → List Port
+realmRows l = port (editionNumber (l .edition)) (defaultOf (l .edition)) ∷ l .rows
+
+-- Where it is torn there may be no edition, and the first row says nothing.
+pub record RealmsRead (t : List ℕ) (at : Next) (before : List ℕ) (r : Listed) (after : List ℕ) : Type 0 where
+  pub list : RealmList
+  pub reads : Reads (realms .read) t at list (r .next)
+  pub count : r .count ≡ length (list .rows)
+  pub stored : (n : ℕ) → r .next ≡ At n → after ≡ rowsPut before 0 (realmRows list)
 
 -- a mask with the bit of a value more; past the 15th there is none
 unfoldable pub maskWith : ℕ → ℕ → ℕ → ℕ

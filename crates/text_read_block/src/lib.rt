@@ -1,14 +1,14 @@
 // A plugin's block read from the registry's text: what its lines say, as words for the memory. Every function takes any text.
 ghost use mathlib.Core.Path.{_≡_};
 ghost use Rattle.text_read_block.specs.Rows.{rowPut, onePut};
-ghost use Prim.Native.Nat.{_<_, _^_};
-ghost use Rattle.text_read_block.specs.Lists.{PortsRead, ProvisionsRead, maskWith};
+ghost use Prim.Native.Nat.{_<_, _≤_, _^_};
+ghost use Rattle.text_read_block.specs.Lists.{PortsRead, RealmsRead, ProvisionsRead, maskWith};
 ghost use Rattle.text_read_block.specs.Blocks.{HeadRead, ListsRead, BlockRead, blank, empty};
 use rules::limits;
 use text_read::Next;
 
-// The most words of a plugin's realm rows, dependencies and claims, its anchor and provisions, and of its values.
-pub const REALM_WORDS: usize = limits::REALM_ROWS * 2;
+// The most words of a plugin's realm list, led by edition and default, of its dependencies, of its claims, led by the anchor, and of its values.
+pub const REALM_WORDS: usize = limits::REALM_ROWS * 2 + 2;
 
 pub const DEPENDENCY_WORDS: usize = limits::DEPENDENCIES * 2;
 
@@ -97,9 +97,10 @@ fn put_one(into: &mut [u64], place: u64, n: u64)
     }
 }
 
-// A list of ports: its lines go to the front of lent words, as far as they have room.
-fn ports(text: &[u8], at: Next, plural: &[u8], key: &[u8], into: &mut [u64]) -> Listed
-    ensures { λ r. ⌜ PortsRead (now (plural .entry)) (now (key .entry)) (now (text .entry)) at (now (into .entry)) r (now (into .exit)) ⌝ }
+// A list of ports: its lines go to lent words from a row on, as far as they have room. From 0 or 1 on no row's number passes 2^64 − 1.
+fn ports(text: &[u8], at: Next, plural: &[u8], key: &[u8], into: &mut [u64], row: u64) -> Listed
+    requires { ⌜ row ≤ 1 ⌝ }
+    ensures { λ r. ⌜ PortsRead (now (plural .entry)) (now (key .entry)) (now (text .entry)) at (now (into .entry)) row r (now (into .exit)) ⌝ }
 {
     let count = text_read::number_line(text, at, plural);
     let lines = count.value;
@@ -121,7 +122,7 @@ fn ports(text: &[u8], at: Next, plural: &[u8], key: &[u8], into: &mut [u64]) -> 
                 next: Next::Torn,
             };
         };
-        put_row(into, i, line.key, line.realm);
+        put_row(into, row + i, line.key, line.realm);
         behind = next;
         i += 1;
     }
@@ -129,6 +130,16 @@ fn ports(text: &[u8], at: Next, plural: &[u8], key: &[u8], into: &mut [u64]) -> 
         count: lines,
         next: Next::At(behind),
     }
+}
+
+// The realm list: edition and default lead it, as the memory has them.
+fn realm_lines(text: &[u8], at: Next, into: &mut [u64]) -> Listed
+    ensures { λ r. ⌜ RealmsRead (now (text .entry)) at (now (into .entry)) r (now (into .exit)) ⌝ }
+{
+    let first = text_read::edition_lines(text, at);
+    put_row(into, 0, first.edition, first.default);
+    let from = first.next;
+    ports(text, from, b"realms=", b"realm=", into, 1)
 }
 
 // The mask of values with one bit more; past the 15th provision there is none.
@@ -237,9 +248,9 @@ fn read_lists(
     ensures { λ r. ⌜ ListsRead (now (text .entry)) at (now (rows .entry)) (now (needs .entry)) (now (claims .entry)) (now (values .entry)) r
         (now (rows .exit)) (now (needs .exit)) (now (claims .exit)) (now (values .exit)) ⌝ }
 {
-    let realms = ports(text, at, b"realms=", b"realm=", rows);
+    let realms = realm_lines(text, at, rows);
     let second = realms.next;
-    let dependencies = ports(text, second, b"deps=", b"dep=", needs);
+    let dependencies = ports(text, second, b"deps=", b"dep=", needs, 0);
     let third = dependencies.next;
     let listed = provisions(text, third, claims, values);
     let next = listed.next;

@@ -12,8 +12,9 @@ use lib.ListN.{length, getD, take, drop, length-take, length-drop}
 use Rattle.rules.specs.Basics.{last, pick}
 use Rattle.rules.specs.Holds.{Plugin, held, plugins, count, rowsInUse}
 use Rattle.rules_laws.specs.Laws.Members.{In}
-use Rattle.rules.specs.Ports.{pairs}
-use Rattle.rules.specs.Text.Values.{keyRealm, keyRealmValue, rootAndQueued}
+use Rattle.rules.specs.declared.Edition.the-variants.{First, Second}
+use Rattle.rules.specs.Ports.{pairs, editionOf, realmList}
+use Rattle.rules.specs.Text.Values.{keyRealm, keyRealmValue, rootAndQueued, editionAndDefault}
 use Rattle.rules.specs.Text.{block, text, said, textOf}
 use Rattle.text_form.specs.Forms.{FitAll}
 use Rattle.text_form.specs.Lines.{line, numberOrNone}
@@ -21,7 +22,7 @@ use Rattle.text_laws.specs.Fit.{text-fits}
 use Rattle.text_laws.specs.Sizes.{Lists, any-text, text-most, rows-most, held-most}
 use Rattle.memory.specs.Layout.{word, taken, startAt, depsAt, provsAt, realmsAt, rowWord, anchorWord, part, provPart, realmPart, depPart, placeWords, maskWord}
 use Rattle.memory.specs.Layout.{valuesWord, idWord, tagWord, parentWord, generationWord, revisionWord, payloadWord, rootWord, rootRevisionWord}
-use Rattle.memory.specs.Layout.{rootArgumentWord, realmRowsWord}
+use Rattle.memory.specs.Layout.{rootArgumentWord, editionWord, rowWords}
 use Rattle.memory.specs.View.{parentOf, rootOf, lifeAt, decoded, valueAt, valued, pluginAt, placeAt, placesFrom, view}
 use Rattle.ports.specs.Places.{length-pairs}
 use Rattle.memory_lists.specs.Listed.{valued-length}
@@ -82,6 +83,13 @@ root-fits zero v a h k = tt
 root-fits (suc zero) v a h k = (h, k)
 root-fits (suc (suc tag)) v a h k = tt
 
+edition-fits : (n d : ℕ) → d ≤ last → editionAndDefault .Fits (editionOf n d)
+edition-fits n d h = go (eqb n 2)
+  where
+    go : (b : Bool) → editionAndDefault .Fits (pick b (Second d) First)
+    go true = h
+    go false = tt
+
 module _ (m : List ℕ) (h : Small m) where
   value-fits : (i j : ℕ) → numberOrNone .Fits (valueAt m i j)
   unfolding valueAt
@@ -94,8 +102,8 @@ module _ (m : List ℕ) (h : Small m) where
   provisions-fit i j (k ∷ r ∷ l) s = ((s 0, (s 1, value-fits i j)), provisions-fit i (j + 1) l (λ n. s (suc (suc n))))
 
 module _ (m : List ℕ) (i : ℕ) where
-  few-realms : length (pairs (realmPart m i)) ≤ 16
-  few-realms = rw (length-pairs (realmPart m i)) (simp (length-take, length-drop) (omega arith))
+  few-realms : length (pairs (drop 2 (realmPart m i))) ≤ 16
+  few-realms = rw (length-pairs (drop 2 (realmPart m i))) (simp (length-drop, length-take) (omega arith))
 
   few-deps : length (pairs (depPart m i)) ≤ 48
   few-deps = rw (length-pairs (depPart m i)) (simp (length-take, length-drop) (omega arith))
@@ -104,11 +112,14 @@ module _ (m : List ℕ) (i : ℕ) where
   few-provs = rw (valued-length m i 0 (pairs (provPart m i)), length-pairs (provPart m i)) (simp (length-take, length-drop) (omega arith))
 
   lists-few : Lists (pluginAt m i)
-  unfolding pluginAt
+  unfolding pluginAt realmList
   lists-few = record { realm-rows = few-realms; dependencies = few-deps; provisions = few-provs }
 
+  small-list : Small m → Small (realmPart m i)
+  small-list h = small-part m (i * placeWords + editionWord) ((realmsAt m i + 1) * rowWords) h
+
   plugin-fits : Small m → block .Fits (pluginAt m i)
-  unfolding pluginAt lifeAt decoded
+  unfolding pluginAt lifeAt decoded realmList
   plugin-fits h = (
     h (i * placeWords + idWord),
     (
@@ -130,8 +141,8 @@ module _ (m : List ℕ) (i : ℕ) where
                     (h (anchorWord m i), h (anchorWord m i + 1)),
                     (
                       (
-                        (omega (arith, few-realms), ports-fit "realm" (realmPart m i) (small-part m (i * placeWords + realmRowsWord) (realmsAt m i * 2) h)),
-                        refl,
+                        edition-fits (getD (realmPart m i) 0 0) (getD (realmPart m i) 1 0) (small-list h 1),
+                        (omega (arith, few-realms), ports-fit "realm" (drop 2 (realmPart m i)) (small-drop 2 (realmPart m i) (small-list h))),
                       ),
                       (
                         (omega (arith, few-deps), ports-fit "dep" (depPart m i) (small-part m (rowWord (startAt m i)) (depsAt m i * 2) h)),
@@ -174,9 +185,9 @@ module _ (m : List ℕ) (h : Small m) where
     plugins = view-all m (λ p. block .Fits p) (λ i. plugin-fits m i h);
   })
 
-  pub words-text : length (textOf (view m)) ≤ 139086
+  pub words-text : length (textOf (view m)) ≤ 140334
   unfolding view placesFrom
   words-text = any-text (view m) words-fit (view-all m Lists (lists-few m)) (omega arith)
 
-  pub words-most : length (textOf (view m)) ≤ 110 + 1399 * count (view m) + 46 * rowsInUse (view m)
+  pub words-most : length (textOf (view m)) ≤ 110 + 1438 * count (view m) + 46 * rowsInUse (view m)
   words-most = text-most (view m) words-fit (view-all m Lists (lists-few m))

@@ -1,4 +1,4 @@
--- The anchor, then the realms, then the dependencies, as the words have them.
+-- The anchor, then the realm list, then the dependencies, as the words have them.
 use Prim.Native.Nat.{_%_}
 use Rattle.memory.specs.Layout.{places}
 use Rattle.text_lines.specs.Laid.{laid-then}
@@ -17,46 +17,37 @@ slice-aggregate-pair-line c = search needs
 pair-line-requires : tie.Need-pair-line-requires
 pair-line-requires c κs = search needs
 
+realm-words-requires : tie.Need-realm-words-requires
+realm-words-requires c κs = search needs
+
+realm-lines-requires : tie.Need-realm-lines-requires
+realm-lines-requires c κs = search needs
+
 slice-aggregate-ports-lines : tie.Need-slice-aggregate-ports-lines
 slice-aggregate-ports-lines c = search needs
 
 slice-aggregate-ports-lines-2 : tie.Need-slice-aggregate-ports-lines-2
 slice-aggregate-ports-lines-2 c = search needs
 
-realm-words-requires : tie.Need-realm-words-requires
-realm-words-requires c κs = search needs
-
-ports-lines-requires : tie.Need-ports-lines-requires
-ports-lines-requires c κs = search needs
-
-slice-aggregate-ports-lines-3 : tie.Need-slice-aggregate-ports-lines-3
-slice-aggregate-ports-lines-3 c = search needs
-
-slice-aggregate-ports-lines-4 : tie.Need-slice-aggregate-ports-lines-4
-slice-aggregate-ports-lines-4 c = search needs
-
 dependency-words-requires : tie.Need-dependency-words-requires
 dependency-words-requires c κs = search needs
 
-ports-lines-requires-2 : tie.Need-ports-lines-requires-2
-ports-lines-requires-2 c κs = search needs
+ports-lines-requires : tie.Need-ports-lines-requires
+ports-lines-requires c κs = search needs
 
 same-length : tie.Need-same-length
 same-length c = search needs
 
 returns : tie.Need-returns
 returns c =
-    let a = c .before .before .before .before .before .before .before .before .before .before .before .before .before .before .before .before .before .before
-    .before .before .before .args in
-    let deps = laid-then (c .before .before .before .before .before .before .before .before .before .ports-lines .ensures)
-    (c .before .before .ports-lines2 .ensures) in
+    let deps = c .before .before in
+    let realms = deps .before .before .before .before .before .before .before in
+    let line = realms .before .before .before .before .before in
+    let anchor = line .before .before .before in
+    let a = anchor .before .before .args in
     laid-as
-    (list-bytes (a .m .now) (a .place % places)
-    (c .before .before .before .before .before .before .before .before .before .before .before .before .before .before .before .before .before .before
-    .before .anchor .ensures) (c .before .before .before .before .before .before .before .before .before .before .realm-words .ensures)
-    (c .before .before .before .dependency-words .ensures))
-    (laid-then (c .before .before .before .before .before .before .before .before .before .before .before .before .before .before .before .before .pair-line
-    .ensures) deps)
+    (list-bytes (a .m .now) (a .place % places) (anchor .anchor .ensures) (realms .before .realm-words .ensures) (deps .before .dependency-words .ensures))
+    (laid-then (line .pair-line .ensures) (laid-then (realms .realm-lines .ensures) (deps .ports-lines .ensures)))
 
 pub list-lines-spec : {M : Type 1} → statement M
 list-lines-spec =
@@ -65,13 +56,11 @@ list-lines-spec =
     anchor-requires
     slice-aggregate-pair-line
     pair-line-requires
+    realm-words-requires
+    realm-lines-requires
     slice-aggregate-ports-lines
     slice-aggregate-ports-lines-2
-    realm-words-requires
-    ports-lines-requires
-    slice-aggregate-ports-lines-3
-    slice-aggregate-ports-lines-4
     dependency-words-requires
-    ports-lines-requires-2
+    ports-lines-requires
     same-length
     returns)

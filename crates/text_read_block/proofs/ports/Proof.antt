@@ -10,10 +10,10 @@ use Rattle.text_read_block.proofs.ports.Statement.{statement}
 use Rattle.text_read_block.proofs.ports.Tie as tie
 
 abbrev Inv-loop : tie.InvT-loop
-Inv-loop text plural key into₀ lines first behind₀ i₀ into behind i = PortsSoFar key text first into₀ into behind i × (i ≤ lines)
+Inv-loop text plural key into₀ row lines first behind₀ i₀ into behind i = PortsSoFar key text first into₀ row into behind i × (i ≤ lines)
 
 abbrev μ-loop : tie.MeasureT-loop
-μ-loop text plural key into₀ lines first behind₀ i₀ into behind i = lines - i
+μ-loop text plural key into₀ row lines first behind₀ i₀ into behind i = lines - i
 
 number-line-requires : tie.Need-number-line-requires Inv-loop μ-loop
 number-line-requires c κs = search needs
@@ -27,12 +27,12 @@ enum-told c = search needs
 returns : tie.Need-returns Inv-loop μ-loop
 returns c =
     let a = c .before .before .before .before .before .before .before .args in
-    head-torn (a .plural .now) (a .key .now) (a .text .now) (a .at) (a .into .now) _ (c .before .before .number-line .ensures) (c .enum-told .given .1)
+    head-torn (a .plural .now) (a .key .now) (a .text .now) (a .at) (a .into .now) (a .row) _ (c .before .before .number-line .ensures) (c .enum-told .given .1)
 
 loop-holds : tie.Need-loop-holds Inv-loop μ-loop
 loop-holds c =
     let a = c .before .before .before .before .before .before .before .before .args in (
-      ports-start (a .plural .now) (a .key .now) (a .text .now) (a .at) (a .into .now) _ (c .before .before .before .number-line .ensures) _
+      ports-start (a .plural .now) (a .key .now) (a .text .now) (a .at) (a .into .now) (a .row) _ (c .before .before .before .number-line .ensures) _
           (c .before .start .given .1),
       omega arith,
     )
@@ -49,15 +49,18 @@ enum-told-2 c = search needs
 same-length : tie.Need-same-length Inv-loop μ-loop
 same-length c =
     let f = c .before .before .before .before .loop .inv .0 in
-    ap length (f .stored) ∙ rows-length _ 0 (f .ports)
+    ap length (f .stored) ∙ rows-length _ _ (f .ports)
 
 returns-2 : tie.Need-returns-2 Inv-loop μ-loop
 returns-2 c =
     let at = c .before .before .before .before in
     let d = at .before in
     let a = d .before .before .before .before .before .before .before .before .args in
-    ports-torn (a .plural .now) (a .key .now) (a .text .now) (a .at) (a .into .now) _ (d .before .before .before .number-line .ensures) _
+    ports-torn (a .plural .now) (a .key .now) (a .text .now) (a .at) (a .into .now) (a .row) _ (d .before .before .before .number-line .ensures) _
     (d .before .start .given .1) _ _ _ (at .loop .inv .0) _ (c .before .before .pair-line .ensures) (omega arith) (c .enum-told2 .given .1)
+
+add-put-row : tie.Need-add-put-row Inv-loop μ-loop
+add-put-row c = search needs
 
 put-row-requires : tie.Need-put-row-requires Inv-loop μ-loop
 put-row-requires c κs = search needs
@@ -73,7 +76,7 @@ loop-again c =
     let at = c .before .before .before .before .before .before .before .before .before in
     let d = at .before in
     let a = d .before .before .before .before .before .before .before .before .args in
-    let one = ports-more (a .plural .now) (a .key .now) (a .text .now) (a .at) (a .into .now) _ (d .before .before .before .number-line .ensures) _
+    let one = ports-more (a .plural .now) (a .key .now) (a .text .now) (a .at) (a .into .now) (a .row) _ (d .before .before .before .number-line .ensures) _
     (d .before .start .given .1) _ _ _ (at .loop .inv .0) _ (c .before .before .before .before .before .before .before .pair-line .ensures) _
     (c .before .before .before .before .before .end .given .1) in
     (rw (c .before .before .put-row .ensures) one, omega (arith, c .before .before .before .before .before .before .before .before .loop-test .taken))
@@ -81,14 +84,14 @@ loop-again c =
 same-length-2 : tie.Need-same-length-2 Inv-loop μ-loop
 same-length-2 c =
     let f = c .before .loop .inv .0 in
-    ap length (f .stored) ∙ rows-length _ 0 (f .ports)
+    ap length (f .stored) ∙ rows-length _ _ (f .ports)
 
 returns-3 : tie.Need-returns-3 Inv-loop μ-loop
 returns-3 c =
     let at = c .before in
     let d = at .before in
     let a = d .before .before .before .before .before .before .before .before .args in
-    ports-end (a .plural .now) (a .key .now) (a .text .now) (a .at) (a .into .now) _ (d .before .before .before .number-line .ensures) _
+    ports-end (a .plural .now) (a .key .now) (a .text .now) (a .at) (a .into .now) (a .row) _ (d .before .before .before .number-line .ensures) _
     (d .before .start .given .1) _ _ _ (at .loop .inv .0) (at .loop .inv .1) (omega arith)
 
 pub ports-spec : {M : Type 1} → statement M
@@ -107,6 +110,7 @@ ports-spec =
     enum-told-2
     same-length
     returns-2
+    add-put-row
     put-row-requires
     add-i
     loop-less
