@@ -13,9 +13,8 @@ use Rattle.rules.specs.declared.Root.the-variants.{Queued}
 use Rattle.rules_laws.specs.Demand3 as three
 use Rattle.rules_laws.specs.Built.{Built}
 use Rattle.rules_laws.specs.Kept.{opened-built, built-start}
-use Rattle.rules_load.specs.Formed.{text-formed}
 use Rattle.rules_load.specs.Meets.{loadable-meets}
-use Rattle.rules_load.specs.Laws.Unqueued.{moved-loadable, moved-formed}
+use Rattle.rules_load.specs.Laws.Unqueued.{moved-loadable}
 use Rattle.rules_load.specs.Loaded.{load-opens, opens-built, opens-start}
 use Rattle.memory.specs.View.{view}
 use Rattle.memory.specs.Writes.{openedWith}
@@ -51,9 +50,8 @@ module _ (domain : ℕ) (text : List ℕ) (r : Registry) (e : load domain text �
       let o = load-opens domain text r e in
       let s = movedTo domain (o .0) in
       let c = loadable-meets s (moved-loadable domain (o .0) (o .2)) in
-      let f = moved-formed domain (o .0) (text-formed text (o .0) (o .1)) in
       subst⁻¹ (λ (q : Registry). Dense (wordsOf q) × (view (wordsOf q) ≡ q)) (o .3)
-      (words-dense s (c .rise) (c .limits) (c .short) (f .default), words-view s (c .rise) (c .limits) (c .short) (f .default))
+      (words-dense s (c .rise) (c .limits) (c .short), words-view s (c .rise) (c .limits) (c .short))
 
   pub load-view : view (wordsOf r) ≡ r
   load-view = load-words .1

@@ -22,5 +22,5 @@ module _ (m m′ : List ℕ) where
 pub made-in-order : (m : List ℕ) → Made m → InOrder (view m)
 made-in-order m w = in-order (view m) (made-sound m w .built)
 
-pub made-text : (m : List ℕ) → Made m → Small m → length (textOf (view m)) ≤ 91982
+pub made-text : (m : List ℕ) → Made m → Small m → length (textOf (view m)) ≤ 93230
 made-text m w h = built-text (view m) (words-fit m h) (made-sound m w .built)

@@ -8,7 +8,7 @@ ghost use Rattle.host.specs.Tells.{answer};
 use host_answers::ANSWER;
 use memory::WORDS;
 
-// A key resolved in a realm list of the host's.
+// A key resolved in a realm list of the host's: 26, 4.
 #[no_mangle]
 pub extern "C" fn vaskelbi_resolve(realms: &[u64], key: u64, out: &mut [u64; ANSWER]) -> u64
     ensures { λ r. ⌜ Tells (answerOf (resolveKey (now (realms .entry)) key)) (now (out .entry)) r (now (out .exit)) ⌝ }

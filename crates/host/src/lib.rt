@@ -38,6 +38,7 @@ pub use phases::vaskelbi_unload;
 pub use queries::vaskelbi_anchor;
 pub use queries::vaskelbi_count;
 pub use queries::vaskelbi_domain;
+pub use queries::vaskelbi_edition;
 pub use queries::vaskelbi_first;
 pub use queries::vaskelbi_generation;
 pub use queries::vaskelbi_id_from;

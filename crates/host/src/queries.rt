@@ -2,7 +2,7 @@
 ghost use mathlib.Core.Path.{_≡_};
 ghost use mathlib.Core.List.{[], _∷_};
 ghost use Rattle.rules.specs.Outcomes.{Accepted};
-ghost use Rattle.rules.specs.Queries.{Parent, Anchor, PhaseOf, RetiredMark, Generation, Revision, Payload, RootOf};
+ghost use Rattle.rules.specs.Queries.{Parent, Anchor, EditionOf, PhaseOf, RetiredMark, Generation, Revision, Payload, RootOf};
 ghost use Rattle.rules.specs.Queries.{Domain, FirstId, NextId, Registered, RowsInUse};
 ghost use Rattle.rules.specs.Steps.{Ask};
 ghost use Rattle.rules.specs.Questions.{AskPlugin, AskRegistry, IdFrom};
@@ -24,6 +24,14 @@ pub extern "C" fn vaskelbi_anchor(m: &[u64; WORDS], id: u64, out: &mut [u64; ANS
     ensures { λ r. ⌜ Tells (answer (now (m .entry)) (Ask (AskPlugin Anchor id))) (now (out .entry)) r (now (out .exit)) ⌝ }
 {
     host_answers::port(registry_queries::anchor(m, id), out)
+}
+
+// The edition of its realm list, 1 or 2, and its default realm, 0 in edition 1.
+#[no_mangle]
+pub extern "C" fn vaskelbi_edition(m: &[u64; WORDS], id: u64, out: &mut [u64; ANSWER]) -> u64
+    ensures { λ r. ⌜ Tells (answer (now (m .entry)) (Ask (AskPlugin EditionOf id))) (now (out .entry)) r (now (out .exit)) ⌝ }
+{
+    host_answers::edition(registry_queries::edition(m, id), out)
 }
 
 // 0 Idle, 1 Loading, 2 Active, 3 Unloading.

@@ -8,7 +8,8 @@ use host_answers::ANSWER;
 use memory::WORDS;
 use rules::Port;
 
-// Registration without a parent: anchor, payload, realm list (key, realm, key, realm), dependency keys, provision keys. It answers the new id.
+// Registration without a parent: anchor, payload, realm list (edition, default, key, realm, key, realm), dependency keys, provision
+// keys. It answers the new id.
 #[no_mangle]
 pub extern "C" fn vaskelbi_register(
     m: &mut [u64; WORDS],

@@ -3,7 +3,7 @@ ghost use mathlib.Core.Path.{_≡_};
 ghost use mathlib.Core.List.{[], _∷_};
 ghost use Rattle.rules.specs.Queries.{rootNumbers};
 ghost use Rattle.rules.specs.Answers.{doneAnswer, whetherAnswer, numberAnswer, optionAnswer};
-ghost use Rattle.registry_queries.specs.Answers.{perhapsAnswer, portAnswer, rootAnswer};
+ghost use Rattle.registry_queries.specs.Answers.{perhapsAnswer, portAnswer, rootAnswer, editionAnswer};
 ghost use Rattle.ports_realms.specs.Answers.{resolvedAnswer};
 ghost use Rattle.registry_steps.specs.Answers.{begunAnswer};
 ghost use Rattle.registry_replace.specs.Answers.{replacedAnswer};
@@ -141,6 +141,17 @@ pub fn root(a: registry_queries::RootAnswer, out: &mut [u64; ANSWER]) -> u64
     match a {
         registry_queries::RootAnswer::Is(root) => issued(root, out),
         registry_queries::RootAnswer::Refused(why) => why,
+    }
+}
+
+pub fn edition(a: registry_queries::EditionAnswer, out: &mut [u64; ANSWER]) -> u64
+    ensures { λ r. ⌜ Tells (editionAnswer a) (now (out .entry)) r (now (out .exit)) ⌝ }
+{
+    match a {
+        registry_queries::EditionAnswer::Is(edition) => {
+            two(edition.number(), edition.default(), out)
+        }
+        registry_queries::EditionAnswer::Refused(why) => why,
     }
 }
 

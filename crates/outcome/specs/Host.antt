@@ -19,6 +19,9 @@ host-answers-perhaps κs a r s ms ns p q = by-two p q
 pub host-answers-port : One host_answers.port.ended host_answers.port.Reads.Learnt
 host-answers-port κs a r s ms ns p q = by-two p q
 
+pub host-answers-edition : One host_answers.edition.ended host_answers.edition.Reads.Learnt
+host-answers-edition κs a r s ms ns p q = by-two p q
+
 pub host-answers-root : One host_answers.root.ended host_answers.root.Reads.Learnt
 host-answers-root κs a r s ms ns p q = by-two p q
 
@@ -132,6 +135,9 @@ host-vaskelbi-revision κs a r s ms ns p q = by-two p q
 
 pub host-vaskelbi-payload : One host.«vaskelbi_payload».ended host.«vaskelbi_payload».Reads.Learnt
 host-vaskelbi-payload κs a r s ms ns p q = by-two p q
+
+pub host-vaskelbi-edition : One host.«vaskelbi_edition».ended host.«vaskelbi_edition».Reads.Learnt
+host-vaskelbi-edition κs a r s ms ns p q = by-two p q
 
 pub host-vaskelbi-root : One host.«vaskelbi_root».ended host.«vaskelbi_root».Reads.Learnt
 host-vaskelbi-root κs a r s ms ns p q = by-two p q

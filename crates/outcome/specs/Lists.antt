@@ -1,4 +1,5 @@
 -- Each promise of these crates allows one outcome: the forms that the rules and the code share, and lists of keys and ports.
+use denote.Ref.{now}
 use Rattle.ports_realms.specs.Answers.{resolved-exact}
 use Rattle.slot_child.specs.Exact.{decided-exact, slot-exact}
 use Rattle.rules.proofs as rules
@@ -9,7 +10,7 @@ use Rattle.ports.proofs as ports
 use Rattle.ports_realms.proofs as ports_realms
 use Rattle.ports_resolved.proofs as ports_resolved
 use Rattle.ports_inherited.proofs as ports_inherited
-use Rattle.outcome.specs.One.{One}
+use Rattle.outcome.specs.One.{One, OneSeen}
 use Rattle.outcome.specs.Equations.{by-equation, by-two, one-outcome, one-with-memory}
 
 pub rules-Port-new : One rules.Port.new.ended rules.Port.new.Reads.Learnt
@@ -17,6 +18,15 @@ rules-Port-new κs a r s ms ns p q = by-equation p q
 
 pub rules-Port-in-default-realm : One rules.Port.«in_default_realm».ended rules.Port.«in_default_realm».Reads.Learnt
 rules-Port-in-default-realm κs a r s ms ns p q = by-equation p q
+
+pub rules-Edition-number : One rules.Edition.number.ended rules.Edition.number.Reads.Learnt
+rules-Edition-number κs a r s ms ns p q = by-equation p q
+
+pub rules-Edition-default : One rules.Edition.default.ended rules.Edition.default.Reads.Learnt
+rules-Edition-default κs a r s ms ns p q = by-equation p q
+
+pub rules-Edition-absent : One rules.Edition.absent.ended rules.Edition.absent.Reads.Learnt
+rules-Edition-absent κs a r s ms ns p q = by-equation p q
 
 pub rules-Phase-number : One rules.Phase.number.ended rules.Phase.number.Reads.Learnt
 rules-Phase-number κs a r s ms ns p q = by-equation p q
@@ -44,6 +54,18 @@ slot-child-Slot-cancel κs a r s ms ns p q = one-outcome decided-exact p q
 
 pub ports-listed-list-ports : One ports_listed.«list_ports».ended ports_listed.«list_ports».Reads.Learnt
 ports-listed-list-ports κs a r s ms ns p q = one-with-memory number-exact p q
+
+pub ports-realms-edition : One ports_realms.edition.ended ports_realms.edition.Reads.Learnt
+ports-realms-edition κs a r s ms ns p q = by-equation p q
+
+pub ports-realms-default-realm : One ports_realms.«default_realm».ended ports_realms.«default_realm».Reads.Learnt
+ports-realms-default-realm κs a r s ms ns p q = by-equation p q
+
+pub ports-realms-rows : OneSeen ports_realms.rows.ended (λ κs r. now r) ports_realms.rows.Reads.Learnt
+ports-realms-rows κs a r s ms ns p q = by-equation p q
+
+pub ports-realms-list-verdict : One ports_realms.«list_verdict».ended ports_realms.«list_verdict».Reads.Learnt
+ports-realms-list-verdict κs a r s ms ns p q = by-equation p q
 
 pub ports-realms-bad-realms : One ports_realms.«bad_realms».ended ports_realms.«bad_realms».Reads.Learnt
 ports-realms-bad-realms κs a r s ms ns p q = by-equation p q

@@ -15,7 +15,7 @@ use Rattle.text_read.proofs as text_read
 use Rattle.text_read_block.proofs as text_read_block
 use Rattle.registry_load.proofs as registry_load
 use Rattle.console_load.proofs as console_load
-use Rattle.text_read.specs.Answers.{number-one, phase-one, mark-one, option-one, pair-one, provision-one, root-one}
+use Rattle.text_read.specs.Answers.{number-one, phase-one, mark-one, option-one, pair-one, provision-one, root-one, edition-one}
 use Rattle.text_read_block.specs.Blocks.{Lent, block-one}
 use Rattle.outcome.specs.Answers.{parent-exact}
 use Rattle.outcome.specs.Records.{ends-one}
@@ -87,6 +87,9 @@ text-read-pair-line κs a r s ms ns p q = pair-one p q
 
 pub text-read-provision-line : One text_read.«provision_line».ended text_read.«provision_line».Reads.Learnt
 text-read-provision-line κs a r s ms ns p q = provision-one p q
+
+pub text-read-edition-lines : One text_read.«edition_lines».ended text_read.«edition_lines».Reads.Learnt
+text-read-edition-lines κs a r s ms ns p q = edition-one p q
 
 pub text-read-root-lines : One text_read.«root_lines».ended text_read.«root_lines».Reads.Learnt
 text-read-root-lines κs a r s ms ns p q = root-one p q

@@ -15,7 +15,7 @@ use Rattle.rules.specs.Answers.{done-exact, whether-exact, number-exact}
 use Rattle.registry_replace.specs.Records.{changeOf}
 use Rattle.registry_replace.specs.declared.Replaced.{Replaced}
 use Rattle.registry_admit.specs.Answers.{admits-exact, admitted-exact, called-exact}
-use Rattle.registry_queries.specs.Answers.{perhaps-exact, port-exact}
+use Rattle.registry_queries.specs.Answers.{perhaps-exact, port-exact, edition-exact}
 use Rattle.registry_replace.specs.Answers.{replaced-exact}
 use Rattle.registry_queries.proofs as registry_queries
 use Rattle.registry_retire.proofs as registry_retire
@@ -49,6 +49,9 @@ registry-queries-revision κs a r s ms ns p q = one-outcome number-exact p q
 
 pub registry-queries-payload : One registry_queries.payload.ended registry_queries.payload.Reads.Learnt
 registry-queries-payload κs a r s ms ns p q = one-outcome number-exact p q
+
+pub registry-queries-edition : One registry_queries.edition.ended registry_queries.edition.Reads.Learnt
+registry-queries-edition κs a r s ms ns p q = one-outcome edition-exact p q
 
 pub registry-queries-root : One registry_queries.root.ended registry_queries.root.Reads.Learnt
 registry-queries-root κs a r s ms ns p q = one-outcome root-exact p q

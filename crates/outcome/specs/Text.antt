@@ -40,6 +40,9 @@ text-lines-pair-line κs a r s ms ns p q = laid-one p q
 pub text-lines-triple-line : One text_lines.«triple_line».ended text_lines.«triple_line».Reads.Learnt
 text-lines-triple-line κs a r s ms ns p q = laid-one p q
 
+pub text-lines-edition-lines : One text_lines.«edition_lines».ended text_lines.«edition_lines».Reads.Learnt
+text-lines-edition-lines κs a r s ms ns p q = laid-one p q
+
 pub text-lines-root-lines : One text_lines.«root_lines».ended text_lines.«root_lines».Reads.Learnt
 text-lines-root-lines κs a r s ms ns p q = laid-one p q
 
