@@ -15,6 +15,7 @@ use Rattle.console_words.specs.declared.Span.{Span}
 use Rattle.console_words.specs.declared.Run.{Run}
 use Rattle.console_definition.specs.declared.Parent.the-variants.{Of, None, Bad}
 use Rattle.console_definition.specs.declared.Number.{Number}
+use Rattle.console_definition.specs.declared.Head.{Head}
 use Rattle.console_definition.specs.declared.Counted.{Counted}
 use Rattle.console_definition.specs.Definitions.{wordFrom, parentIn, underIn, numberIn, headIn, Listed, listed, listBehind, three, listsIn}
 use Rattle.console_words.specs.Fronts.{Front, fronted}
@@ -77,10 +78,22 @@ front : (l : Listed) (before after : List ℕ) (r : Counted) → Behind l before
 front l before after r h = fronted (l .numbers) (r .count) before after (ap (λ (x : Counted). x .count) (h .list)) (h .numbers)
 
 module _ (line : List ℕ) (from : ℕ) where
-  pub head-of : (a b c : Number) (found : Bool) → a ≡ numberIn line from → b ≡ numberIn line (a .stop) → c ≡ numberIn line (b .stop)
-      → found ≡ (a .is && (b .is && c .is)) → record { found = found; key = a .value; realm = b .value; payload = c .value; stop = c .stop } ≡ headIn line from
+  abbrev head : Bool → Number → Number → Number → Number → Number → Head
+  head found a b c d e = record {
+    found = found;
+    key = a .value;
+    realm = b .value;
+    payload = c .value;
+    edition = d .value;
+    default = e .value;
+    stop = e .stop;
+  }
+
+  pub head-of : (a b c d e : Number) (last found : Bool) → a ≡ numberIn line from → b ≡ numberIn line (a .stop) → c ≡ numberIn line (b .stop)
+      → d ≡ numberIn line (c .stop) → e ≡ numberIn line (d .stop) → last ≡ (c .is && (d .is && e .is)) → found ≡ (a .is && (b .is && last))
+      → head found a b c d e ≡ headIn line from
   unfolding headIn
-  head-of a b c found ea eb ec ef = rw (← ea, ← eb, ← ec, ef)
+  head-of a b c d e last found ea eb ec ed ee el ef = rw (← ea, ← eb, ← ec, ← ed, ← ee, ef, el)
 
   abbrev realmsOf : Listed
   realmsOf = listBehind line from (bytes "realms")

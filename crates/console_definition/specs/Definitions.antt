@@ -1,7 +1,7 @@
--- The line of a registration, behind its name: PARENT KEY REALM PAYLOAD realms N.. deps N.. provs N..
+-- The line of a registration, behind its name: PARENT KEY REALM PAYLOAD EDITION DEFAULT realms N.. deps N.. provs N..
 use Prim.Native.Nat.{ℕ}
 use mathlib.Core.Bool.{Bool, true, false, _&&_}
-use mathlib.Core.List.{List, []}
+use mathlib.Core.List.{List, [], _∷_}
 use mathlib.Core.Option.{Option, none, some}
 use lib.Dec.{eqb}
 use lib.ListN.{length}
@@ -39,21 +39,25 @@ underIn line from = record { parent = parentIn line from; stop = past line from 
 unfoldable pub numberIn : List ℕ → ℕ → Number
 numberIn line from = record { is = isSome (numberAt line from); value = orElse (numberAt line from) 0; stop = past line from }
 
-abbrev pub headed : Number → Number → Number → Head
-headed key realm payload = record {
-  found = key .is && (realm .is && payload .is);
+abbrev pub headed : Number → Number → Number → Number → Number → Head
+headed key realm payload edition default = record {
+  found = key .is && (realm .is && (payload .is && (edition .is && default .is)));
   key = key .value;
   realm = realm .value;
   payload = payload .value;
-  stop = payload .stop;
+  edition = edition .value;
+  default = default .value;
+  stop = default .stop;
 }
 
--- KEY REALM PAYLOAD are three numbers.
+-- KEY REALM PAYLOAD EDITION DEFAULT are five numbers.
 unfoldable pub headIn : List ℕ → ℕ → Head
 headIn line from =
     let key = numberIn line from in
     let realm = numberIn line (key .stop) in
-    headed key realm (numberIn line (realm .stop))
+    let payload = numberIn line (realm .stop) in
+    let edition = numberIn line (payload .stop) in
+    headed key realm payload edition (numberIn line (edition .stop))
 
 -- A list behind its word: whether the word is there, the numbers, and where they stop.
 pub record Listed : Type 0 where
@@ -91,12 +95,12 @@ listsIn line from =
     let deps = listBehind line (realms .stop) (bytes "deps") in
     three (length line) realms deps (listBehind line (deps .stop) (bytes "provs"))
 
--- What the registration is given.
+-- What the registration is given: its realm list is edition, default and rows.
 abbrev pub given : Option ℕ → Head → ThreeLists → Definition
 given parent h l = record {
   parent = parent;
   anchor = port (h .key) (h .realm);
-  realms = l .realms;
+  realms = h .edition ∷ h .default ∷ l .realms;
   dependencies = l .deps;
   provisions = l .provs;
   payload = h .payload;

@@ -1,4 +1,4 @@
-// The line of a registration: parent, anchor, payload, and three lists, each behind its word.
+// The line of a registration: parent, anchor, payload, the realm list's edition and default, and three lists, each behind its word.
 ghost use mathlib.Core.Path.{_≡_};
 ghost use mathlib.Core.Bool.{_&&_};
 ghost use lib.Dec.{eqb};
@@ -26,12 +26,14 @@ struct Number {
     stop: usize,
 }
 
-// Anchor and payload, if there are three numbers, and the place behind them.
+// Anchor, payload, and the realm list's edition and default, if there are five numbers, and the place behind them.
 pub struct Head {
     pub found: bool,
     pub key: u64,
     pub realm: u64,
     pub payload: u64,
+    pub edition: u64,
+    pub default: u64,
     pub stop: usize,
 }
 
@@ -108,20 +110,25 @@ fn all(a: bool, b: bool, c: bool) -> bool
     false
 }
 
-// Anchor and payload: the next three words as numbers.
+// Anchor, payload, edition and default: the next five words as numbers.
 pub fn read_head(bytes: &[u8], from: usize) -> Head
     ensures { λ r. ⌜ r ≡ headIn (now (bytes .entry)) from ⌝ }
 {
     let key = read_number(bytes, from);
     let realm = read_number(bytes, key.stop);
     let payload = read_number(bytes, realm.stop);
-    let found = all(key.is, realm.is, payload.is);
+    let edition = read_number(bytes, payload.stop);
+    let default = read_number(bytes, edition.stop);
+    let last = all(payload.is, edition.is, default.is);
+    let found = all(key.is, realm.is, last);
     Head {
         found,
         key: key.value,
         realm: realm.value,
         payload: payload.value,
-        stop: payload.stop,
+        edition: edition.value,
+        default: default.value,
+        stop: default.stop,
     }
 }
 

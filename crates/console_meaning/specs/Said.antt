@@ -26,7 +26,7 @@ use Rattle.console_register.specs.Registrations.{registration}
 use Rattle.console_line.specs.Lines.{lineEnd, bad, listed, askedLine, numbersLine, registerLine}
 use Rattle.console_meaning.specs.Values.{Brief, register-brief, begin-brief, replace-brief, fits-brief, admit-brief, call-brief, child-brief, read-brief}
 use Rattle.console_meaning.specs.Values.{visible-brief, missing-brief, matches-brief, declares-brief, lookup-brief, resolve-brief, total-brief}
-use Rattle.console_meaning.specs.Values.{listed-brief}
+use Rattle.console_meaning.specs.Values.{edition-brief, listed-brief}
 use Rattle.console_meaning.specs.Values.{Silent, ready-silent, fail-silent, unload-silent, finish-silent}
 use Rattle.console_meaning.specs.Values.{retire-silent, retire-child-silent, remove-silent, offer-silent}
 use Rattle.console_meaning.specs.Told.{said, silent}
@@ -127,6 +127,7 @@ shown l =
     & total-brief RowsInUse
     & total-brief Registered
     & total-brief NextId
+    & edition-brief _
     & tt
 
 -- Plain is all that a line of numbers asks for,

@@ -20,9 +20,10 @@ use Rattle.rules.specs.Admission.{Ticket, Invocation, admit, call}
 use Rattle.rules.specs.Retirement.{Identity, retireFound, retire, retireChild, identity, childIdentity, remove}
 use Rattle.rules.specs.Values.{valueIn, given, served, seen, firstMissing, offer, read, visible, missing, matching, declares}
 use Rattle.rules.specs.Lists.{Which, listing, list}
-use Rattle.rules.specs.Queries.{Total}
+use Rattle.rules.specs.Queries.{Total, EditionOf, askPlugin}
 use Rattle.rules.specs.Steps.{Op, answerTo, Register, Begin, Ready, Fail, Unload, Finish, Replace, Admit, Call, Retire, RetireChild, Remove, Offer, Ask, Write}
-use Rattle.rules.specs.Questions.{ResolveKey, DependencyPort, Fits, ChildIdentity, Read, Visible, FirstMissing, Matching, Declares, AskRegistry, Listed}
+use Rattle.rules.specs.Questions.{ResolveKey, DependencyPort, Fits, ChildIdentity, Read, Visible, FirstMissing, Matching, Declares}
+use Rattle.rules.specs.Questions.{AskPlugin, AskRegistry, Listed}
 use Rattle.rules_laws.specs.Laws.Tests.{checked-elim, found-elim}
 use Rattle.console_show.specs.Shown.{valuesOf}
 use Rattle.console_show.specs.Told.{one-fits}
@@ -155,6 +156,10 @@ lookup-brief id key r = few-known r id _ λ p. few-first key (p .dependencies)
 pub resolve-brief : (realms : List ℕ) (key : ℕ) → Brief (Ask (ResolveKey realms key))
 unfolding resolveKey
 resolve-brief realms key r = few-checked _ _ (omega arith)
+
+pub edition-brief : (id : ℕ) → Brief (Ask (AskPlugin EditionOf id))
+unfolding askPlugin
+edition-brief id r = few-known r id _ λ p. omega arith
 
 pub total-brief : (t : Total) → Brief (Ask (AskRegistry t))
 total-brief t r = omega arith

@@ -9,9 +9,10 @@ use lib.ListN.{getD, drop}
 use Rattle.rules.specs.Holds as rules
 use Rattle.rules.specs.Holds.{port}
 use Rattle.rules.specs.Outcomes.{Outcome}
-use Rattle.rules.specs.Queries.{RowsInUse, Registered, NextId}
+use Rattle.rules.specs.Queries.{RowsInUse, Registered, NextId, EditionOf}
 use Rattle.rules.specs.Steps.{Op, Begin, Ready, Fail, Unload, Finish, Replace, Admit, Call, Retire, RetireChild, Remove, Offer, Ask}
-use Rattle.rules.specs.Questions.{Question, ResolveKey, DependencyPort, Fits, ChildIdentity, Read, Visible, FirstMissing, Matching, Declares, AskRegistry}
+use Rattle.rules.specs.Questions.{Question, ResolveKey, DependencyPort, Fits, ChildIdentity, Read, Visible, FirstMissing, Matching, Declares}
+use Rattle.rules.specs.Questions.{AskPlugin, AskRegistry}
 use Rattle.text_form.specs.Bytes.{bytes}
 use Rattle.console_names.specs.declared.Count.{Count}
 use Rattle.console_names.specs.declared.Count.the-variants.{Exactly, AtLeast}
@@ -111,7 +112,7 @@ operations =
     ∷ askMore "matches" 1 YesOrNo (λ l. Matching (first l) (rest l))
     ∷ ask "declares" 3 YesOrNo (λ l. Declares (first l) (port (second l) (third l)))
     ∷ ask "lookup" 2 NumbersOrNone (λ l. DependencyPort (first l) (second l))
-    ∷ askMore "resolve" 1 Numbers (λ l. ResolveKey (rest l) (first l))
+    ∷ askMore "resolve" 3 Numbers (λ l. ResolveKey (rest l) (first l))
     ∷ other "deps" (Takes (Exactly 2) (Lists Deps))
     ∷ other "provs" (Takes (Exactly 2) (Lists Provs))
     ∷ other "realms" (Takes (Exactly 2) (Lists Realms))
@@ -123,6 +124,7 @@ operations =
     ∷ other "slot" Slot
     ∷ other "write" (Takes (Exactly 1) Text)
     ∷ other "load" (Takes (Exactly 2) Load)
+    ∷ ask "edition" 1 Numbers (λ l. AskPlugin EditionOf (first l))
     ∷ []
 
 -- What no name is.

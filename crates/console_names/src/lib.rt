@@ -98,8 +98,10 @@ pub const COUNT: usize = 28;
 
 pub const NEXT: usize = 29;
 
+pub const EDITION: usize = 34;
+
 // How many operations there are.
-const OPERATIONS: usize = 34;
+const OPERATIONS: usize = 35;
 
 // What is done with the numbers, as the table says it; each has its place among these.
 const KINDS: [Kind; 11] = [
@@ -173,7 +175,7 @@ const TABLE: [[usize; 3]; OPERATIONS] = [
     [1, MORE, YES_OR_NO], // matches
     [3, ONLY, YES_OR_NO], // declares
     [2, ONLY, NUMBERS_OR_NONE], // lookup
-    [1, MORE, NUMBERS], // resolve
+    [3, MORE, NUMBERS], // resolve
     [2, ONLY, DEPS], // deps
     [2, ONLY, PROVS], // provs
     [2, ONLY, REALMS], // realms
@@ -185,6 +187,7 @@ const TABLE: [[usize; 3]; OPERATIONS] = [
     [0, ONLY, SLOT], // slot
     [1, ONLY, TEXT], // write
     [2, ONLY, LOAD], // load
+    [1, ONLY, NUMBERS], // edition
 ];
 
 // How many numbers stand behind a name, and whether nothing else does.
@@ -228,7 +231,7 @@ pub fn operation(name: &[u8]) -> usize
     which(
         name,
         b"open register begin ready fail unload finish replace fits admit call retire retire_child remove child offer read visible \
-          missing matches declares lookup resolve deps provs realms buffer rows count next show slot write load",
+          missing matches declares lookup resolve deps provs realms buffer rows count next show slot write load edition",
     )
 }
 

@@ -37,7 +37,7 @@ abbrev pub steps : List String
 steps = "open" ∷ "begin" ∷ "ready" ∷ "fail" ∷ "unload" ∷ "finish" ∷ "replace" ∷ "admit" ∷ "call" ∷ "retire" ∷ "retire_child" ∷ "remove" ∷ "offer" ∷ []
 
 abbrev pub questions : List String
-questions = "fits" ∷ "child" ∷ "read" ∷ "visible" ∷ "missing" ∷ "declares" ∷ "lookup" ∷ "rows" ∷ "count" ∷ "next" ∷ []
+questions = "fits" ∷ "child" ∷ "read" ∷ "visible" ∷ "missing" ∷ "declares" ∷ "lookup" ∷ "rows" ∷ "count" ∷ "next" ∷ "edition" ∷ []
 
 module _ (place : ℕ) where
   pub matches-asked : (l : List ℕ) (a : ℕ) (r : List ℕ) → place ≡ placeOf "matches" → a ≡ first l → r ≡ rest l → askedAt place l ≡ Told (Ask (Matching a r))

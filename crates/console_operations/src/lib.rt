@@ -43,6 +43,7 @@ fn question(m: &[u64; WORDS], place: usize, a: u64, b: u64, c: u64, out: &mut [u
         console_names::ROWS => one(host::vaskelbi_rows(m), out),
         console_names::COUNT => one(host::vaskelbi_count(m), out),
         console_names::NEXT => one(host::vaskelbi_next(m), out),
+        console_names::EDITION => host::vaskelbi_edition(m, a, out),
         _ => BAD,
     }
 }

@@ -11,7 +11,7 @@ use Rattle.rules.specs.Holds.{Plugin}
 use Rattle.rules.specs.declared.Root.{Root}
 use Rattle.rules.specs.declared.Root.the-variants.{Unissued, Queued, Spent}
 use Rattle.rules.specs.Outcomes.{Answer, Refused, Accepted}
-use Rattle.rules.specs.Queries.{Field, Parent, Anchor, PhaseOf, RetiredMark, Generation, Revision, Payload, RootOf, rootNumbers, fieldOf}
+use Rattle.rules.specs.Queries.{Field, Parent, Anchor, EditionOf, PhaseOf, RetiredMark, Generation, Revision, Payload, RootOf, rootNumbers, fieldOf}
 use Rattle.memory.specs.Writes.{puts}
 use Rattle.memory.specs.Frames.{puts-length}
 use Rattle.host_answers.specs.Told.{counted, wordsOf}
@@ -55,6 +55,7 @@ root-fits Spent = omega arith
 pub field-fits : (f : Field) (p : Plugin) → length (fieldOf f p) < 7
 field-fits Parent p = one-fits (p .parent)
 field-fits Anchor p = omega arith
+field-fits EditionOf p = omega arith
 field-fits PhaseOf p = omega arith
 field-fits RetiredMark p = omega arith
 field-fits Generation p = omega arith

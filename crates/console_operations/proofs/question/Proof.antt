@@ -49,6 +49,9 @@ vaskelbi-next-requires c κs = search needs
 one-requires-3 : tie.Need-one-requires-3
 one-requires-3 c κs = search needs
 
+vaskelbi-edition-requires : tie.Need-vaskelbi-edition-requires
+vaskelbi-edition-requires c κs = search needs
+
 returns : tie.Need-returns
 unfolding operationAt
 returns c =
@@ -116,8 +119,14 @@ returns-10 c =
     (c .one3 .ensures .1))
 
 returns-11 : tie.Need-returns-11
-unfolding placeAmong
+unfolding operationAt
 returns-11 c =
+    let x = c .before .before .before .args in
+    question-at (x .place) (three (x .a) (x .b) (x .c)) (x .m .now) (x .out .now) _ _ _ (c .before .before .match .keys11) (c .vaskelbi-edition .ensures)
+
+returns-12 : tie.Need-returns-12
+unfolding placeAmong
+returns-12 c =
     let x = c .before .args in
     no-question (x .place) (three (x .a) (x .b) (x .c)) (x .m .now) (x .out .now) (c .match .rest)
 
@@ -138,6 +147,7 @@ question-spec =
     one-requires-2
     vaskelbi-next-requires
     one-requires-3
+    vaskelbi-edition-requires
     returns
     returns-2
     returns-3
@@ -148,4 +158,5 @@ question-spec =
     returns-8
     returns-9
     returns-10
-    returns-11)
+    returns-11
+    returns-12)

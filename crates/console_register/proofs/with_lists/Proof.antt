@@ -3,7 +3,7 @@ use mathlib.Core.Path.{refl, sym, _∙_}
 use Rattle.console_operations.specs.Carried.{same}
 use Rattle.console_definition.specs.Definitions.{listsIn}
 use Rattle.console_words.specs.Fronts.{front-is}
-use Rattle.console_register.proofs.Laws.{no-head, no-lists, all-there, yes}
+use Rattle.console_register.proofs.Laws.{no-head, no-lists, one-list, all-there, yes}
 use borrow.Author.Needs.{needs}
 use Rattle.console_register.proofs.with_lists.Statement.{statement}
 use Rattle.console_register.proofs.with_lists.Tie as tie
@@ -21,6 +21,9 @@ returns-2 c =
     let x = c .before .before .before .before .before .before .before .before .before .args in
     let t = c .before .before .three-lists in
     same (x .m .now) (x .out .now) _ _ _ _ _ (no-lists (x .under) (x .head) _ (t .result .found) (t .ensures .found) (c .if2 .taken)) ((refl, refl), refl)
+
+realm-list-requires : tie.Need-realm-list-requires
+realm-list-requires c κs = search needs
 
 array-share-prefix-realms : tie.Need-array-share-prefix-realms
 array-share-prefix-realms c = search needs
@@ -45,14 +48,15 @@ register-requires c κs = search needs
 
 returns-3 : tie.Need-returns-3
 returns-3 c =
-    let x = c .before .before .before .before .before .before .before .before .before .before .before .before .before .before .before .args in
-    let t = c .before .before .before .before .before .before .before .before .three-lists in
+    let r = c .before .before .before .before .before .before in
+    let t = r .before .before .before .before .before in
+    let x = t .before .before .before .before .before .before .before .args in
     let l = listsIn (x .bytes .now) (x .head .stop) in
-    let hf = yes (x .head .found) (c .before .before .before .before .before .before .before .before .before .before .before .before .if1 .left) in
-    let lf = sym (t .ensures .found) ∙ yes (t .result .found) (c .before .before .before .before .before .before .if2 .left) in
-    let a = front-is (l .realms) _ _ _ (t .ensures .realms) in
-    let b = front-is (l .deps) _ _ _ (t .ensures .deps) in
-    let d = front-is (l .provs) _ _ _ (t .ensures .provs) in
+    let hf = yes (x .head .found) (t .before .before .before .before .if1 .left) in
+    let lf = sym (t .three-lists .ensures .found) ∙ yes (t .three-lists .result .found) (r .before .before .before .if2 .left) in
+    let a = one-list (x .head .edition) (x .head .default) (l .realms) _ _ _ _ _ _ (t .three-lists .ensures .realms) (r .realm-list .ensures) in
+    let b = front-is (l .deps) _ _ _ (t .three-lists .ensures .deps) in
+    let d = front-is (l .provs) _ _ _ (t .three-lists .ensures .provs) in
     same (x .m .now) (x .out .now) _ _ _ _ _ (all-there (x .under) (x .head) l _ _ _ hf lf a b d) (c .register .ensures)
 
 pub with-lists-spec : {M : Type 1} → statement M
@@ -62,6 +66,7 @@ with-lists-spec =
     returns
     three-lists-requires
     returns-2
+    realm-list-requires
     array-share-prefix-realms
     slice-aggregate-register
     array-share-prefix-deps
