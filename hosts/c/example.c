@@ -33,9 +33,10 @@ static vaskelbi_invocation begin_and_admit(uint64_t id, uint64_t argument) {
 }
 
 int main(void) {
+    const vaskelbi_realms realms = {.edition = VASKELBI_FIRST_EDITION}; // every key in realm 0
     const uint64_t none[1] = {0}, provisions[] = {ANGLE};
     vaskelbi_open(&registry, DOMAIN, FIRST);
-    accepted(vaskelbi_register(&registry, ANCHOR, 0, OLD_DRIVER, none, 0, none, 0, provisions, 1, &out));
+    accepted(vaskelbi_register(&registry, ANCHOR, 0, OLD_DRIVER, &realms, VASKELBI_REALM_NUMBERS(0), none, 0, provisions, 1, &out));
     uint64_t id = out.number[0];
     printf("evening: driver %d is registered, id %" PRIu64 "\n", OLD_DRIVER, id);
     vaskelbi_invocation invocation = begin_and_admit(id, HOURS);

@@ -117,12 +117,18 @@ static const uint64_t none[1];
 #define OPENED(call) CALL((call, 0), 0, REGISTRY, NULL, 0)
 #define MADE(call, ...) SLOT((call, 0), __VA_ARGS__)
 
-static const uint64_t E1[] = {2, 5, 9, 1};
+// Any numbers as a realm list, with their count.
+#define REALMS(...) (const vaskelbi_realms *)IS(__VA_ARGS__)
+
+// Realm lists without rows, 2 numbers, and with E1's rows, 6 numbers, in both editions.
+static const vaskelbi_realms plain = {.edition = VASKELBI_FIRST_EDITION};
+static const vaskelbi_realms E1 = {VASKELBI_FIRST_EDITION, 0, {{2, 5}, {9, 1}}};
+static const vaskelbi_realms in_8 = {VASKELBI_SECOND_EDITION, 8, {{2, 5}, {9, 1}}};
 static const uint64_t many[17] = {1, 2, 3, 4, 5, 6, 7, 8, 9, 10, 11, 12, 13, 14, 15, 16, 17};
 
 // A plugin with an anchor of its own and nothing else; accepted.
 static uint64_t bare(uint64_t n) {
-    expect(vaskelbi_register(m, 1000 + n, 77, n, none, 0, none, 0, none, 0, out) == 0, "refused", "bare");
+    expect(vaskelbi_register(m, 1000 + n, 77, n, &plain, 2, none, 0, none, 0, out) == 0, "refused", "bare");
     return out->number[0];
 }
 
@@ -168,6 +174,8 @@ static void put_plugin(uint64_t id) {
     else put("queued=none\n");
     of(vaskelbi_anchor(m, id, &a), &a);
     put("anchor=%" PRIu64 ",%" PRIu64 "\n", a.port.key, a.port.realm);
+    of(vaskelbi_edition(m, id, &a), &a);
+    put("edition=%" PRIu64 "\ndefault=%" PRIu64 "\n", a.rule.edition, a.rule.default_realm);
     count = of(vaskelbi_list_realms(m, id, 0, pairs, VASKELBI_ROOM, &a), &a);
     put_pairs("realm", pairs, count);
     count = of(vaskelbi_list_dependencies(m, id, 0, pairs, VASKELBI_ROOM, &a), &a);
@@ -208,39 +216,76 @@ static void opening(void) {
 }
 
 static void resolving(void) { // E1, E8
-    uint64_t rows[34];
-    for (uint64_t i = 0; i < 17; i++) rows[2 * i] = i, rows[2 * i + 1] = i + 100;
-    ASKED(vaskelbi_resolve(E1, 4, 2, out), IS(2, 5));
-    ASKED(vaskelbi_resolve(E1, 4, 3, out), IS(3, 0));
-    ASKED(vaskelbi_resolve(none, 0, 3, out), IS(3, 0));
-    ASKED(vaskelbi_resolve(rows, 32, 15, out), IS(15, 115));
-    REFUSED(vaskelbi_resolve(rows, 34, 15, out), 4);
-    REFUSED(vaskelbi_resolve(E1, 3, 2, out), 4);
-    REFUSED(vaskelbi_resolve((uint64_t[]){2, 5, 2, 1}, 4, 2, out), 4);
-    REFUSED(vaskelbi_resolve((uint64_t[]){9, 1, 2, 5}, 4, 2, out), 4);
+    uint64_t numbers[36] = {VASKELBI_FIRST_EDITION, 0}; // of 17 rows
+    const vaskelbi_realms *const rows = (const vaskelbi_realms *)numbers;
+    for (uint64_t i = 0; i < 17; i++) numbers[2 + 2 * i] = i, numbers[3 + 2 * i] = i + 100;
+    ASKED(vaskelbi_resolve(&E1, VASKELBI_REALM_NUMBERS(2), 2, out), IS(2, 5));
+    ASKED(vaskelbi_resolve(&E1, 6, 3, out), IS(3, 0));
+    ASKED(vaskelbi_resolve(&E1, 4, 9, out), IS(9, 0)); // one row of the two
+    ASKED(vaskelbi_resolve(&plain, VASKELBI_REALM_NUMBERS(0), 3, out), IS(3, 0));
+    ASKED(vaskelbi_resolve(rows, 34, 15, out), IS(15, 115));
+    REFUSED(vaskelbi_resolve(rows, 36, 15, out), 4);
+    REFUSED(vaskelbi_resolve(&E1, 5, 2, out), 4);
+    REFUSED(vaskelbi_resolve(&E1, 3, 2, out), 4);
+    REFUSED(vaskelbi_resolve(REALMS(1, 0, 2, 5, 2, 1), 2, out), 4);
+    REFUSED(vaskelbi_resolve(REALMS(1, 0, 9, 1, 2, 5), 2, out), 4);
+
+    // Edition 2 has a default realm, and edition 1 ignores one.
+    ASKED(vaskelbi_resolve(&in_8, 6, 2, out), IS(2, 5));
+    ASKED(vaskelbi_resolve(&in_8, 6, 9, out), IS(9, 1));
+    ASKED(vaskelbi_resolve(&in_8, 6, 3, out), IS(3, 8));
+    ASKED(vaskelbi_resolve(&in_8, 2, 9, out), IS(9, 8));
+    ASKED(vaskelbi_resolve(REALMS(2, 0, 2, 5), 3, out), IS(3, 0));
+    ASKED(vaskelbi_resolve(REALMS(2, LAST), LAST, out), IS(LAST, LAST));
+    ASKED(vaskelbi_resolve(REALMS(1, 8, 2, 5), 3, out), IS(3, 0));
+    ASKED(vaskelbi_resolve(REALMS(1, 8, 2, 5), 2, out), IS(2, 5));
+    REFUSED(vaskelbi_resolve(REALMS(2, 8, 9, 1, 2, 5), 2, out), 4);
+    REFUSED(vaskelbi_resolve(&in_8, 5, 2, out), 4);
+    numbers[0] = VASKELBI_SECOND_EDITION;
+    numbers[1] = 8;
+    ASKED(vaskelbi_resolve(rows, 34, 16, out), IS(16, 8));
+    REFUSED(vaskelbi_resolve(rows, 36, 16, out), 4);
+
+    // 26 comes before 4.
+    numbers[0] = 3;
+    REFUSED(vaskelbi_resolve(rows, 34, 16, out), 26);
+    REFUSED(vaskelbi_resolve(rows, 36, 16, out), 26);
+    REFUSED(vaskelbi_resolve(&plain, 0, 3, out), 26);
+    REFUSED(vaskelbi_resolve(&plain, 1, 3, out), 26);
+    REFUSED(vaskelbi_resolve(&in_8, 1, 3, out), 26);
+    REFUSED(vaskelbi_resolve(REALMS(0, 0), 3, out), 26);
+    REFUSED(vaskelbi_resolve(REALMS(LAST, 0), 3, out), 26);
+    REFUSED(vaskelbi_resolve(REALMS(3, 0, 9), 3, out), 26);
+    REFUSED(vaskelbi_resolve(REALMS(0, 0, 9, 1, 2, 5), 3, out), 26);
 }
 
 // Plugin 40 provides (2,5) and (3,0) at anchor (90,0); its child 41 depends on (2,5) and (90,0).
 static void registering(void) {
     const uint64_t provided[] = {2, 3}, needed[] = {2, 90}, twice[] = {8, 8}, ninety[] = {90};
-    TOLD(vaskelbi_register(m, 90, 0, 501, E1, 4, none, 0, provided, 2, out), IS(40));
-    REFUSED(vaskelbi_register(m, 91, 0, 1, E1, 3, many, 17, none, 0, out), 4);
-    REFUSED(vaskelbi_register(m, 91, 0, 1, none, 0, many, 17, none, 0, out), 5);
-    REFUSED(vaskelbi_register(m, 91, 0, 1, none, 0, none, 0, many, 16, out), 5);
-    REFUSED(vaskelbi_register(m, 91, 0, 1, none, 0, twice, 2, twice, 2, out), 6);
-    REFUSED(vaskelbi_register(m, 91, 0, 1, none, 0, none, 0, twice, 2, out), 7);
-    REFUSED(vaskelbi_register(m, 8, 0, 1, none, 0, none, 0, twice, 1, out), 7);
-    REFUSED(vaskelbi_register(m, 90, 0, 1, none, 0, none, 0, none, 0, out), 8);
-    REFUSED(vaskelbi_register(m, 2, 5, 1, none, 0, none, 0, none, 0, out), 8);
-    REFUSED(vaskelbi_register(m, 91, 0, 1, none, 0, none, 0, ninety, 1, out), 8);
+    TOLD(vaskelbi_register(m, 90, 0, 501, &E1, 6, none, 0, provided, 2, out), IS(40));
+    REFUSED(vaskelbi_register(m, 91, 0, 1, REALMS(3, 0, 9), many, 17, none, 0, out), 26);
+    REFUSED(vaskelbi_register(m, 91, 0, 1, &plain, 1, many, 17, none, 0, out), 26);
+    REFUSED(vaskelbi_register(m, 91, 0, 1, &plain, 0, none, 0, none, 0, out), 26);
+    REFUSED(vaskelbi_register(m, 91, 0, 1, &E1, 5, many, 17, none, 0, out), 4);
+    REFUSED(vaskelbi_register(m, 91, 0, 1, &in_8, 5, many, 17, none, 0, out), 4);
+    REFUSED(vaskelbi_register(m, 91, 0, 1, &plain, 2, many, 17, none, 0, out), 5);
+    REFUSED(vaskelbi_register(m, 91, 0, 1, &plain, 2, none, 0, many, 16, out), 5);
+    REFUSED(vaskelbi_register(m, 91, 0, 1, &plain, 2, twice, 2, twice, 2, out), 6);
+    REFUSED(vaskelbi_register(m, 91, 0, 1, &plain, 2, none, 0, twice, 2, out), 7);
+    REFUSED(vaskelbi_register(m, 8, 0, 1, &plain, 2, none, 0, twice, 1, out), 7);
+    REFUSED(vaskelbi_register(m, 90, 0, 1, &plain, 2, none, 0, none, 0, out), 8);
+    REFUSED(vaskelbi_register(m, 2, 5, 1, &plain, 2, none, 0, none, 0, out), 8);
+    REFUSED(vaskelbi_register(m, 91, 0, 1, &plain, 2, none, 0, ninety, 1, out), 8);
 
-    TOLD(vaskelbi_register_child(m, 40, 91, 6, 502, E1, 4, needed, 2, none, 0, out), IS(41));
-    REFUSED(vaskelbi_register_child(m, 39, 92, 0, 1, E1, 3, many, 17, none, 0, out), 4);
-    REFUSED(vaskelbi_register_child(m, 39, 92, 0, 1, none, 0, many, 17, none, 0, out), 5);
-    REFUSED(vaskelbi_register_child(m, 39, 92, 0, 1, none, 0, twice, 2, none, 0, out), 1);
-    REFUSED(vaskelbi_register_child(m, 40, 92, 0, 1, none, 0, twice, 2, none, 0, out), 6);
-    REFUSED(vaskelbi_register_child(m, 40, 92, 0, 1, none, 0, none, 0, twice, 2, out), 7);
-    REFUSED(vaskelbi_register_child(m, 40, 91, 6, 1, none, 0, none, 0, none, 0, out), 8);
+    TOLD(vaskelbi_register_child(m, 40, 91, 6, 502, &E1, 6, needed, 2, none, 0, out), IS(41));
+    REFUSED(vaskelbi_register_child(m, 39, 92, 0, 1, REALMS(0, 0, 9), many, 17, none, 0, out), 26);
+    REFUSED(vaskelbi_register_child(m, 39, 92, 0, 1, &plain, 1, many, 17, none, 0, out), 26);
+    REFUSED(vaskelbi_register_child(m, 39, 92, 0, 1, &E1, 5, many, 17, none, 0, out), 4);
+    REFUSED(vaskelbi_register_child(m, 39, 92, 0, 1, &plain, 2, many, 17, none, 0, out), 5);
+    REFUSED(vaskelbi_register_child(m, 39, 92, 0, 1, &plain, 2, twice, 2, none, 0, out), 1);
+    REFUSED(vaskelbi_register_child(m, 40, 92, 0, 1, &plain, 2, twice, 2, none, 0, out), 6);
+    REFUSED(vaskelbi_register_child(m, 40, 92, 0, 1, &plain, 2, none, 0, twice, 2, out), 7);
+    REFUSED(vaskelbi_register_child(m, 40, 91, 6, 1, &plain, 2, none, 0, none, 0, out), 8);
     NUMBER(vaskelbi_next(m), 42);
     NUMBER(vaskelbi_count(m), 2);
     NUMBER(vaskelbi_rows(m), 6);
@@ -273,6 +318,8 @@ static void asking(void) {
     REFUSED(vaskelbi_parent(m, 42, out), 1);
     ASKED(vaskelbi_anchor(m, 41, out), IS(91, 6));
     REFUSED(vaskelbi_anchor(m, 42, out), 1);
+    ASKED(vaskelbi_edition(m, 41, out), IS(1, 0));
+    REFUSED(vaskelbi_edition(m, 42, out), 1);
     ASKED(vaskelbi_phase(m, 41, out), IS(VASKELBI_IDLE));
     REFUSED(vaskelbi_phase(m, 42, out), 1);
     ASKED(vaskelbi_retired(m, 41, out), IS(0));
@@ -340,7 +387,7 @@ static void calling(void) {
     DONE(vaskelbi_fail(m, 40));
     writing();
     REFUSED(vaskelbi_fail(m, 40), 3);
-    REFUSED(vaskelbi_register_child(m, 40, 92, 0, 1, none, 0, none, 0, none, 0, out), 3);
+    REFUSED(vaskelbi_register_child(m, 40, 92, 0, 1, &plain, 2, none, 0, none, 0, out), 3);
     REFUSED(vaskelbi_finish(m, 42), 1);
     DONE(vaskelbi_finish(m, 40));
     REFUSED(vaskelbi_finish(m, 40), 3);
@@ -420,7 +467,7 @@ static void retiring(void) {
     DONE(vaskelbi_retire(m, 40));
     REFUSED(vaskelbi_retire(m, 40), 2);
     ASKED(vaskelbi_retired(m, 40, out), IS(1));
-    REFUSED(vaskelbi_register_child(m, 40, 92, 0, 1, none, 0, none, 0, none, 0, out), 2);
+    REFUSED(vaskelbi_register_child(m, 40, 92, 0, 1, &plain, 2, none, 0, none, 0, out), 2);
     REFUSED(vaskelbi_remove(m, 42), 1);
     REFUSED(vaskelbi_remove(m, 40), 18);
     DONE(vaskelbi_remove(m, 41));
@@ -435,12 +482,12 @@ static void full(void) {
     OPENED(vaskelbi_open(m, 0, 0));
     for (uint64_t n = 0; n < 32; n++) bare(n);
     NUMBER(vaskelbi_count(m), 32);
-    REFUSED(vaskelbi_register(m, 1000, 77, 0, none, 0, none, 0, none, 0, out), 8);
-    REFUSED(vaskelbi_register(m, 999, 77, 0, none, 0, none, 0, none, 0, out), 10);
-    REFUSED(vaskelbi_register_child(m, 5, 999, 77, 0, none, 0, none, 0, none, 0, out), 10);
+    REFUSED(vaskelbi_register(m, 1000, 77, 0, &plain, 2, none, 0, none, 0, out), 8);
+    REFUSED(vaskelbi_register(m, 999, 77, 0, &plain, 2, none, 0, none, 0, out), 10);
+    REFUSED(vaskelbi_register_child(m, 5, 999, 77, 0, &plain, 2, none, 0, none, 0, out), 10);
     DONE(vaskelbi_retire(m, 5));
     DONE(vaskelbi_remove(m, 5));
-    TOLD(vaskelbi_register(m, 1005, 77, 0, none, 0, none, 0, none, 0, out), IS(32));
+    TOLD(vaskelbi_register(m, 1005, 77, 0, &plain, 2, none, 0, none, 0, out), IS(32));
     ASKED(vaskelbi_id_from(m, 0, out), IS(0));
     ASKED(vaskelbi_id_from(m, 5, out), IS(6));
     writing();
@@ -448,9 +495,9 @@ static void full(void) {
 
 static void last_id(void) {
     OPENED(vaskelbi_open(m, 0, LAST - 1));
-    TOLD(vaskelbi_register(m, 1, 0, 0, none, 0, none, 0, none, 0, out), IS(LAST - 1));
-    REFUSED(vaskelbi_register(m, 2, 0, 0, none, 0, none, 0, none, 0, out), 9);
-    REFUSED(vaskelbi_register_child(m, LAST - 1, 2, 0, 0, none, 0, none, 0, none, 0, out), 9);
+    TOLD(vaskelbi_register(m, 1, 0, 0, &plain, 2, none, 0, none, 0, out), IS(LAST - 1));
+    REFUSED(vaskelbi_register(m, 2, 0, 0, &plain, 2, none, 0, none, 0, out), 9);
+    REFUSED(vaskelbi_register_child(m, LAST - 1, 2, 0, 0, &plain, 2, none, 0, none, 0, out), 9);
     NUMBER(vaskelbi_next(m), LAST);
     writing();
 }
@@ -459,49 +506,51 @@ static void last_id(void) {
 static void own_anchor(void) {
     const uint64_t four[] = {4};
     OPENED(vaskelbi_open(m, 7, 0));
-    TOLD(vaskelbi_register(m, 90, 0, 1, none, 0, four, 1, none, 0, out), IS(0));
-    TOLD(vaskelbi_register_child(m, 0, 4, 0, 2, none, 0, none, 0, none, 0, out), IS(1));
+    TOLD(vaskelbi_register(m, 90, 0, 1, &plain, 2, four, 1, none, 0, out), IS(0));
+    TOLD(vaskelbi_register_child(m, 0, 4, 0, 2, &plain, 2, none, 0, none, 0, out), IS(1));
     LISTED(vaskelbi_list_dependencies(m, 1, 0, buffer, 96, out), 0, NONE);
     TOLD(vaskelbi_begin(m, 1, out), IS(7, 1, 1, 1));
     OPENED(vaskelbi_open(m, 7, 0));
-    TOLD(vaskelbi_register(m, 90, 0, 1, none, 0, four, 1, none, 0, out), IS(0));
-    TOLD(vaskelbi_register_child(m, 0, 4, 0, 2, none, 0, four, 1, none, 0, out), IS(1));
+    TOLD(vaskelbi_register(m, 90, 0, 1, &plain, 2, four, 1, none, 0, out), IS(0));
+    TOLD(vaskelbi_register_child(m, 0, 4, 0, 2, &plain, 2, four, 1, none, 0, out), IS(1));
     LISTED(vaskelbi_list_dependencies(m, 1, 0, buffer, 96, out), 0, IS(4, 0));
     REFUSED(vaskelbi_begin(m, 1, out), 14);
-    TOLD(vaskelbi_register_child(m, 1, 91, 0, 3, none, 0, none, 0, none, 0, out), IS(2));
+    TOLD(vaskelbi_register_child(m, 1, 91, 0, 3, &plain, 2, none, 0, none, 0, out), IS(2));
     LISTED(vaskelbi_list_dependencies(m, 2, 0, buffer, 96, out), 0, IS(4, 0));
 }
 
 // 48 dependencies are inherited over three plugins, 16 keys in three realms; then the rows are filled.
 static void long_lists(void) {
-    uint64_t realms[32];
+    vaskelbi_realms realms = {.edition = VASKELBI_FIRST_EDITION};
     const uint64_t more[] = {99}, *keys = many;
     OPENED(vaskelbi_open(m, 0, 0));
-    for (uint64_t i = 0; i < 16; i++) realms[2 * i] = keys[i], realms[2 * i + 1] = 0;
-    TOLD(vaskelbi_register(m, 1000, 77, 0, realms, 32, keys, 16, none, 0, out), IS(0));
-    for (uint64_t i = 0; i < 16; i++) realms[2 * i + 1] = 1;
-    TOLD(vaskelbi_register_child(m, 0, 1001, 77, 0, realms, 32, none, 0, none, 0, out), IS(1));
-    for (uint64_t i = 0; i < 16; i++) realms[2 * i + 1] = 2;
-    TOLD(vaskelbi_register_child(m, 1, 1002, 77, 0, realms, 32, none, 0, none, 0, out), IS(2));
+    for (uint64_t i = 0; i < 16; i++) realms.rows[i] = (vaskelbi_port){keys[i], 0};
+    TOLD(vaskelbi_register(m, 1000, 77, 0, &realms, 34, keys, 16, none, 0, out), IS(0));
+    for (uint64_t i = 0; i < 16; i++) realms.rows[i].realm = 1;
+    TOLD(vaskelbi_register_child(m, 0, 1001, 77, 0, &realms, 34, none, 0, none, 0, out), IS(1));
+    realms.edition = VASKELBI_SECOND_EDITION; // which gives all keys realm 2 without a row
+    realms.default_realm = 2;
+    TOLD(vaskelbi_register_child(m, 1, 1002, 77, 0, &realms, 2, none, 0, none, 0, out), IS(2));
     NUMBER(vaskelbi_rows(m), 17 + 33 + 49);
     expect(vaskelbi_list_dependencies(m, 2, 0, buffer, 96, out) == 0 && out->number[0] == 48, "no 48", "long_lists");
     for (uint64_t i = 0; i < 16; i++) // each inherited port is followed by its key in the newest realm
         expect(!memcmp(buffer + 6 * i, (uint64_t[]){i + 1, 0, i + 1, 2, i + 1, 1}, 48), "another order", "long_lists");
     REFUSED(vaskelbi_list_dependencies(m, 2, 0, buffer, 95, out), 23);
-    REFUSED(vaskelbi_register_child(m, 2, 1003, 77, 0, none, 0, more, 1, none, 0, out), 11);
+    REFUSED(vaskelbi_register_child(m, 2, 1003, 77, 0, &plain, 2, more, 1, none, 0, out), 11);
+    REFUSED(vaskelbi_register_child(m, 2, 1003, 77, 0, REALMS(2, 3), none, 0, none, 0, out), 11);
 
     for (uint64_t n = 3; n < 21; n++)
-        expect(vaskelbi_register_child(m, 2, 1000 + n, 77, 0, none, 0, none, 0, none, 0, out) == 0, "refused", "an heir");
+        expect(vaskelbi_register_child(m, 2, 1000 + n, 77, 0, &plain, 2, none, 0, none, 0, out) == 0, "refused", "an heir");
     NUMBER(vaskelbi_rows(m), 981);
-    REFUSED(vaskelbi_register_child(m, 2, 1021, 77, 0, none, 0, none, 0, none, 0, out), 12);
-    REFUSED(vaskelbi_register_child(m, 2, 1021, 77, 0, none, 0, more, 1, none, 0, out), 11);
+    REFUSED(vaskelbi_register_child(m, 2, 1021, 77, 0, &plain, 2, none, 0, none, 0, out), 12);
+    REFUSED(vaskelbi_register_child(m, 2, 1021, 77, 0, &plain, 2, more, 1, none, 0, out), 11);
     const uint64_t provisions[15] = {200, 201, 202, 203, 204, 205, 206, 207, 208, 209, 210, 211, 212, 213, 214};
-    TOLD(vaskelbi_register(m, 1021, 77, 0, none, 0, keys, 16, provisions, 15, out), IS(21));
-    REFUSED(vaskelbi_register(m, 1022, 77, 0, none, 0, keys, 11, none, 0, out), 12);
-    TOLD(vaskelbi_register(m, 1022, 77, 0, none, 0, keys, 10, none, 0, out), IS(22));
+    TOLD(vaskelbi_register(m, 1021, 77, 0, &plain, 2, keys, 16, provisions, 15, out), IS(21));
+    REFUSED(vaskelbi_register(m, 1022, 77, 0, &plain, 2, keys, 11, none, 0, out), 12);
+    TOLD(vaskelbi_register(m, 1022, 77, 0, &plain, 2, keys, 10, none, 0, out), IS(22));
     NUMBER(vaskelbi_rows(m), 1024);
     writing();
-    REFUSED(vaskelbi_register(m, 1023, 77, 0, none, 0, none, 0, none, 0, out), 12);
+    REFUSED(vaskelbi_register(m, 1023, 77, 0, &plain, 2, none, 0, none, 0, out), 12);
     DONE(vaskelbi_retire(m, 22));
     DONE(vaskelbi_remove(m, 22));
     NUMBER(vaskelbi_rows(m), 1013);
@@ -547,17 +596,89 @@ static void exhausted(void) {
     writing();
 }
 
-// Document 02's example, byte for byte.
-static void example(void) {
-    const uint64_t realms[] = {2, 5}, provisions[] = {2};
-    static const char expected[] =
-        "domain=7\nfirst=0\nnext=1\nplugins=1\nid=0\nparent=none\nphase=0\nretired=0\ngeneration=0\nrevision=0\npayload=40\n"
-        "root=0\nqueued=none\nanchor=9,0\nrealms=1\nrealm=2,5\ndeps=0\nprovs=1\nprov=2,5,none\n";
+// A plugin keeps its edition and default; its keys, and those that it inherits, are resolved by its own list.
+static void editions(void) {
+    const uint64_t needed[] = {2, 4}, four[] = {4}, five[] = {5}, six[] = {6}, seven[] = {7};
     OPENED(vaskelbi_open(m, 7, 0));
-    TOLD(vaskelbi_register(m, 9, 0, 40, realms, 2, none, 0, provisions, 1, out), IS(0));
-    WRITTEN(vaskelbi_write_text(m, text, 182, out), 0, expected);
-    WRITTEN(vaskelbi_write_text(m, text + TEXT - 182, 182, out), TEXT - 182, expected);
-    REFUSED(vaskelbi_write_text(m, text, 181, out), 23);
+    TOLD(vaskelbi_register(m, 90, 0, 1, &in_8, 6, needed, 2, six, 1, out), IS(0));
+    ASKED(vaskelbi_edition(m, 0, out), IS(2, 8));
+    LISTED(vaskelbi_list_dependencies(m, 0, 0, buffer, 96, out), 0, IS(2, 5, 4, 8));
+    LISTED(vaskelbi_list_provisions(m, 0, 0, buffer, 96, out), 0, IS(6, 8));
+    LISTED(vaskelbi_list_realms(m, 0, 0, buffer, 4, out), 0, IS(2, 5, 9, 1)); // the rows alone
+
+    // Key 4 of the child resolves to its own (4,0), and by the parent's edition it would not.
+    TOLD(vaskelbi_register_child(m, 0, 91, 0, 2, REALMS(1, 9, 2, 3), none, 0, four, 1, out), IS(1));
+    ASKED(vaskelbi_edition(m, 1, out), IS(1, 0));
+    LISTED(vaskelbi_list_dependencies(m, 1, 0, buffer, 96, out), 0, IS(2, 5, 2, 3, 4, 8));
+    LISTED(vaskelbi_list_provisions(m, 1, 0, buffer, 96, out), 0, IS(4, 0));
+    TOLD(vaskelbi_register_child(m, 0, 92, 0, 3, REALMS(2, 1), seven, 1, four, 1, out), IS(2));
+    ASKED(vaskelbi_edition(m, 2, out), IS(2, 1));
+    LISTED(vaskelbi_list_dependencies(m, 2, 0, buffer, 96, out), 0, IS(7, 1, 2, 5, 2, 1, 4, 8));
+    LISTED(vaskelbi_list_provisions(m, 2, 0, buffer, 96, out), 0, IS(4, 1));
+    TOLD(vaskelbi_register_child(m, 0, 93, 0, 4, &plain, 2, none, 0, none, 0, out), IS(3));
+    LISTED(vaskelbi_list_dependencies(m, 3, 0, buffer, 96, out), 0, IS(2, 5, 2, 0, 4, 8, 4, 0));
+    TOLD(vaskelbi_register_child(m, 0, 4, 8, 5, &in_8, 6, none, 0, none, 0, out), IS(4)); // (4,8) is its anchor
+    LISTED(vaskelbi_list_dependencies(m, 4, 0, buffer, 96, out), 0, IS(2, 5));
+
+    // A parent of edition 1, which ignored its default, and a child of edition 2.
+    TOLD(vaskelbi_register(m, 94, 0, 6, REALMS(1, 8), needed, 2, five, 1, out), IS(5));
+    ASKED(vaskelbi_edition(m, 5, out), IS(1, 0));
+    LISTED(vaskelbi_list_dependencies(m, 5, 0, buffer, 96, out), 0, IS(2, 0, 4, 0));
+    TOLD(vaskelbi_register_child(m, 5, 95, 0, 7, REALMS(2, 8, 4, 0), none, 0, none, 0, out), IS(6));
+    LISTED(vaskelbi_list_dependencies(m, 6, 0, buffer, 96, out), 0, IS(2, 0, 2, 8, 4, 0));
+
+    // 7 and 8 look at ports.
+    REFUSED(vaskelbi_register(m, 7, 8, 8, &in_8, 6, none, 0, seven, 1, out), 7);
+    REFUSED(vaskelbi_register(m, 96, 0, 8, REALMS(2, 8), none, 0, six, 1, out), 8);
+    REFUSED(vaskelbi_register(m, 96, 0, 8, REALMS(2, 0), none, 0, five, 1, out), 8);
+    TOLD(vaskelbi_register(m, 7, 8, 8, &plain, 2, none, 0, seven, 1, out), IS(7));
+    REFUSED(vaskelbi_edition(m, 8, out), 1);
+    writing();
+
+    // What takes its place has its own edition and default.
+    DONE(vaskelbi_retire(m, 6));
+    DONE(vaskelbi_remove(m, 6));
+    REFUSED(vaskelbi_edition(m, 6, out), 1);
+    TOLD(vaskelbi_register(m, 97, 0, 9, REALMS(1, 3), none, 0, six, 1, out), IS(8));
+    ASKED(vaskelbi_edition(m, 8, out), IS(1, 0));
+    LISTED(vaskelbi_list_provisions(m, 8, 0, buffer, 96, out), 0, IS(6, 0));
+    DONE(vaskelbi_retire(m, 8));
+    DONE(vaskelbi_remove(m, 8));
+    TOLD(vaskelbi_register(m, 97, 0, 9, REALMS(2, LAST), none, 0, six, 1, out), IS(9));
+    ASKED(vaskelbi_edition(m, 9, out), IS(2, LAST));
+    LISTED(vaskelbi_list_provisions(m, 9, 0, buffer, 96, out), 0, IS(6, LAST));
+    TOLD(vaskelbi_register(m, 98, 0, 10, REALMS(2, 0), none, 0, six, 1, out), IS(10)); // edition 2 that gives realm 0
+    ASKED(vaskelbi_edition(m, 10, out), IS(2, 0));
+    LISTED(vaskelbi_list_provisions(m, 10, 0, buffer, 96, out), 0, IS(6, 0));
+    writing();
+}
+
+// The text of document 02's example, with these lines for edition, default and realms, and this realm of the provision.
+#define EXAMPLE(lines, realm) \
+    "domain=7\nfirst=0\nnext=1\nplugins=1\nid=0\nparent=none\nphase=0\nretired=0\ngeneration=0\nrevision=0\npayload=40\n" \
+    "root=0\nqueued=none\nanchor=9,0\n" lines "deps=0\nprovs=1\nprov=2," realm ",none\n"
+
+// Document 02's example, byte for byte, in both editions.
+static void example(void) {
+    static const char expected[] = EXAMPLE("edition=1\ndefault=0\nrealms=1\nrealm=2,5\n", "5");
+    static const char second[] = EXAMPLE("edition=2\ndefault=8\nrealms=1\nrealm=2,5\n", "5");
+    static const char by_default[] = EXAMPLE("edition=2\ndefault=18446744073709551615\nrealms=0\n", "18446744073709551615");
+    const uint64_t provisions[] = {2};
+    OPENED(vaskelbi_open(m, 7, 0));
+    TOLD(vaskelbi_register(m, 9, 0, 40, REALMS(1, 0, 2, 5), none, 0, provisions, 1, out), IS(0));
+    WRITTEN(vaskelbi_write_text(m, text, 202, out), 0, expected);
+    WRITTEN(vaskelbi_write_text(m, text + TEXT - 202, 202, out), TEXT - 202, expected);
+    REFUSED(vaskelbi_write_text(m, text, 201, out), 23);
+    writing();
+    OPENED(vaskelbi_open(m, 7, 0));
+    TOLD(vaskelbi_register(m, 9, 0, 40, REALMS(1, 8, 2, 5), none, 0, provisions, 1, out), IS(0)); // the default is ignored
+    WRITTEN(vaskelbi_write_text(m, text, TEXT, out), 0, expected);
+    OPENED(vaskelbi_open(m, 7, 0));
+    TOLD(vaskelbi_register(m, 9, 0, 40, &in_8, 4, none, 0, provisions, 1, out), IS(0));
+    WRITTEN(vaskelbi_write_text(m, text, TEXT, out), 0, second);
+    OPENED(vaskelbi_open(m, 7, 0));
+    TOLD(vaskelbi_register(m, 9, 0, 40, REALMS(2, LAST), none, 0, provisions, 1, out), IS(0));
+    WRITTEN(vaskelbi_write_text(m, text, TEXT, out), 0, by_default);
     writing();
 }
 
@@ -566,10 +687,10 @@ static void example(void) {
 static void loading(void) {
     static const char home[] =
         "domain=8\nfirst=0\nnext=1\nplugins=1\nid=0\nparent=none\nphase=1\nretired=0\ngeneration=1\nrevision=0\npayload=40\n"
-        "root=0\nqueued=none\nanchor=9,0\nrealms=1\nrealm=2,5\ndeps=0\nprovs=1\nprov=2,5,none\n";
-    const uint64_t realms[] = {2, 5}, provisions[] = {2};
+        "root=0\nqueued=none\nanchor=9,0\nedition=2\ndefault=8\nrealms=1\nrealm=2,5\ndeps=0\nprovs=1\nprov=2,5,none\n";
+    const uint64_t provisions[] = {2};
     OPENED(vaskelbi_open(m, 7, 0));
-    TOLD(vaskelbi_register(m, 9, 0, 40, realms, 2, none, 0, provisions, 1, out), IS(0));
+    TOLD(vaskelbi_register(m, 9, 0, 40, &in_8, 4, none, 0, provisions, 1, out), IS(0));
     TOLD(vaskelbi_begin(m, 0, out), IS(7, 0, 1, 1));
     TOLD(vaskelbi_admit(m, 7, 0, 1, 1, 24, out), IS(7, 0, 1, 0, 24));
     static uint8_t carried[512];
@@ -583,9 +704,38 @@ static void loading(void) {
     REFUSED(vaskelbi_load(m, 8, from, 0), 24);
     DONE(vaskelbi_load(m, 8, from, size));
     WRITTEN(vaskelbi_write_text(m, text, TEXT, out), 0, home);
+    ASKED(vaskelbi_edition(m, 0, out), IS(2, 8));
     REFUSED(vaskelbi_call(m, 7, 0, 1, 0, 24, out), 3);
     REFUSED(vaskelbi_call(m, 8, 0, 1, 0, 24, out), 13);
     TOLD(vaskelbi_admit(m, 8, 0, 1, 1, 25, out), IS(8, 0, 1, 0, 25));
+    writing();
+}
+
+// A text says edition and default behind the anchor, and its provisions are resolved by them.
+#define SAID(lines, realm) (const uint8_t *)EXAMPLE(lines, realm), sizeof EXAMPLE(lines, realm) - 1
+static void loading_editions(void) {
+    OPENED(vaskelbi_open(m, 3, 0));
+    REFUSED(vaskelbi_load(m, 8, SAID("realms=1\nrealm=2,5\n", "5")), 24);
+    REFUSED(vaskelbi_load(m, 8, SAID("edition=1\nrealms=1\nrealm=2,5\n", "5")), 24);
+    REFUSED(vaskelbi_load(m, 8, SAID("default=0\nrealms=1\nrealm=2,5\n", "5")), 24);
+    REFUSED(vaskelbi_load(m, 8, SAID("default=0\nedition=1\nrealms=1\nrealm=2,5\n", "5")), 24);
+    REFUSED(vaskelbi_load(m, 8, SAID("realms=1\nrealm=2,5\nedition=1\ndefault=0\n", "5")), 24);
+    REFUSED(vaskelbi_load(m, 8, SAID("edition=1\ndefault=5\nrealms=1\nrealm=2,5\n", "5")), 24);
+    REFUSED(vaskelbi_load(m, 8, SAID("edition=0\ndefault=0\nrealms=1\nrealm=2,5\n", "5")), 24);
+    REFUSED(vaskelbi_load(m, 8, SAID("edition=3\ndefault=0\nrealms=1\nrealm=2,5\n", "5")), 24);
+    REFUSED(vaskelbi_load(m, 8, SAID("edition=2\ndefault=08\nrealms=1\nrealm=2,5\n", "5")), 24);
+    REFUSED(vaskelbi_load(m, 8, SAID("edition=2\ndefault=none\nrealms=1\nrealm=2,5\n", "5")), 24);
+    REFUSED(vaskelbi_load(m, 8, SAID("edition=2\ndefault=8\nrealms=0\n", "0")), 24);
+    REFUSED(vaskelbi_load(m, 8, SAID("edition=1\ndefault=0\nrealms=0\n", "8")), 24);
+    REFUSED(vaskelbi_load(m, 7, SAID("edition=2\ndefault=8\nrealms=0\n", "8")), 25);
+    DONE(vaskelbi_load(m, 8, SAID("edition=2\ndefault=8\nrealms=0\n", "8")));
+    ASKED(vaskelbi_edition(m, 0, out), IS(2, 8));
+    writing();
+    DONE(vaskelbi_load(m, 9, SAID("edition=1\ndefault=0\nrealms=0\n", "0")));
+    ASKED(vaskelbi_edition(m, 0, out), IS(1, 0));
+    writing();
+    DONE(vaskelbi_load(m, 10, SAID("edition=2\ndefault=0\nrealms=0\n", "0")));
+    ASKED(vaskelbi_edition(m, 0, out), IS(2, 0));
     writing();
 }
 
@@ -633,8 +783,10 @@ int main(void) {
     own_anchor();
     long_lists();
     exhausted();
+    editions();
     example();
     loading();
+    loading_editions();
     slots();
     printf("%u calls answered as they must, and wrote nowhere else\n", calls);
     return 0;

@@ -63,13 +63,15 @@ enum vaskelbi_refusal {
     VASKELBI_MISSING = 22,             /* value absent */
     VASKELBI_SHORT_BUFFER = 23,        /* lent room too small */
     VASKELBI_BAD_TEXT = 24,            /* no text of the form, or one that breaks a condition */
-    VASKELBI_SAME_DOMAIN = 25          /* the domain that the text has */
+    VASKELBI_SAME_DOMAIN = 25,         /* the domain that the text has */
+    VASKELBI_BAD_EDITION = 26          /* another edition of the realm rule than 1 and 2, or a list without edition and default */
 };
 
 enum { VASKELBI_IDLE = 0, VASKELBI_LOADING = 1, VASKELBI_ACTIVE = 2, VASKELBI_UNLOADING = 3 };   /* phases */
 enum { VASKELBI_UNISSUED = 0, VASKELBI_QUEUED = 1, VASKELBI_SPENT = 2 };                         /* roots */
 enum { VASKELBI_PENDING = 0, VASKELBI_ASSIGNED = 1, VASKELBI_FAILED = 2, VASKELBI_CANCELLED = 3 }; /* decisions */
 enum { VASKELBI_SETUP = 1 };                                                                     /* a ticket's kind */
+enum { VASKELBI_FIRST_EDITION = 1, VASKELBI_SECOND_EDITION = 2 };                                /* of the realm rule */
 
 /* A registry. What its words mean is the functions' own. */
 typedef struct { uint64_t word[VASKELBI_WORDS]; } vaskelbi_registry;
@@ -81,6 +83,19 @@ typedef struct { uint64_t domain, id, generation, request, payload, argument; } 
 typedef struct { uint64_t domain, parent, id; } vaskelbi_identity;
 typedef struct { uint64_t value, provider; } vaskelbi_reading;
 typedef struct { uint64_t state, revision, argument; } vaskelbi_issue; /* the last two only if Queued */
+typedef struct { uint64_t edition, default_realm; } vaskelbi_rule;     /* default 0 in edition 1 */
+
+/* A realm list, with its edition and default realm. A key gets the realm of its row. Any other key gets realm 0 in edition 1, and
+ * the default realm in edition 2; edition 1 ignores the default, which is kept as 0. Keys rise strictly from row to row.
+ * The list is handed over with its length in numbers, and no number behind is read. So an array of edition, default, key, realm,
+ * key, realm can be handed over too, by a cast. Numbers without edition and default in front would mean another list. */
+typedef struct {
+    uint64_t edition, default_realm;
+    vaskelbi_port rows[VASKELBI_REALM_ROWS];
+} vaskelbi_realms;
+
+/* The length of a realm list with so many rows, in numbers. */
+#define VASKELBI_REALM_NUMBERS(rows) (2 + 2 * (size_t)(rows))
 
 /* An answer: how many numbers, and the numbers, by their places or by the names of what is answered. */
 typedef struct {
@@ -94,6 +109,7 @@ typedef struct {
         vaskelbi_identity identity;
         vaskelbi_reading reading;
         vaskelbi_issue root;
+        vaskelbi_rule rule;
     };
 } vaskelbi_answer;
 
@@ -108,6 +124,7 @@ typedef struct {
 static_assert(sizeof(vaskelbi_registry) == 8 * 4488, "a registry is 4488 words");
 static_assert(sizeof(vaskelbi_answer) == 8 * 7, "an answer is seven words");
 static_assert(sizeof(vaskelbi_slot) == 8 * 8, "a slot is eight words");
+static_assert(sizeof(vaskelbi_realms) == 8 * VASKELBI_REALM_NUMBERS(VASKELBI_REALM_ROWS), "a realm list has no gaps");
 static_assert(sizeof(size_t) == 8, "lengths and places are 64-bit");
 
 /* A fresh registry, whatever the words held before: its domain, and its first id, which is also its next id. */
@@ -120,23 +137,24 @@ uint64_t vaskelbi_next(const vaskelbi_registry *registry);
 uint64_t vaskelbi_count(const vaskelbi_registry *registry);
 uint64_t vaskelbi_rows(const vaskelbi_registry *registry);
 
-/* Ports and realms. A realm list comes as key, realm, key, realm. */
+/* Ports and realms. `realms_len` counts numbers. */
 
-/* The port that a key resolves to: its realm in the list, else realm 0. Refuses 4. Answers `port`. */
-uint64_t vaskelbi_resolve(const uint64_t *realms, size_t realms_len, uint64_t key, vaskelbi_answer *out);
+/* The port that a key resolves to by a realm list. Refuses 26, 4. Answers `port`. */
+uint64_t vaskelbi_resolve(const vaskelbi_realms *realms, size_t realms_len, uint64_t key, vaskelbi_answer *out);
 
-/* Registration. `key` and `realm` are the anchor's; dependencies and provisions are keys. */
+/* Registration. `key` and `realm` are the anchor's; dependencies and provisions are keys. The plugin keeps edition and default. */
 
-/* Registers a plugin without a parent. Refuses 4, 5, 6, 7, 8, 9, 10, 11, 12. Answers the new id. */
+/* Registers a plugin without a parent. Refuses 26, 4, 5, 6, 7, 8, 9, 10, 11, 12. Answers the new id. */
 uint64_t vaskelbi_register(vaskelbi_registry *registry, uint64_t key, uint64_t realm, uint64_t payload,
-                           const uint64_t *realms, size_t realms_len, const uint64_t *dependencies, size_t dependencies_len,
+                           const vaskelbi_realms *realms, size_t realms_len, const uint64_t *dependencies, size_t dependencies_len,
                            const uint64_t *provisions, size_t provisions_len, vaskelbi_answer *out);
 
-/* Registers a plugin under a parent, whose dependencies it inherits, but for its own provisions and anchor. Refuses 4, 5, 1 and 2
- * of the parent, 3 if the parent is Unloading, 6, 7, 8, 9, 10, 11, 12. Answers the new id. */
+/* Registers a plugin under a parent, whose dependencies it inherits, as they are and resolved again by its own realm list, but for
+ * its own provisions and anchor. Refuses 26, 4, 5, 1 and 2 of the parent, 3 if the parent is Unloading, 6, 7, 8, 9, 10, 11, 12.
+ * Answers the new id. */
 uint64_t vaskelbi_register_child(vaskelbi_registry *registry, uint64_t parent, uint64_t key, uint64_t realm, uint64_t payload,
-                                 const uint64_t *realms, size_t realms_len, const uint64_t *dependencies, size_t dependencies_len,
-                                 const uint64_t *provisions, size_t provisions_len, vaskelbi_answer *out);
+                                 const vaskelbi_realms *realms, size_t realms_len, const uint64_t *dependencies,
+                                 size_t dependencies_len, const uint64_t *provisions, size_t provisions_len, vaskelbi_answer *out);
 
 /* Phases. */
 
@@ -224,8 +242,9 @@ uint64_t vaskelbi_declares(const vaskelbi_registry *registry, uint64_t id, uint6
 /* The first dependency with a key. Refuses 1. Answers `port`, or none. */
 uint64_t vaskelbi_lookup(const vaskelbi_registry *registry, uint64_t id, uint64_t key, vaskelbi_answer *out);
 
-/* A plugin's list as key, realm, key, realm from a place in the lent buffer; every number outside stays. Refuses 1, 23 if the
- * place is past the end or too few numbers stand from it to the end. Answers the count of pairs. */
+/* A plugin's list as key, realm, key, realm from a place in the lent buffer; every number outside stays. Of its realm list these
+ * are the rows alone. Refuses 1, 23 if the place is past the end or too few numbers stand from it to the end. Answers the count
+ * of pairs. */
 uint64_t vaskelbi_list_dependencies(const vaskelbi_registry *registry, uint64_t id, size_t place, uint64_t *buffer,
                                     size_t buffer_len, vaskelbi_answer *out);
 uint64_t vaskelbi_list_provisions(const vaskelbi_registry *registry, uint64_t id, size_t place, uint64_t *buffer,
@@ -252,6 +271,9 @@ uint64_t vaskelbi_parent(const vaskelbi_registry *registry, uint64_t id, vaskelb
 
 /* Answers `port`. */
 uint64_t vaskelbi_anchor(const vaskelbi_registry *registry, uint64_t id, vaskelbi_answer *out);
+
+/* Answers `rule`: the edition, 1 or 2, and the default realm, 0 in edition 1. */
+uint64_t vaskelbi_edition(const vaskelbi_registry *registry, uint64_t id, vaskelbi_answer *out);
 
 /* Answers the number of the phase. */
 uint64_t vaskelbi_phase(const vaskelbi_registry *registry, uint64_t id, vaskelbi_answer *out);

@@ -199,6 +199,7 @@ unsafe extern "C" {
 
     pub safe fn vaskelbi_parent(m: &[u64; WORDS], id: u64, out: &mut [u64; ANSWER]) -> u64;
     pub safe fn vaskelbi_anchor(m: &[u64; WORDS], id: u64, out: &mut [u64; ANSWER]) -> u64;
+    pub safe fn vaskelbi_edition(m: &[u64; WORDS], id: u64, out: &mut [u64; ANSWER]) -> u64;
     pub safe fn vaskelbi_phase(m: &[u64; WORDS], id: u64, out: &mut [u64; ANSWER]) -> u64;
     pub safe fn vaskelbi_retired(m: &[u64; WORDS], id: u64, out: &mut [u64; ANSWER]) -> u64;
     pub safe fn vaskelbi_generation(m: &[u64; WORDS], id: u64, out: &mut [u64; ANSWER]) -> u64;

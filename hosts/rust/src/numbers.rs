@@ -1,16 +1,18 @@
 //! What operations take and answer.
 
+use crate::realms::RealmList;
+
 /// A key in a realm.
 #[derive(Clone, Copy, Debug, PartialEq, Eq, PartialOrd, Ord, Hash)]
 pub struct Port {
     /// What is provided.
     pub key: u64,
-    /// Where; 0 is the default realm.
+    /// Where; 0 is the default realm of edition 1.
     pub realm: u64,
 }
 
 impl Port {
-    /// The realm of every key that no realm list names.
+    /// The realm of a key that has no row in a realm list of edition 1.
     pub const DEFAULT_REALM: u64 = 0;
 
     /// A key in a realm.
@@ -18,7 +20,7 @@ impl Port {
         Self { key, realm }
     }
 
-    /// A key in the default realm.
+    /// A key in realm 0.
     pub const fn in_default_realm(key: u64) -> Self {
         Self::new(key, Self::DEFAULT_REALM)
     }
@@ -32,12 +34,13 @@ impl Port {
 /// What a registration is given.
 #[derive(Clone, Copy, Debug, PartialEq, Eq)]
 pub struct Definition<'a> {
-    /// The parent's id, if there is one. Its dependencies are inherited, but for the new plugin's own provisions and anchor.
+    /// The parent's id, if there is one. Its dependencies are inherited, as they are and resolved again by this realm list, but for
+    /// the new plugin's own provisions and anchor.
     pub parent: Option<u64>,
     /// A port of its own, which has no value.
     pub anchor: Port,
-    /// The realm list: key, realm, key, realm.
-    pub realms: &'a [u64],
+    /// The realm list, with its edition and default realm, which the plugin keeps.
+    pub realms: RealmList,
     /// The keys it depends on. With its own provision or anchor among them it can never begin.
     pub dependencies: &'a [u64],
     /// The keys it provides.
@@ -47,9 +50,10 @@ pub struct Definition<'a> {
 }
 
 impl Definition<'_> {
-    /// A plugin with neither parent nor lists.
+    /// A plugin of edition 1 with neither parent nor lists.
     pub const fn new(anchor: Port, payload: u64) -> Self {
-        Self { parent: None, anchor, realms: &[], dependencies: &[], provisions: &[], payload }
+        let realms = RealmList::first(&[]);
+        Self { parent: None, anchor, realms, dependencies: &[], provisions: &[], payload }
     }
 }
 

@@ -57,11 +57,13 @@ pub enum Refusal {
     BadText = 24,
     /// It is the domain that the text has.
     SameDomain = 25,
+    /// Another edition of the realm rule than 1 and 2, or a realm list without edition and default.
+    BadEdition = 26,
 }
 
 impl Refusal {
     /// Every refusal, by rising number.
-    pub const ALL: [Self; 25] = [
+    pub const ALL: [Self; 26] = [
         Self::Unknown,
         Self::Retired,
         Self::InvalidState,
@@ -87,9 +89,10 @@ impl Refusal {
         Self::ShortBuffer,
         Self::BadText,
         Self::SameDomain,
+        Self::BadEdition,
     ];
 
-    /// The number, 1 to 25: document 01's, and 24 and 25 of document 02.
+    /// The number, 1 to 26: document 01's, and 24 to 26 of document 02.
     pub const fn number(self) -> u8 {
         self as u8
     }
@@ -97,7 +100,7 @@ impl Refusal {
     /// The refusal of a number.
     pub const fn from_number(number: u64) -> Option<Self> {
         match number {
-            1..=25 => Some(Self::ALL[number as usize - 1]),
+            1..=26 => Some(Self::ALL[number as usize - 1]),
             _ => None,
         }
     }
@@ -133,6 +136,9 @@ impl Refusal {
             Self::ShortBuffer => "lent room too small",
             Self::BadText => "no text of the form, or one that breaks a condition",
             Self::SameDomain => "the domain that the text has",
+            Self::BadEdition => {
+                "another edition of the realm rule than 1 and 2, or a list without one"
+            }
         }
     }
 }

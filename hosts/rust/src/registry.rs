@@ -7,6 +7,7 @@ use crate::engine::{self, ANSWER, WORDS};
 use crate::numbers::{
     Definition, Identity, Invocation, Phase, Port, Reading, Receipt, Root, Ticket,
 };
+use crate::realms::{Edition, RealmList};
 use crate::refusal::{Refusal, Refused};
 
 /// A plugin registry, 35,904 bytes inline.
@@ -81,8 +82,9 @@ fn perhaps<T>(answer: Answer, read: impl FnOnce(Answer) -> T) -> Option<T> {
     (answer[0] != 0).then(|| read(answer))
 }
 
-/// The port that a key resolves to in a realm list of key, realm, key, realm. Refuses 4.
-pub fn resolve(realms: &[u64], key: u64) -> Result<Port, Refusal> {
+/// The port that a key resolves to by a realm list. Refuses 26, 4.
+pub fn resolve(realms: &RealmList, key: u64) -> Result<Port, Refusal> {
+    let realms = realms.numbers();
     answer(|out| {
         // SAFETY: pointer and length are one borrowed slice's.
         unsafe { engine::vaskelbi_resolve(realms.as_ptr(), realms.len(), key, out) }
@@ -149,10 +151,11 @@ impl Registry {
 
 /// Registration.
 impl Registry {
-    /// Registers a plugin and answers its id. Refuses 4, 5, 1 and 2 of the parent, 3 if the parent is Unloading, 6, 7, 8,
+    /// Registers a plugin and answers its id. Refuses 26, 4, 5, 1 and 2 of the parent, 3 if the parent is Unloading, 6, 7, 8,
     /// 9, 10, 11, 12.
     pub fn register(&mut self, new: &Definition<'_>) -> Result<u64, Refusal> {
-        let Definition { parent, anchor, realms, dependencies, provisions, payload } = *new;
+        let Definition { parent, anchor, ref realms, dependencies, provisions, payload } = *new;
+        let realms = realms.numbers();
         let words = &mut self.words;
         answer(|out| match parent {
             // SAFETY: each pointer and length are one borrowed slice's, and `&mut self` overlaps none.
@@ -369,7 +372,7 @@ impl Registry {
         self.listed(engine::vaskelbi_list_provisions, id, place, buffer)
     }
 
-    /// Lists the realm rows. Refuses 1, 23.
+    /// Lists the realm rows, without edition and default. Refuses 1, 23.
     pub fn list_realms(&self, id: u64, place: usize, buffer: &mut [u64]) -> Result<usize, Refusal> {
         self.listed(engine::vaskelbi_list_realms, id, place, buffer)
     }
@@ -454,9 +457,7 @@ impl Registry {
     /// Puts the registry that a text says in this one's place. Refuses 24, 25, and then changes nothing.
     pub fn reload(&mut self, domain: u64, text: &[u8]) -> Result<(), Refusal> {
         // SAFETY: pointer and length are one borrowed slice's.
-        done(unsafe {
-            engine::vaskelbi_load(&mut self.words, domain, text.as_ptr(), text.len())
-        })
+        done(unsafe { engine::vaskelbi_load(&mut self.words, domain, text.as_ptr(), text.len()) })
     }
 }
 
@@ -471,6 +472,17 @@ impl Registry {
     /// Its anchor.
     pub fn anchor(&self, id: u64) -> Result<Port, Refusal> {
         answer(|out| engine::vaskelbi_anchor(&self.words, id, out)).map(port)
+    }
+
+    /// Its edition of the realm rule, with its default realm.
+    pub fn edition(&self, id: u64) -> Result<Edition, Refusal> {
+        let [_, edition, default, ..] =
+            answer(|out| engine::vaskelbi_edition(&self.words, id, out))?;
+        Ok(match (edition, default) {
+            (1, 0) => Edition::First,
+            (2, default) => Edition::Second { default },
+            _ => unreachable!("there is no edition {edition} with default {default}"),
+        })
     }
 
     /// Its phase.

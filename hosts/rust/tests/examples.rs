@@ -3,9 +3,9 @@
 mod common;
 
 use common::{admitted, bare, changed, dependencies, refused, write};
-use vaskelbi::{Definition, Port, Receipt, Refusal, Registry, resolve};
+use vaskelbi::{Definition, Port, RealmList, Receipt, Refusal, Registry, resolve};
 
-const E1_REALMS: [u64; 4] = [2, 5, 9, 1];
+const E1_REALMS: RealmList = RealmList::first(&[(2, 5), (9, 1)]);
 
 /// A registry with a parent that depends on these keys in realm 0.
 fn parent(keys: &[u64]) -> (Box<Registry>, u64) {
@@ -18,7 +18,7 @@ fn parent(keys: &[u64]) -> (Box<Registry>, u64) {
 fn e1_a_key_gets_its_realm_or_realm_0() {
     assert_eq!(resolve(&E1_REALMS, 2), Ok(Port::new(2, 5)));
     assert_eq!(resolve(&E1_REALMS, 3), Ok(Port::new(3, 0)));
-    assert_eq!(resolve(&[], 3), Ok(Port::in_default_realm(3)));
+    assert_eq!(resolve(&RealmList::first(&[]), 3), Ok(Port::in_default_realm(3)));
 }
 
 #[test]
@@ -26,7 +26,7 @@ fn e2_declared_ports_come_first_and_provisions_are_left_out() {
     let (mut registry, id) = parent(&[2, 3]);
     let child = Definition {
         parent: Some(id),
-        realms: &E1_REALMS,
+        realms: E1_REALMS,
         dependencies: &[9],
         provisions: &[3],
         ..bare(1)
@@ -38,9 +38,9 @@ fn e2_declared_ports_come_first_and_provisions_are_left_out() {
 #[test]
 fn e3_an_inherited_port_already_declared_is_not_repeated() {
     let mut registry = Box::new(Registry::open(7, 0));
-    let new = Definition { realms: &[2, 5], dependencies: &[2], ..bare(0) };
+    let new = Definition { realms: RealmList::first(&[(2, 5)]), dependencies: &[2], ..bare(0) };
     let id = registry.register(&new).unwrap();
-    let new = Definition { realms: &E1_REALMS, dependencies: &[2], ..bare(1) };
+    let new = Definition { realms: E1_REALMS, dependencies: &[2], ..bare(1) };
     let child = registry.register(&Definition { parent: Some(id), ..new }).unwrap();
     assert_eq!(dependencies(&registry, child), [(2, 5)]);
 }
@@ -68,10 +68,11 @@ fn e4_a_declared_anchor_stays_and_is_handed_down() {
 #[test]
 fn e5_a_port_resolved_again_is_looked_for_in_the_growing_list() {
     let (mut registry, grandparent) = parent(&[2]);
-    let new = Definition { parent: Some(grandparent), realms: &[2, 7], ..bare(1) };
+    let realms = RealmList::first(&[(2, 7)]);
+    let new = Definition { parent: Some(grandparent), realms, ..bare(1) };
     let id = registry.register(&new).unwrap();
     assert_eq!(dependencies(&registry, id), [(2, 0), (2, 7)]);
-    let new = Definition { parent: Some(id), realms: &[2, 5], ..bare(2) };
+    let new = Definition { parent: Some(id), realms: RealmList::first(&[(2, 5)]), ..bare(2) };
     let child = registry.register(&new).unwrap();
     assert_eq!(dependencies(&registry, child), [(2, 0), (2, 5), (2, 7)]);
     assert_eq!(registry.lookup(child, 2), Ok(Some(Port::new(2, 0))));
@@ -101,9 +102,10 @@ fn e7_a_bare_plugin_takes_one_row() {
 #[test]
 fn e8_realm_keys_rise_strictly() {
     let mut registry = Box::new(Registry::open(7, 0));
-    for realms in [[2, 5, 2, 1], [9, 1, 2, 5]] {
+    for rows in [[(2, 5), (2, 1)], [(9, 1), (2, 5)]] {
+        let realms = RealmList::first(&rows);
         assert_eq!(resolve(&realms, 2), Err(Refusal::BadRealms));
-        let new = Definition { realms: &realms, ..bare(0) };
+        let new = Definition { realms, ..bare(0) };
         assert_eq!(refused(&mut registry, |r| r.register(&new)), Refusal::BadRealms);
     }
 }

@@ -3,13 +3,14 @@
 mod common;
 
 use common::{activate, bare, heirs, refused};
-use vaskelbi::{Definition, Port, Refusal, Registry};
+use vaskelbi::{Definition, Port, RealmList, Refusal, Registry};
 
 #[test]
 fn lists_at_a_buffer_s_edges() {
     let mut registry = Box::new(Registry::open(0, 0));
     let empty = registry.register(&bare(0)).unwrap();
-    let new = Definition { realms: &[2, 5], dependencies: &[9], provisions: &[3], ..bare(1) };
+    let realms = RealmList::first(&[(2, 5)]);
+    let new = Definition { realms, dependencies: &[9], provisions: &[3], ..bare(1) };
     let one = registry.register(&new).unwrap();
     let r = &mut registry;
     let mut buffer = [7; 4];

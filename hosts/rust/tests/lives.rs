@@ -4,7 +4,8 @@ mod common;
 
 use common::{activate, bare, refused};
 use vaskelbi::{
-    Definition, Identity, Invocation, Phase, Port, Reading, Refusal, Registry, Root, Ticket,
+    Definition, Edition, Identity, Invocation, Phase, Port, Reading, RealmList, Refusal, Registry,
+    Root, Ticket,
 };
 
 #[test]
@@ -28,13 +29,14 @@ fn a_life() {
     let mut registry = Box::new(Registry::open(7, 40));
     let r = &mut registry;
     let new = Definition {
-        realms: &[2, 5],
+        realms: RealmList::first(&[(2, 5)]),
         provisions: &[2, 3],
         ..Definition::new(Port::new(90, 6), 501)
     };
     let id = r.register(&new).unwrap();
     assert_eq!((id, r.next_id(), r.count(), r.rows()), (40, 41, 1, 3));
     assert_eq!((r.parent(id), r.anchor(id)), (Ok(None), Ok(Port::new(90, 6))));
+    assert_eq!(r.edition(id), Ok(Edition::First));
     assert_eq!((r.phase(id), r.retired(id)), (Ok(Phase::Idle), Ok(false)));
     assert_eq!((r.generation(id), r.revision(id), r.payload(id)), (Ok(0), Ok(0), Ok(501)));
     assert_eq!(r.root(id), Ok(Root::Unissued));

@@ -3,7 +3,9 @@
 mod common;
 
 use common::{activate, admitted, bare, heirs, refused};
-use vaskelbi::{Definition, Identity, Port, Refusal, Registry, Root, TEXT_ROOM};
+use vaskelbi::{
+    Definition, Edition, Identity, Port, RealmList, Refusal, Registry, Root, TEXT_ROOM,
+};
 
 fn text(registry: &Registry) -> String {
     registry.text(&mut vec![0; TEXT_ROOM]).unwrap().to_string()
@@ -36,14 +38,15 @@ fn carry(registry: &Registry) -> Box<Registry> {
     loaded
 }
 
-/// A parent (1), Active with a value, its child (2), Loading with a Queued root, and a third (3) that is Unloading.
+/// A parent (1), Active with a value, its child (2), Loading with a Queued root, and a third (3) that is Unloading. The child is of
+/// edition 2.
 fn night() -> Box<Registry> {
     let mut registry = Box::new(Registry::open(7, 1));
     let r = &mut registry;
     let parent = Definition { provisions: &[2], ..Definition::new(Port::in_default_realm(3), 40) };
     r.register(&parent).unwrap();
-    let realms = [2, 5, 9, u64::MAX];
-    r.register(&Definition { parent: Some(1), realms: &realms, dependencies: &[3], ..bare(0) }).unwrap();
+    let realms = RealmList::second(8, &[(2, 5), (3, 0), (9, u64::MAX)]);
+    r.register(&Definition { parent: Some(1), realms, dependencies: &[3], ..bare(0) }).unwrap();
     r.register(&Definition { dependencies: &[3], ..bare(1) }).unwrap();
     activate(r, 1);
     activate(r, 3);
@@ -61,6 +64,8 @@ fn a_night_is_carried_home() {
     assert_eq!(r.root(2), Ok(Root::Unissued));
     assert_eq!(r.root(3), Ok(Root::Spent));
     assert_eq!(r.child(2), Ok(Some(Identity { domain: 8, parent: 1, id: 2 })));
+    assert_eq!(r.edition(1), Ok(Edition::First));
+    assert_eq!(r.edition(2), Ok(Edition::Second { default: 8 }));
     // Nothing that was queued survives; a new admission is called.
     let ticket = vaskelbi::Ticket { domain: 8, id: 2, generation: 1, kind: 1 };
     let invocation = r.admit(ticket, 6).unwrap();
@@ -117,12 +122,29 @@ fn other_texts_are_refused() {
         ("phase=1", "phase=4"),
         ("retired=0", "retired=2"),
         ("generation=1", "generation=0"),
-        ("queued=0,", "queued=1,"),        // above the revision
-        ("root=1\n", "root=0\n"),          // with a queued pair
-        ("root=2", "root=0"),              // Active
+        ("queued=0,", "queued=1,"),          // above the revision
+        ("root=1\n", "root=0\n"),            // with a queued pair
+        ("root=2", "root=0"),                // Active
         ("anchor=1000001,77", "anchor=3,0"), // a port twice
-        ("realm=9,", "realm=2,"),
-        ("dep=3,0", "dep=4,0"),  // no Active provider
+        ("edition=1\ndefault=0\n", ""),      // without the lines
+        ("edition=2\ndefault=8\n", ""),
+        ("edition=1\n", ""), // without one of them
+        ("default=0\n", ""),
+        ("edition=1\ndefault=0\n", "default=0\nedition=1\n"),
+        ("anchor=3,0\nedition=1\ndefault=0\n", "edition=1\ndefault=0\nanchor=3,0\n"),
+        ("edition=1", "edition=0"),
+        ("edition=2", "edition=3"),
+        ("edition=2", "edition=02"),
+        ("default=0", "default=5"), // in edition 1
+        ("edition=2", "edition=1"), // with default 8
+        ("default=8", "default=none"),
+        ("default=8", "default=08"),
+        ("default=8", "default=18446744073709551616"),
+        // The provision (2,0) and the dependency (3,0) are not what their keys resolve to.
+        ("anchor=3,0\nedition=1\ndefault=0", "anchor=3,0\nedition=2\ndefault=5"),
+        ("anchor=1000001,77\nedition=1\ndefault=0", "anchor=1000001,77\nedition=2\ndefault=5"),
+        ("realm=9,", "realm=3,"),
+        ("dep=3,0", "dep=4,0"),     // no Active provider
         ("prov=2,0,", "prov=2,1,"), // not what its key resolves to
         ("prov=2,0,100", "prov=2,0,none"),
         ("deps=1", "deps=2"),
@@ -131,7 +153,11 @@ fn other_texts_are_refused() {
         ("\nparent", "\n\nparent"),
     ] {
         let text = changed(old, new);
-        assert_eq!(refused(&mut registry, |r| r.reload(8, text.as_bytes())), Refusal::BadText, "{new}");
+        assert_eq!(
+            refused(&mut registry, |r| r.reload(8, text.as_bytes())),
+            Refusal::BadText,
+            "{new}"
+        );
     }
     for end in 0..whole.len() {
         let cut = &whole.as_bytes()[..end];
@@ -139,5 +165,26 @@ fn other_texts_are_refused() {
     }
     let longer = whole.clone() + "\n";
     assert_eq!(refused(&mut registry, |r| r.reload(8, longer.as_bytes())), Refusal::BadText);
+    let older: String = whole
+        .lines()
+        .filter(|line| !line.starts_with("edition=") && !line.starts_with("default="))
+        .flat_map(|line| [line, "\n"])
+        .collect();
+    assert_eq!(refused(&mut registry, |r| r.reload(8, older.as_bytes())), Refusal::BadText);
     assert_eq!(registry.reload(8, whole.as_bytes()), Ok(()));
+}
+
+/// Where an edition gives the same ports, either is loaded, and kept.
+#[test]
+fn another_edition_that_gives_the_same_is_loaded() {
+    for (old, new, id, edition) in [
+        ("edition=1\ndefault=0", "edition=2\ndefault=0", 1, Edition::Second { default: 0 }),
+        ("edition=2\ndefault=8", "edition=1\ndefault=0", 2, Edition::First),
+        ("default=8", "default=18446744073709551615", 2, Edition::Second { default: u64::MAX }),
+    ] {
+        let text = changed(old, new);
+        let loaded = Box::new(Registry::load(8, text.as_bytes()).unwrap());
+        assert_eq!(loaded.edition(id), Ok(edition));
+        carry(&loaded);
+    }
 }

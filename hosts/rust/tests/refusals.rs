@@ -6,7 +6,8 @@ use std::error::Error;
 
 use common::{activate, admitted, bare, changed, heirs, refused, write};
 use vaskelbi::{
-    Definition, Identity, Invocation, Port, Refusal, Refused, Registry, Slot, Ticket, resolve,
+    Definition, Identity, Invocation, Port, RealmList, Refusal, Refused, Registry, Slot, Ticket,
+    resolve,
 };
 
 /// A registry of domain 7 with a parent 1, Active, that provides (2,0) at anchor (3,0), and its child 2, Idle, that depends on
@@ -30,7 +31,7 @@ fn registering(registry: &mut Registry, new: Definition<'_>) -> Refusal {
 }
 
 /// One way to each refusal, in the order of the numbers.
-const WAYS: [fn() -> Refusal; 25] = [
+const WAYS: [fn() -> Refusal; 26] = [
     || refused(&mut family(), |r| r.begin(3)),
     || {
         let mut registry = family();
@@ -38,7 +39,10 @@ const WAYS: [fn() -> Refusal; 25] = [
         refused(&mut registry, |r| r.begin(2))
     },
     || refused(&mut family(), |r| r.begin(1)),
-    || registering(&mut family(), Definition { realms: &[2], ..bare(1) }),
+    || {
+        let realms = RealmList::first(&[(9, 1), (2, 5)]);
+        registering(&mut family(), Definition { realms, ..bare(1) })
+    },
     || registering(&mut family(), Definition { dependencies: &[0; 17], ..bare(1) }),
     || registering(&mut family(), Definition { dependencies: &[8, 8], ..bare(1) }),
     || registering(&mut family(), Definition { provisions: &[8, 8], ..bare(1) }),
@@ -123,6 +127,10 @@ const WAYS: [fn() -> Refusal; 25] = [
     || refused(&mut family(), |r| r.list_provisions(1, 0, &mut [0])),
     || refused(&mut family(), |r| r.reload(8, b"domain=7\nfirst=1\nnext=0\nplugins=0\n")),
     || refused(&mut family(), |r| r.reload(7, b"domain=7\nfirst=0\nnext=0\nplugins=0\n")),
+    || {
+        let realms = RealmList::from_numbers(&[3, 0]);
+        registering(&mut family(), Definition { realms, ..bare(1) })
+    },
 ];
 
 #[test]
@@ -140,7 +148,7 @@ fn names_and_numbers() {
         assert!(!refusal.to_string().is_empty());
     }
     assert_eq!(Refusal::from_number(0), None);
-    assert_eq!(Refusal::from_number(26), None);
+    assert_eq!(Refusal::from_number(27), None);
     assert_eq!(Refusal::from_number(u64::MAX), None);
     assert_eq!(Refusal::Stale.to_string(), "ticket or invocation is not the live one");
     let refused = Refused { refusal: Refusal::Unknown, payload: 9 };
@@ -185,6 +193,7 @@ fn nobody_is_known_by_another_id() {
     assert_eq!(buffer, [9; 4]);
     assert_eq!(r.parent(3), Err(Refusal::Unknown));
     assert_eq!(r.anchor(3), Err(Refusal::Unknown));
+    assert_eq!(r.edition(3), Err(Refusal::Unknown));
     assert_eq!(r.phase(3), Err(Refusal::Unknown));
     assert_eq!(r.retired(3), Err(Refusal::Unknown));
     assert_eq!(r.generation(3), unknown);
@@ -205,13 +214,15 @@ fn the_earlier_check_answers() {
     assert_eq!(refused(r, |r| r.retire_child(stranger)), Refusal::InvalidState);
     let all_wrong = Definition {
         parent: Some(3),
-        realms: &[2],
+        realms: RealmList::from_numbers(&[3, 0, 2]),
         dependencies: &[0; 17],
         provisions: &[8, 8],
         ..bare(0)
     };
-    assert_eq!(registering(r, all_wrong), Refusal::BadRealms);
-    let fewer = Definition { realms: &[], ..all_wrong };
+    assert_eq!(registering(r, all_wrong), Refusal::BadEdition);
+    let fewer = Definition { realms: RealmList::from_numbers(&[1, 0, 2]), ..all_wrong };
+    assert_eq!(registering(r, fewer), Refusal::BadRealms);
+    let fewer = Definition { realms: RealmList::first(&[]), ..fewer };
     assert_eq!(registering(r, fewer), Refusal::TooManyKeys);
     let fewer = Definition { dependencies: &[8, 8], ..fewer };
     assert_eq!(registering(r, fewer), Refusal::Unknown);
@@ -245,6 +256,6 @@ fn exhausted_generations() {
 
 #[test]
 fn what_needs_no_registry() {
-    assert_eq!(resolve(&[2, 5, 9], 2), Err(Refusal::BadRealms));
+    assert_eq!(resolve(&RealmList::from_numbers(&[1, 0, 9]), 2), Err(Refusal::BadRealms));
     assert_eq!(Slot::assigned(CHILD).reject(), Err(Refusal::InvalidState));
 }

@@ -5,18 +5,30 @@ mod common;
 use std::fmt::Write;
 
 use common::{activate, admitted, bare, heirs, refused};
-use vaskelbi::{Definition, Port, Refusal, Registry, Root, TEXT_ROOM};
+use vaskelbi::{Definition, Edition, Port, RealmList, Refusal, Registry, Root, TEXT_ROOM};
 
-fn example() -> Box<Registry> {
+/// A plugin by a realm list, with these provisions.
+fn one(realms: RealmList, provisions: &[u64]) -> Box<Registry> {
     let mut registry = Box::new(Registry::open(7, 0));
     let anchor = Port::in_default_realm(9);
-    let new = Definition { realms: &[2, 5], provisions: &[2], ..Definition::new(anchor, 40) };
+    let new = Definition { realms, provisions, ..Definition::new(anchor, 40) };
     assert_eq!(registry.register(&new), Ok(0));
     registry
 }
 
+fn example() -> Box<Registry> {
+    one(RealmList::first(&[(2, 5)]), &[2])
+}
+
 const EXAMPLE: &str = "domain=7 first=0 next=1 plugins=1 id=0 parent=none phase=0 retired=0 generation=0 revision=0 payload=40 \
-    root=0 queued=none anchor=9,0 realms=1 realm=2,5 deps=0 provs=1 prov=2,5,none";
+    root=0 queued=none anchor=9,0 edition=1 default=0 realms=1 realm=2,5 deps=0 provs=1 prov=2,5,none";
+
+const SECOND: &str = "domain=7 first=0 next=1 plugins=1 id=0 parent=none phase=0 retired=0 generation=0 revision=0 payload=40 \
+    root=0 queued=none anchor=9,0 edition=2 default=8 realms=1 realm=2,5 deps=0 provs=2 prov=2,5,none prov=3,8,none";
+
+fn lines(words: &str) -> String {
+    words.replace(' ', "\n") + "\n"
+}
 
 fn or_none(number: Option<u64>) -> String {
     number.map_or("none".to_string(), |number| number.to_string())
@@ -53,6 +65,10 @@ fn told(r: &Registry) -> String {
             Root::Spent => (2, "none".to_string()),
         };
         let anchor = r.anchor(id).unwrap();
+        let (edition, default) = match r.edition(id).unwrap() {
+            Edition::First => (1, 0),
+            Edition::Second { default } => (2, default),
+        };
         for (name, value) in [
             ("id", id.to_string()),
             ("parent", or_none(r.parent(id).unwrap())),
@@ -64,6 +80,8 @@ fn told(r: &Registry) -> String {
             ("root", root.to_string()),
             ("queued", queued),
             ("anchor", format!("{},{}", anchor.key, anchor.realm)),
+            ("edition", edition.to_string()),
+            ("default", default.to_string()),
         ] {
             writeln!(text, "{name}={value}").unwrap();
         }
@@ -103,10 +121,30 @@ fn check(registry: &mut Registry) {
 #[test]
 fn the_example() {
     let registry = example();
-    let mut buffer = [0; 182];
-    assert_eq!(registry.text(&mut buffer[..181]), Err(Refusal::ShortBuffer));
-    assert_eq!(buffer, [0; 182]);
-    assert_eq!(registry.text(&mut buffer), Ok(&*(EXAMPLE.replace(' ', "\n") + "\n")));
+    let mut buffer = [0; 202];
+    assert_eq!(registry.text(&mut buffer[..201]), Err(Refusal::ShortBuffer));
+    assert_eq!(buffer, [0; 202]);
+    assert_eq!(registry.text(&mut buffer), Ok(&*lines(EXAMPLE)));
+}
+
+/// Edition 1 has the line `default=0` whatever default was handed in, and edition 2 the default that came with the list.
+#[test]
+fn both_editions() {
+    let handed_in = RealmList::from_numbers(&[1, 8, 2, 5]);
+    let mut registry = one(handed_in, &[2]);
+    check(&mut registry);
+    assert_eq!(registry.text(&mut [0; 202]), Ok(&*lines(EXAMPLE)));
+    let mut registry = one(RealmList::second(8, &[(2, 5)]), &[2, 3]);
+    check(&mut registry);
+    assert_eq!(registry.text(&mut [0; 256]), Ok(&*lines(SECOND)));
+    for default in [0, 10, u64::MAX] {
+        let mut registry = one(RealmList::second(default, &[]), &[2]);
+        check(&mut registry);
+        let mut buffer = [0; 256];
+        let text = registry.text(&mut buffer).unwrap();
+        let expected = format!("\nanchor=9,0\nedition=2\ndefault={default}\nrealms=0\n");
+        assert!(text.contains(&expected), "{text}");
+    }
 }
 
 #[test]

@@ -3,7 +3,7 @@
 
 use std::fmt::Debug;
 
-use vaskelbi::{Definition, Invocation, Port, Registry, WORDS};
+use vaskelbi::{Definition, Invocation, Port, RealmList, Registry, WORDS};
 
 /// A plugin with nothing but an anchor that no other number leads to.
 pub fn bare(n: u64) -> Definition<'static> {
@@ -34,14 +34,15 @@ pub fn activate(registry: &mut Registry, id: u64) {
     registry.ready(id).unwrap();
 }
 
-/// Three plugins, the last with 48 dependencies: keys 1 to 16 in three realms.
+/// Three plugins of edition 1, the last with 48 dependencies: keys 1 to 16 in three realms.
 pub fn heirs(registry: &mut Registry) -> u64 {
     let keys: Vec<u64> = (1..=16).collect();
     let mut parent = None;
     for realm in 0..3 {
-        let realms: Vec<u64> = keys.iter().flat_map(|&key| [key, realm]).collect();
+        let rows: Vec<(u64, u64)> = keys.iter().map(|&key| (key, realm)).collect();
+        let realms = RealmList::first(&rows);
         let declared = if realm == 0 { &keys[..] } else { &[] };
-        let new = Definition { parent, realms: &realms, dependencies: declared, ..bare(realm) };
+        let new = Definition { parent, realms, dependencies: declared, ..bare(realm) };
         parent = Some(registry.register(&new).unwrap());
     }
     parent.unwrap()
