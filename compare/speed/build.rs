@@ -1,6 +1,9 @@
 //! Links both sides; `run` says where they lie.
 
-use std::env;
+use std::{env, fs};
+
+/// Where the proved registry says how many words it has.
+const MEMORY: &str = "../../crates/memory/src/lib.rt";
 
 fn main() {
     let folder = |name: &str| {
@@ -18,4 +21,12 @@ fn main() {
         println!("cargo:rustc-link-search=native={ours}");
         println!("cargo:rustc-link-lib=static=vaskelbi");
     }
+    println!("cargo:rerun-if-changed={MEMORY}");
+    println!("cargo:rustc-env=WORDS={}", words());
+}
+
+fn words() -> String {
+    let memory = fs::read_to_string(MEMORY).expect(MEMORY);
+    let line = memory.lines().find_map(|line| line.strip_prefix("pub const WORDS: usize = "));
+    line.expect(MEMORY).trim_end_matches(';').to_string()
 }

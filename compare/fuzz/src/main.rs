@@ -12,7 +12,7 @@ use std::env;
 use std::ops::ControlFlow;
 use std::process::ExitCode;
 
-use plain::damage::{BYTES, RECORDS};
+use plain::damage::{BYTES, EDITIONS, RECORDS};
 use plain::rng::Rng;
 
 use compare::{Compare, Difference};
@@ -31,9 +31,9 @@ fn main() -> ExitCode {
         eprintln!("usage: fuzz COUNT SEED");
         return ExitCode::FAILURE;
     };
-    let mut tally = Tally::new(
-        [WHOLE].into_iter().chain(BYTES.iter().chain(RECORDS).map(|kind| kind.name)).chain([TWICE]),
-    );
+    let kinds = [BYTES, EDITIONS, RECORDS].into_iter().flatten();
+    let mut tally =
+        Tally::new([WHOLE].into_iter().chain(kinds.map(|kind| kind.name)).chain([TWICE]));
     let found = run(count, seed, &mut tally);
     println!("{tally}");
     match found {
@@ -87,7 +87,7 @@ fn damage(text: &mut Vec<u8>, rng: &mut Rng) -> &'static str {
 /// By a kind that the text has something of.
 fn damage_once(text: &mut Vec<u8>, rng: &mut Rng) -> &'static str {
     loop {
-        let kinds = if rng.one_in(2) { BYTES } else { RECORDS };
+        let kinds = rng.one_of([BYTES, BYTES, BYTES, EDITIONS, RECORDS, RECORDS, RECORDS]);
         let kind = &kinds[rng.below(kinds.len() as u64) as usize];
         let mut damaged = text.clone();
         if kind.damage(&mut damaged, rng).is_some() {

@@ -2,8 +2,11 @@
 
 use plain::console::TEXT;
 
-/// The words of a registry.
-const WORDS: usize = 4488;
+/// The words of a registry, as its crate says.
+const WORDS: usize = match usize::from_str_radix(env!("WORDS"), 10) {
+    Ok(words) => words,
+    Err(_) => panic!("no number"),
+};
 
 /// A count and up to six numbers.
 type Out = [u64; 7];

@@ -9,7 +9,7 @@ pub use lines::{Line, Lines, MAX_LINE};
 pub use parse::{Operation, parse, text_length};
 
 use crate::admission::Root;
-use crate::ports::{Port, resolve};
+use crate::ports::{Edition, Port, resolve};
 use crate::refusal::Refusal;
 use crate::registry::{Registry, Shown};
 use crate::retirement::Child;
@@ -143,6 +143,7 @@ impl Console {
             Operation::Resolve { key, realms } => {
                 out.ok_numbers(&port_numbers(resolve(key, realms)?));
             }
+            Operation::Edition(id) => out.ok_numbers(&edition_numbers(registry.edition(id)?)),
             Operation::Deps { id, place } => {
                 out.ok_numbers(&[registry.deps(id, &mut self.buffer, place)?]);
             }
@@ -208,6 +209,10 @@ fn done(result: Result<(), Refusal>, out: &mut Answer<'_>) -> Result<(), Refusal
 
 fn port_numbers(port: Port) -> [u64; 2] {
     [port.key, port.realm]
+}
+
+fn edition_numbers(edition: Edition) -> [u64; 2] {
+    [edition.number(), edition.default_realm()]
 }
 
 fn child_numbers(child: Child) -> [u64; 3] {

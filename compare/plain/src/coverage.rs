@@ -9,18 +9,22 @@ mod boundaries;
 mod checks;
 mod conditions;
 mod expected;
+mod forms;
 mod report;
+mod told;
 
 use std::collections::BTreeMap;
 
 use crate::console::{Console, Line, Operation, TEXT, is_passed_over, parse, text_length};
+use crate::plugin::Plugin;
+use crate::ports::Edition;
 use crate::registry::Registry;
-use crate::sheet::Sheet;
 
 use boundaries::{BOUNDARIES, Loads};
+use told::Told;
 
 pub use checks::{Check, holding, refusals};
-pub use expected::{EXPECTED, Expected};
+pub use expected::{EXPECTED, Expected, ORDERS};
 
 /// What became of one operation's lines.
 #[derive(Default)]
@@ -148,6 +152,12 @@ impl Coverage {
             let checks = checks.iter().filter(|check| !refused.contains_key(check));
             gaps.extend(checks.map(|check| format!("{operation} refused {check}")));
         }
+        for (operation, first, later) in ORDERS {
+            let tally = self.tallies.get(operation).unwrap_or(&nothing);
+            if !tally.order.keys().any(|(a, b)| (a.number, b.number) == (*first, *later)) {
+                gaps.push(format!("{operation} refused {first} before {later}"));
+            }
+        }
         let boundaries = BOUNDARIES.iter().filter(|name| !self.boundaries.contains_key(*name));
         gaps.extend(boundaries.map(|name| name.to_string()));
         gaps
@@ -196,46 +206,28 @@ impl Coverage {
     }
 }
 
-/// What the registry told before a text was written or loaded.
-struct Told(Sheet);
-
-impl Told {
-    fn of(registry: &Registry, asked: &Operation<'_>) -> Option<Self> {
-        let text = matches!(asked, Operation::Write { .. } | Operation::Load { .. });
-        text.then(|| Self(Sheet::of(registry)))
-    }
-
-    /// Whether the whole answer and the registry after it are what they must be.
-    fn is_kept(
-        &self,
-        asked: &Operation<'_>,
-        accepted: bool,
-        answer: &[u8],
-        registry: &Registry,
-    ) -> bool {
-        let after = Sheet::of(registry);
-        match *asked {
-            Operation::Write { .. } if accepted => {
-                let text = self.0.text();
-                answer == format!("ok {}\n{text}", text.len()).as_bytes() && after == self.0
-            }
-            Operation::Load { domain, text } if accepted => {
-                let wanted = Sheet::read(text).map(|sheet| sheet.loaded(domain));
-                // Places from the lowest by rising id.
-                let ids = registry.registered().map(|(id, _)| id);
-                let places = u64::from(registry.occupancy.trailing_ones()) == registry.count();
-                let rows = registry.rows() == after.rows() as u64;
-                answer == b"ok\n" && Some(after) == wanted && ids.is_sorted() && places && rows
-            }
-            _ => answer.len() == first_line(answer).len() + 1 && after == self.0,
-        }
-    }
-}
-
 /// A kind that has to be told before the operation is carried out.
 fn accepted_kind(registry: &Registry, asked: &Operation<'_>) -> Option<&'static str> {
     match *asked {
-        Operation::Register(new) => Some(if new.parent.is_some() { "child" } else { "no parent" }),
+        Operation::Register(new) => Some(match (new.parent, new.realms.edition) {
+            (Some(_), 1) => "child, edition 1",
+            (Some(_), _) => "child, edition 2",
+            (None, 1) => "no parent, edition 1",
+            (None, _) => "no parent, edition 2",
+        }),
+        Operation::Resolve { key, realms } => {
+            let row = realms.rows.chunks(2).any(|row| row[0] == key);
+            Some(match (realms.edition, row) {
+                (1, true) => "edition 1, a row",
+                (1, false) => "edition 1, no row",
+                (_, true) => "edition 2, a row",
+                (_, false) => "edition 2, no row",
+            })
+        }
+        Operation::Edition(id) => Some(match registry.plugin(id).map(Plugin::edition) {
+            Ok(Edition::Second { .. }) => "edition 2",
+            _ => "edition 1",
+        }),
         Operation::RetireChild(child) => Some(match registry.plugin(child.id) {
             Ok(_) => "registered",
             Err(_) => "removed before",
@@ -290,6 +282,7 @@ pub fn name(operation: &Operation<'_>) -> &'static str {
         Operation::Declares { .. } => "declares",
         Operation::Lookup { .. } => "lookup",
         Operation::Resolve { .. } => "resolve",
+        Operation::Edition(_) => "edition",
         Operation::Deps { .. } => "deps",
         Operation::Provs { .. } => "provs",
         Operation::Realms { .. } => "realms",

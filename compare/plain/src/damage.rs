@@ -6,6 +6,7 @@
 // All kinds have one signature, also those that a slice would do for.
 #[allow(clippy::ptr_arg)]
 mod bytes;
+mod editions;
 mod lists;
 #[allow(clippy::ptr_arg)]
 mod numbers;
@@ -71,6 +72,17 @@ pub const BYTES: &[Kind] = &[
     bytes("none and numbers", numbers::none),
 ];
 
+/// Kinds that change the lines of editions.
+pub const EDITIONS: &[Kind] = &[
+    bytes("an edition's number", editions::number),
+    bytes("a default in edition 1", editions::default_in_first),
+    bytes("a default in edition 2", editions::default_in_second),
+    bytes("an edition's line gone", editions::gone),
+    bytes("edition and default swapped", editions::swapped),
+    bytes("edition and default moved", editions::moved),
+    bytes("no editions at all", editions::none),
+];
+
 /// Fills the rows of a text that has nearly as many.
 pub const ROWS: Kind = record("1,024 or 1,025 rows", records::rows);
 
@@ -91,6 +103,7 @@ pub const RECORDS: &[Kind] = &[
     record("a queued revision", records::queued),
     record("a value", records::value),
     record("an anchor", records::anchor),
+    record("an edition", records::edition),
     record("a port of two", records::clash),
     record("32 or 33 plugins", records::plugins),
     ROWS,
@@ -107,6 +120,7 @@ pub const RECORDS: &[Kind] = &[
     record("two dependencies", lists::two_dependencies),
     record("a dependency on another", lists::dependency_on_another),
     record("an anchor in the parent's list", lists::anchor_inherited),
+    record("a child of another edition", lists::child_of_another_edition),
 ];
 
 /// The place of any plugin of which this is true.

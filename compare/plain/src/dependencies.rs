@@ -10,7 +10,8 @@ pub(crate) type Dependencies = PortList<MAX_DEPENDENCIES>;
 
 impl Dependencies {
     /// Writes the finished list: the declared keys in order, then for each port
-    /// of the parent's list that port and its key resolved again.
+    /// of the parent's list that port and its key resolved again. All keys are
+    /// resolved by the plugin's own edition and rows, whatever its parent's.
     pub(crate) fn finish(
         &mut self,
         declared: &[u64],

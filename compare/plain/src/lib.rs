@@ -38,7 +38,7 @@ pub mod sheet;
 pub use admission::{Invocation, Receipt, Root, SETUP, Ticket};
 pub use phases::{Phase, Step};
 pub use plugin::Plugin;
-pub use ports::{DEFAULT_REALM, MAX_REALM_ROWS, Port, resolve};
+pub use ports::{DEFAULT_REALM, Edition, MAX_REALM_ROWS, Port, RealmList, resolve};
 pub use refusal::Refusal;
 pub use registration::{
     MAX_DEPENDENCIES, MAX_DEPENDENCY_KEYS, MAX_PROVISION_KEYS, MAX_ROWS, Registration,

@@ -88,6 +88,7 @@ impl Plugin {
         self.record = Record { revision: text.line("revision=")?, payload: text.line("payload=")? };
         self.root = text.root()?;
         self.anchor = text.port("anchor=")?;
+        self.edition = text.edition()?;
 
         let mut rows = [0; 2 * MAX_REALM_ROWS];
         let rows = &mut rows[..2 * text.at_most("realms=", MAX_REALM_ROWS)?];
@@ -95,7 +96,7 @@ impl Plugin {
             let Port { key, realm } = text.port("realm=")?;
             row.copy_from_slice(&[key, realm]);
         }
-        let realms = Realms::new(rows).ok()?;
+        let realms = Realms::new(self.edition, rows).ok()?;
         self.realms.refill(realms.rows());
         for _ in 0..text.at_most("deps=", MAX_DEPENDENCIES)? {
             let fits = self.dependencies.push(text.port("dep=")?);

@@ -133,7 +133,7 @@ mod tests {
                 parent: None,
                 anchor: crate::Port::new(1, 0),
                 payload: 0,
-                realms: &[],
+                realms: crate::RealmList::first(&[]),
                 dependencies: &[2],
                 provisions: &[],
             })

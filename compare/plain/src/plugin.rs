@@ -3,7 +3,7 @@
 use crate::admission::Root;
 use crate::list::PortList;
 use crate::phases::Phase;
-use crate::ports::{MAX_REALM_ROWS, Port};
+use crate::ports::{Edition, MAX_REALM_ROWS, Port};
 use crate::registration::{MAX_DEPENDENCIES, MAX_PROVISION_KEYS};
 use crate::replacement::Record;
 use crate::values::Values;
@@ -18,6 +18,7 @@ pub struct Plugin {
     pub(crate) generation: u64,
     pub(crate) record: Record,
     pub(crate) root: Root,
+    pub(crate) edition: Edition,
     pub(crate) realms: PortList<MAX_REALM_ROWS>,
     pub(crate) dependencies: PortList<MAX_DEPENDENCIES>,
     pub(crate) provisions: PortList<MAX_PROVISION_KEYS>,
@@ -37,6 +38,7 @@ impl Plugin {
         generation: Self::NEVER_BEGUN,
         record: Record::new(0),
         root: Root::Unissued,
+        edition: Edition::First,
         realms: PortList::EMPTY,
         dependencies: PortList::EMPTY,
         provisions: PortList::EMPTY,
@@ -69,6 +71,11 @@ impl Plugin {
 
     pub fn root(&self) -> Root {
         self.root
+    }
+
+    /// The edition of the realm rule by which its own list is read, with the default.
+    pub fn edition(&self) -> Edition {
+        self.edition
     }
 
     /// The realm rows, each written as the port that its key resolves to.

@@ -1,7 +1,7 @@
 //! Reading a text piece by piece.
 
 use crate::admission::Root;
-use crate::ports::Port;
+use crate::ports::{Edition, Port};
 
 /// What is left of a text. Each method takes a piece from its front, and answers
 /// none if the text goes on otherwise.
@@ -88,6 +88,15 @@ impl<'t> Reader<'t> {
         };
         self.skip("queued=none\n")?;
         Some(root)
+    }
+
+    /// The lines edition and default, which is 0 in edition 1.
+    pub(crate) fn edition(&mut self) -> Option<Edition> {
+        match (self.line("edition=")?, self.line("default=")?) {
+            (1, 0) => Some(Edition::First),
+            (2, default) => Some(Edition::Second { default }),
+            _ => None,
+        }
     }
 
     /// The text's end.

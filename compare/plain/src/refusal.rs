@@ -29,6 +29,7 @@ pub enum Refusal {
     ShortBuffer = 23,
     BadText = 24,
     SameDomain = 25,
+    BadEdition = 26,
 }
 
 impl Refusal {

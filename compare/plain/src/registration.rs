@@ -4,7 +4,7 @@ use crate::admission::Root;
 use crate::list::PortList;
 use crate::phases::Phase;
 use crate::plugin::Plugin;
-use crate::ports::{Port, Realms};
+use crate::ports::{Port, RealmList};
 use crate::refusal::Refusal;
 use crate::registry::Registry;
 use crate::replacement::Record;
@@ -27,8 +27,7 @@ pub struct Registration<'a> {
     pub parent: Option<u64>,
     pub anchor: Port,
     pub payload: u64,
-    /// Key, realm, key, realm.
-    pub realms: &'a [u64],
+    pub realms: RealmList<'a>,
     /// Keys.
     pub dependencies: &'a [u64],
     /// Keys.
@@ -38,7 +37,7 @@ pub struct Registration<'a> {
 impl Registry {
     /// Registers a plugin and answers its id.
     pub fn register(&mut self, new: &Registration<'_>) -> Result<u64, Refusal> {
-        let realms = Realms::new(new.realms)?;
+        let realms = new.realms.checked()?;
         if new.dependencies.len() > MAX_DEPENDENCY_KEYS || new.provisions.len() > MAX_PROVISION_KEYS
         {
             return Err(Refusal::TooManyKeys);
@@ -82,6 +81,7 @@ impl Registry {
         plugin.generation = Plugin::NEVER_BEGUN;
         plugin.record = Record::new(new.payload);
         plugin.root = Root::Unissued;
+        plugin.edition = realms.edition();
         plugin.realms.refill(realms.rows());
         plugin.values.drop_all();
         Ok(self.occupy(place, rows))

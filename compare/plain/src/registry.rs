@@ -3,7 +3,7 @@
 use crate::admission::Root;
 use crate::phases::Phase;
 use crate::plugin::Plugin;
-use crate::ports::Port;
+use crate::ports::{Edition, Port};
 use crate::refusal::Refusal;
 
 /// The number of plugin places: one bit each in the occupancy word.
@@ -119,6 +119,11 @@ impl Registry {
             root: plugin.root,
             anchor: plugin.anchor,
         })
+    }
+
+    /// A plugin's edition of the realm rule, with its default.
+    pub fn edition(&self, id: u64) -> Result<Edition, Refusal> {
+        Ok(self.plugin(id)?.edition)
     }
 
     /// Looks an id up: its place, or refusal 1.

@@ -8,7 +8,7 @@ use std::collections::{BTreeMap, VecDeque};
 use crate::admission::Root;
 use crate::phases::Phase;
 use crate::plugin::Plugin;
-use crate::ports::Port;
+use crate::ports::{Edition, Port};
 use crate::registry::Registry;
 
 /// What a text tells, with any numbers: it need not meet a condition.
@@ -33,11 +33,22 @@ pub struct Leaf {
     pub payload: u64,
     pub root: Root,
     pub anchor: Port,
+    pub edition: Edition,
     /// Each row as the port that its key resolves to.
     pub realms: Vec<Port>,
     pub dependencies: Vec<Port>,
     /// With the values.
     pub provisions: Vec<(Port, Option<u64>)>,
+}
+
+/// How a dependency list is finished: by the rule, or by a slip.
+#[derive(Clone, Copy)]
+pub struct Rule {
+    /// Whether the anchor is skipped among what is inherited. Before document 02 it
+    /// was not.
+    pub skips_anchor: bool,
+    /// The edition by which inherited keys are resolved again: the plugin's own.
+    pub again: Edition,
 }
 
 impl Sheet {
@@ -104,6 +115,7 @@ impl Leaf {
             payload: plugin.record().payload,
             root: plugin.root(),
             anchor: plugin.anchor(),
+            edition: plugin.edition(),
             realms: plugin.realms().to_vec(),
             dependencies: plugin.dependencies().to_vec(),
             provisions: plugin.provisions().iter().map(valued).collect(),
@@ -125,19 +137,32 @@ impl Leaf {
         self.phase == Phase::Loading || self.phase == Phase::Active
     }
 
-    /// The port that a key resolves to by its realms.
+    /// The port that a key resolves to by its realms and its edition.
     pub fn resolve(&self, key: u64) -> Port {
-        let row = self.realms.iter().find(|row| row.key == key);
-        row.copied().unwrap_or(Port { key, realm: 0 })
+        self.resolve_by(self.edition, key)
     }
 
-    /// The dependency list that the rule gives. Its anchor is skipped among what it
-    /// inherits, or is not, as before document 02.
-    pub fn finished(&self, declared: &[Port], inherited: &[Port], skipped: bool) -> Vec<Port> {
+    /// The port that a key resolves to by its realms and some edition.
+    fn resolve_by(&self, edition: Edition, key: u64) -> Port {
+        let row = self.realms.iter().find(|row| row.key == key);
+        let realm = match edition {
+            Edition::First => 0,
+            Edition::Second { default } => default,
+        };
+        row.copied().unwrap_or(Port { key, realm })
+    }
+
+    /// The rule for its dependency list.
+    pub fn rule(&self) -> Rule {
+        Rule { skips_anchor: true, again: self.edition }
+    }
+
+    /// The dependency list that a rule gives.
+    pub fn finished(&self, declared: &[Port], inherited: &[Port], rule: Rule) -> Vec<Port> {
         let mut list = declared.to_vec();
         for port in inherited {
-            for port in [*port, self.resolve(port.key)] {
-                let own = self.provides(port) || skipped && self.anchor == port;
+            for port in [*port, self.resolve_by(rule.again, port.key)] {
+                let own = self.provides(port) || rule.skips_anchor && self.anchor == port;
                 if !own && !list.contains(&port) {
                     list.push(port);
                 }
@@ -171,6 +196,10 @@ impl Leaf {
             format!("queued={queued}"),
             format!("anchor={}", pair(&self.anchor)),
         ]);
+        lines.extend(match self.edition {
+            Edition::First => ["edition=1".to_string(), "default=0".to_string()],
+            Edition::Second { default } => ["edition=2".to_string(), format!("default={default}")],
+        });
         lines.push(format!("realms={}", self.realms.len()));
         lines.extend(self.realms.iter().map(|row| format!("realm={}", pair(row))));
         lines.push(format!("deps={}", self.dependencies.len()));
@@ -232,6 +261,11 @@ impl<'t> Page<'t> {
                 _ => return None,
             },
             anchor: pair(self.value("anchor=")?)?,
+            edition: match (self.value("edition=")?, self.value("default=")?) {
+                ("1", "0") => Edition::First,
+                ("2", default) => Edition::Second { default: default.parse().ok()? },
+                _ => return None,
+            },
             realms: self.list("realms=", "realm=", pair)?,
             dependencies: self.list("deps=", "dep=", pair)?,
             provisions: self.list("provs=", "prov=", |value| {

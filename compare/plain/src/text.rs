@@ -80,6 +80,8 @@ impl Plugin {
             Root::Spent => text.put("root=2\nqueued=none\n"),
         }
         text.port("anchor=", self.anchor);
+        text.line("edition=", self.edition.number());
+        text.line("default=", self.edition.default_realm());
         text.ports("realms=", "realm=", &self.realms);
         text.ports("deps=", "dep=", &self.dependencies);
         text.line("provs=", self.provisions.len() as u64);
@@ -214,7 +216,7 @@ mod tests {
                 parent: None,
                 anchor: Port::new(keys[0], realm),
                 payload: last,
-                realms: &realms,
+                realms: crate::RealmList::second(last, &realms),
                 dependencies: &keys,
                 provisions: &keys[1..],
             };
@@ -232,7 +234,7 @@ mod tests {
         assert_eq!((registry.count(), registry.rows()), (32, 1024));
         let mut text = vec![0; 131_072];
         let length = registry.write(&mut text).unwrap();
-        assert_eq!(length, 89_724);
+        assert_eq!(length, 90_972);
         assert!(text[length..].iter().all(|&byte| byte == 0));
     }
 }

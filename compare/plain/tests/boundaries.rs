@@ -3,7 +3,9 @@
 mod common;
 
 use common::{activate, anchor, bare, dependencies, heirs, refused};
-use plain::{Child, ChildSlot, Decision, Port, Refusal, Registration, Registry, resolve};
+use plain::{
+    Child, ChildSlot, Decision, Port, RealmList, Refusal, Registration, Registry, resolve,
+};
 
 #[test]
 fn keys_16_and_17() {
@@ -31,8 +33,11 @@ fn provisions_15_and_16() {
 #[test]
 fn realm_rows_16_and_17() {
     let realms: Vec<u64> = (0..17).flat_map(|key| [key, key + 1]).collect();
-    assert_eq!(resolve(15, &realms[..32]), Ok(Port::new(15, 16)));
-    assert_eq!(resolve(15, &realms), Err(Refusal::BadRealms));
+    for edition in [1, 2] {
+        let list = |rows| RealmList { edition, default: 3, rows };
+        assert_eq!(resolve(15, list(&realms[..32])), Ok(Port::new(15, 16)));
+        assert_eq!(resolve(15, list(&realms)), Err(Refusal::BadRealms));
+    }
 }
 
 #[test]
@@ -146,7 +151,8 @@ fn a_removed_child_retires_with_no_change() {
 fn lists_at_the_buffer_s_end() {
     let mut registry = Registry::open(0, 0);
     let empty = registry.register(&bare(anchor(0))).unwrap();
-    let new = Registration { realms: &[2, 5], provisions: &[2], ..bare(anchor(1)) };
+    let new =
+        Registration { realms: RealmList::first(&[2, 5]), provisions: &[2], ..bare(anchor(1)) };
     let one = registry.register(&new).unwrap();
     let mut buffer = [7; 4];
     assert_eq!(registry.deps(empty, &mut buffer, 4), Ok(0));

@@ -8,13 +8,22 @@ use common::loads::{
 use common::{anchor, bare};
 use plain::coverage::refusals;
 use plain::sheet::{Leaf, Sheet};
-use plain::{Phase, Port, Refusal, Root};
+use plain::{Edition, Phase, Port, Refusal, Root};
+
+const SEVEN: Edition = Edition::Second { default: 7 };
+
+/// The fourth is in edition 2 and depends on (60,7); the fifth becomes its child.
+fn child_of_seven(plugins: &mut [Leaf]) {
+    (plugins[3].edition, plugins[3].realms) = (SEVEN, ports(30..32));
+    plugins[3].dependencies = vec![Port::new(60, 7)];
+    plugins[4].parent = Some(3);
+}
 
 #[test]
 fn each_condition_broken_alone() {
     let whole = family();
     kept(&whole);
-    let breaks: [(&str, Break); 44] = [
+    let breaks: [(&str, Break); 50] = [
         ("ids that don't rise", |p| p[4].id = 3),
         ("ids that don't rise", |p| p.swap(3, 4)),
         ("parent not lower", |p| p[4].parent = Some(4)),
@@ -46,6 +55,10 @@ fn each_condition_broken_alone() {
         ("anchor by anchor", |p| p[4].anchor = Port::new(53, 0)),
         ("provision's realm", |p| p[4].provisions[0].0.realm = 1),
         ("provision's realm", |p| p[4].realms = vec![Port::new(40, 1)]),
+        // A key without a row has the default of the plugin's own edition.
+        ("provision's realm", |p| p[4].edition = SEVEN),
+        ("provision's realm", |p| p[4].provisions[0].0.realm = 7),
+        ("provision's realm", |p| p[0].edition = Edition::Second { default: 4 }),
         // Declared ports have the realm that their keys resolve to, each key once.
         ("list not given", |p| p[4].dependencies = vec![Port::new(60, 1)]),
         ("list not given", |p| p[4].dependencies = vec![Port::new(60, 0); 2]),
@@ -63,6 +76,20 @@ fn each_condition_broken_alone() {
             p[4].parent = Some(3);
             p[4].anchor = Port::new(60, 8);
             p[4].dependencies = vec![Port::new(60, 8), Port::new(60, 0)];
+        }),
+        ("list not given", |p| {
+            (p[4].edition, p[4].realms) = (SEVEN, vec![Port::new(40, 0)]);
+            p[4].dependencies = vec![Port::new(60, 0)];
+        }),
+        ("by the parent's edition", |p| {
+            child_of_seven(p);
+            p[4].dependencies = vec![Port::new(60, 7)];
+        }),
+        ("by the parent's edition", |p| {
+            p[3].dependencies = vec![Port::new(60, 0)];
+            p[4].parent = Some(3);
+            (p[4].edition, p[4].realms) = (SEVEN, vec![Port::new(40, 0)]);
+            p[4].dependencies = vec![Port::new(60, 0)];
         }),
         ("17 declared keys", |p| p[4].dependencies = ports(60..77)),
         ("generation 0", |p| p[1].generation = 0),
@@ -176,7 +203,7 @@ fn a_ring_that_does_not_run() {
 #[test]
 fn states_that_are_allowed() {
     let queued = Root::Queued { revision: 0, argument: u64::MAX };
-    let changes: [Break; 16] = [
+    let changes: [Break; 22] = [
         |p| p[1].retired = true,
         |p| p[0].retired = true,
         |p| p.iter_mut().for_each(|p| p.retired = true),
@@ -197,6 +224,30 @@ fn states_that_are_allowed() {
         // Dependencies of a plugin that does not run need no provider.
         |p| p[4].dependencies = ports(60..63),
         |p| p[3].dependencies = vec![Port::new(60, 0), Port::new(40, 0)],
+        // Edition 2 with default 0 says what edition 1 does.
+        |p| p.iter_mut().for_each(|p| p.edition = Edition::Second { default: 0 }),
+        |p| {
+            p[4].edition = SEVEN;
+            p[4].provisions[0].0.realm = 7;
+            p[4].dependencies = vec![Port::new(60, 7), Port::new(61, 7)];
+        },
+        // Only provisions and dependencies are resolved, and not the anchor.
+        |p| p[4].anchor.realm = 7,
+        |p| {
+            child_of_seven(p);
+            p[4].dependencies = vec![Port::new(60, 7), Port::new(60, 0)];
+        },
+        |p| {
+            child_of_seven(p);
+            (p[4].edition, p[4].provisions[0].0.realm) = (SEVEN, 7);
+            p[4].dependencies = vec![Port::new(60, 7)];
+        },
+        |p| {
+            p[4].parent = Some(1);
+            (p[4].edition, p[4].provisions[0].0.realm) = (SEVEN, 7);
+            let ports = [(2, 0), (2, 7), (50, 0), (50, 7)];
+            p[4].dependencies = ports.map(|(key, realm)| Port::new(key, realm)).to_vec();
+        },
         // A child without what its parent depends on, for it provides that.
         |p| {
             p[4].parent = Some(3);

@@ -26,7 +26,7 @@ fn answer(line: impl AsRef<[u8]>) -> Vec<String> {
 fn the_example() {
     let example = [
         ("open 7 0", "ok"),
-        ("register none 9 0 40 realms 2 5 deps provs 2", "ok 0"),
+        ("register none 9 0 40 1 0 realms 2 5 deps provs 2", "ok 0"),
         ("begin 0", "ok 7 0 1 1"),
         ("admit 7 0 1 1 5", "ok 7 0 1 0 5"),
         ("replace 0 40", "ok 40"),
@@ -47,8 +47,8 @@ fn the_example() {
 fn every_form_of_answer() {
     let example = [
         ("next", "ok 0"),
-        ("register none 9 0 40 realms 2 5 deps provs 2", "ok 0"),
-        ("register 0 3 1 41 realms deps 2 provs", "ok 1"),
+        ("register none 9 0 40 1 0 realms 2 5 deps provs 2", "ok 0"),
+        ("register 0 3 1 41 1 6 realms deps 2 provs", "ok 1"),
         ("show 0", "ok none 0 0 0 0 40 0 none 9 0"),
         ("show 1", "ok 0 0 0 0 0 41 0 none 3 1"),
         ("show 2", "no 1"),
@@ -75,8 +75,17 @@ fn every_form_of_answer() {
         ("declares 1 2 0", "ok no"),
         ("lookup 1 2", "ok 2 0"),
         ("lookup 1 3", "ok none"),
-        ("resolve 2 2 5", "ok 2 5"),
-        ("resolve 2 2", "no 4"),
+        ("resolve 2 1 0 2 5", "ok 2 5"),
+        ("resolve 2 1 0 2", "no 4"),
+        ("resolve 3 1 7 2 5", "ok 3 0"),
+        ("resolve 3 2 7 2 5", "ok 3 7"),
+        ("resolve 2 2 7 2 5", "ok 2 5"),
+        ("resolve 2 2 7", "ok 2 7"),
+        ("resolve 2 3 7", "no 26"),
+        ("resolve 2 0 0 2", "no 26"),
+        ("edition 0", "ok 1 0"),
+        ("edition 1", "ok 1 0"),
+        ("edition 2", "no 1"),
         ("realms 0 97", "ok 1"),
         ("buffer 96 99", "ok 0 2 5"),
         ("buffer 98 18446744073709551615", "ok 5 0"),
@@ -144,13 +153,26 @@ fn bad_lines() {
         "slot",
         "slot open",
         "slot reject 1",
-        "register none 1 0 5",
-        "register none 1 0 5 realms deps",
-        "register none 1 0 5 deps realms provs",
-        "register none 1 0 5 realms deps provs x",
-        "register no 1 0 5 realms deps provs",
+        "register none 1 0 5 1 0",
+        "register none 1 0 5 1 0 realms deps",
+        "register none 1 0 5 1 0 deps realms provs",
+        "register none 1 0 5 1 0 realms deps provs x",
+        "register no 1 0 5 1 0 realms deps provs",
+        "register none 1 0 5 realms deps provs",
+        "register none 1 0 5 1 realms deps provs",
+        "register none 1 0 5 1 0 0 realms deps provs",
+        "register none 1 0 5 none 0 realms deps provs",
+        "register none 1 0 5 1 none realms deps provs",
         "matches",
         "resolve",
+        "resolve 2",
+        "resolve 2 1",
+        "resolve 2 none 0",
+        "resolve 2 1 none",
+        "resolve 2 1 0 x",
+        "edition",
+        "edition none",
+        "edition 0 0",
         "write",
         "write none",
         "write 01",
@@ -185,12 +207,12 @@ fn a_line_has_4096_bytes_at_most() {
     assert_eq!(answer(format!(" #{}", "x".repeat(5000))), ["bad"]);
 }
 
-const EXAMPLE: &str = "domain=7\nfirst=0\nnext=1\nplugins=1\nid=0\nparent=none\nphase=0\nretired=0\ngeneration=0\nrevision=0\npayload=40\nroot=0\nqueued=none\nanchor=9,0\nrealms=1\nrealm=2,5\ndeps=0\nprovs=1\nprov=2,5,none\n";
+const EXAMPLE: &str = "domain=7\nfirst=0\nnext=1\nplugins=1\nid=0\nparent=none\nphase=0\nretired=0\ngeneration=0\nrevision=0\npayload=40\nroot=0\nqueued=none\nanchor=9,0\nedition=1\ndefault=0\nrealms=1\nrealm=2,5\ndeps=0\nprovs=1\nprov=2,5,none\n";
 
 /// The bytes that are answered, not only their lines.
 #[test]
 fn a_text_is_answered_as_it_is() {
-    let start = "open 7 0\nregister none 9 0 40 realms 2 5 deps provs 2\n";
+    let start = "open 7 0\nregister none 9 0 40 1 0 realms 2 5 deps provs 2\n";
     let length = EXAMPLE.len();
     for (size, wanted) in [
         ("0".to_string(), "no 23\n".to_string()),

@@ -3,7 +3,7 @@
 use plain::console::{Console, Lines};
 use plain::difference::{Difference, first};
 
-const SCRIPT: &str = "# a remark\nopen 7 0\n\nwrite 100\nregister none 9 0 40 realms 2 5 deps provs 2\nwrite 1000\nnext\nshow 3\n";
+const SCRIPT: &str = "# a remark\nopen 7 0\n\nwrite 100\nregister none 9 0 40 1 0 realms 2 5 deps provs 2\nwrite 1000\nnext\nshow 3\n";
 
 fn answers(script: &str) -> String {
     let mut console = Console::new();
@@ -30,7 +30,7 @@ fn the_line_behind_texts_is_the_right_one() {
         (
             "ok 0\n",
             "ok 1\n",
-            "line 5: register none 9 0 40 realms 2 5 deps provs 2\nplain: ok 0\\n\nours:  ok 1\\n",
+            "line 5: register none 9 0 40 1 0 realms 2 5 deps provs 2\nplain: ok 0\\n\nours:  ok 1\\n",
         ),
         (
             "phase=0\n",
@@ -40,12 +40,12 @@ fn the_line_behind_texts_is_the_right_one() {
         (
             "prov=2,5,none\n",
             "prov=2,5,77\n",
-            "line 6: write 1000\nin line 20 of its answer\nplain: prov=2,5,none\\n\nours:  prov=2,5,77\\n",
+            "line 6: write 1000\nin line 22 of its answer\nplain: prov=2,5,none\\n\nours:  prov=2,5,77\\n",
         ),
         (
             "prov=2,5,none\n",
             "",
-            "line 6: write 1000\nin line 20 of its answer\nplain: prov=2,5,none\\n\nours:  ok 1\\n",
+            "line 6: write 1000\nin line 22 of its answer\nplain: prov=2,5,none\\n\nours:  ok 1\\n",
         ),
         ("ok 1\nno 1", "no 1\nno 1", "line 7: next\nplain: ok 1\\n\nours:  no 1\\n"),
         ("no 1\n", "no 12\n", "line 8: show 3\nplain: no 1\\n\nours:  no 12\\n"),

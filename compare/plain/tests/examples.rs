@@ -3,9 +3,9 @@
 mod common;
 
 use common::{activate, admitted, bare, dependencies};
-use plain::{Port, Record, Refusal, Registration, Registry, resolve};
+use plain::{Port, RealmList, Record, Refusal, Registration, Registry, resolve};
 
-const E1_REALMS: [u64; 4] = [2, 5, 9, 1];
+const E1_REALMS: RealmList<'_> = RealmList::first(&[2, 5, 9, 1]);
 
 /// A parent with these keys in realm 0, and its id.
 fn parent(keys: &[u64]) -> (Registry, u64) {
@@ -17,10 +17,10 @@ fn parent(keys: &[u64]) -> (Registry, u64) {
 
 #[test]
 fn e1_a_key_gets_its_realm_or_realm_0() {
-    assert_eq!(resolve(2, &E1_REALMS), Ok(Port::new(2, 5)));
-    assert_eq!(resolve(3, &E1_REALMS), Ok(Port::new(3, 0)));
-    assert_eq!(resolve(9, &E1_REALMS), Ok(Port::new(9, 1)));
-    assert_eq!(resolve(10, &E1_REALMS), Ok(Port::new(10, 0)));
+    assert_eq!(resolve(2, E1_REALMS), Ok(Port::new(2, 5)));
+    assert_eq!(resolve(3, E1_REALMS), Ok(Port::new(3, 0)));
+    assert_eq!(resolve(9, E1_REALMS), Ok(Port::new(9, 1)));
+    assert_eq!(resolve(10, E1_REALMS), Ok(Port::new(10, 0)));
 }
 
 #[test]
@@ -28,7 +28,7 @@ fn e2_declared_ports_come_first_and_provisions_are_left_out() {
     let (mut registry, id) = parent(&[2, 3]);
     let child = Registration {
         parent: Some(id),
-        realms: &E1_REALMS,
+        realms: E1_REALMS,
         dependencies: &[9],
         provisions: &[3],
         ..bare((91, 0))
@@ -40,11 +40,12 @@ fn e2_declared_ports_come_first_and_provisions_are_left_out() {
 #[test]
 fn e3_an_inherited_port_already_declared_is_not_repeated() {
     let mut registry = Registry::open(7, 0);
-    let new = Registration { realms: &[2, 5], dependencies: &[2], ..bare((90, 0)) };
+    let new =
+        Registration { realms: RealmList::first(&[2, 5]), dependencies: &[2], ..bare((90, 0)) };
     let id = registry.register(&new).unwrap();
     assert_eq!(dependencies(&registry, id), [(2, 5)]);
     let child =
-        Registration { parent: Some(id), realms: &E1_REALMS, dependencies: &[2], ..bare((91, 0)) };
+        Registration { parent: Some(id), realms: E1_REALMS, dependencies: &[2], ..bare((91, 0)) };
     let child = registry.register(&child).unwrap();
     assert_eq!(dependencies(&registry, child), [(2, 5)]);
 }
@@ -60,7 +61,8 @@ fn e4_a_private_anchor_is_not_inherited() {
 #[test]
 fn e4_an_anchor_that_a_key_resolves_to_again_is_not_inherited() {
     let (mut registry, id) = parent(&[4]);
-    let child = Registration { parent: Some(id), realms: &[4, 6], ..bare((4, 6)) };
+    let child =
+        Registration { parent: Some(id), realms: RealmList::first(&[4, 6]), ..bare((4, 6)) };
     let child = registry.register(&child).unwrap();
     assert_eq!(dependencies(&registry, child), [(4, 0)]);
 }
@@ -80,10 +82,15 @@ fn e4_a_declared_anchor_stays_and_is_handed_down() {
 #[test]
 fn e5_a_port_resolved_again_is_looked_for_in_the_growing_list() {
     let (mut registry, grandparent) = parent(&[2]);
-    let new = Registration { parent: Some(grandparent), realms: &[2, 7], ..bare((91, 0)) };
+    let new = Registration {
+        parent: Some(grandparent),
+        realms: RealmList::first(&[2, 7]),
+        ..bare((91, 0))
+    };
     let id = registry.register(&new).unwrap();
     assert_eq!(dependencies(&registry, id), [(2, 0), (2, 7)]);
-    let child = Registration { parent: Some(id), realms: &[2, 5], ..bare((92, 0)) };
+    let child =
+        Registration { parent: Some(id), realms: RealmList::first(&[2, 5]), ..bare((92, 0)) };
     let child = registry.register(&child).unwrap();
     assert_eq!(dependencies(&registry, child), [(2, 0), (2, 5), (2, 7)]);
     assert_eq!(registry.lookup(child, 2), Ok(Some(Port::new(2, 0))));
@@ -116,11 +123,11 @@ fn e7_a_bare_plugin_takes_one_row() {
 fn e8_realm_keys_rise_strictly() {
     let mut registry = Registry::open(7, 0);
     for realms in [[2, 5, 2, 1], [9, 1, 2, 5]] {
-        assert_eq!(resolve(2, &realms), Err(Refusal::BadRealms));
-        let new = Registration { realms: &realms, ..bare((9, 0)) };
+        assert_eq!(resolve(2, RealmList::first(&realms)), Err(Refusal::BadRealms));
+        let new = Registration { realms: RealmList::first(&realms), ..bare((9, 0)) };
         assert_eq!(registry.register(&new), Err(Refusal::BadRealms));
     }
-    assert_eq!(resolve(2, &[2, 5, 9]), Err(Refusal::BadRealms));
+    assert_eq!(resolve(2, RealmList::first(&[2, 5, 9])), Err(Refusal::BadRealms));
 }
 
 #[test]

@@ -5,9 +5,10 @@ mod common;
 use common::loads::{HERE, THERE, family, kept, load, load_into, text_of};
 use common::{activate, anchor, bare};
 use plain::coverage::refusals;
-use plain::{Child, Invocation, Port, Refusal, Registration, Registry, Root, Ticket};
+use plain::sheet::Sheet;
+use plain::{Child, Edition, Invocation, Port, Refusal, Registration, Registry, Root, Ticket};
 
-const EXAMPLE: &str = "domain=7\nfirst=0\nnext=1\nplugins=1\nid=0\nparent=none\nphase=0\nretired=0\ngeneration=0\nrevision=0\npayload=40\nroot=0\nqueued=none\nanchor=9,0\nrealms=1\nrealm=2,5\ndeps=0\nprovs=1\nprov=2,5,none\n";
+const EXAMPLE: &str = "domain=7\nfirst=0\nnext=1\nplugins=1\nid=0\nparent=none\nphase=0\nretired=0\ngeneration=0\nrevision=0\npayload=40\nroot=0\nqueued=none\nanchor=9,0\nedition=1\ndefault=0\nrealms=1\nrealm=2,5\ndeps=0\nprovs=1\nprov=2,5,none\n";
 
 #[test]
 fn the_example() {
@@ -45,7 +46,7 @@ fn an_empty_registry() {
 fn texts_that_are_not_of_the_form() {
     let broken = |text: &str| {
         assert_eq!(load(text).err(), Some(Refusal::BadText), "{text:?}");
-        assert_eq!(refusals(THERE, text.as_bytes())[0].reason, "form", "{text:?}");
+        assert_eq!(Sheet::read(text.as_bytes()), None, "{text:?}");
     };
     for text in ["", "\n", "domain=7", "domain=7\n", "domain=7\nfirst=0\nnext=0\n"] {
         broken(text);
@@ -87,6 +88,33 @@ fn texts_that_are_not_of_the_form() {
         ("anchor=9,0", "anchor=9,0,0"),
         ("anchor=9,0", "anchor=9, 0"),
         ("anchor=9,0", "anchor=9;0"),
+        ("edition=1\n", ""),
+        ("default=0\n", ""),
+        ("edition=1\ndefault=0\n", ""),
+        ("edition=1\ndefault=0\n", "default=0\nedition=1\n"),
+        ("anchor=9,0\nedition=1\ndefault=0\n", "edition=1\ndefault=0\nanchor=9,0\n"),
+        ("default=0\nrealms=1\n", "realms=1\ndefault=0\n"),
+        ("edition=1", "edition=0"),
+        ("edition=1", "edition=3"),
+        ("edition=1", "edition=01"),
+        ("edition=1", "edition=12"),
+        ("edition=1", "edition=18446744073709551615"),
+        ("edition=1", "edition=none"),
+        ("edition=1", "edition="),
+        ("edition=1", "Edition=1"),
+        ("edition=1", "edition=1,0"),
+        ("default=0", "default=1"),
+        ("default=0", "default=5"),
+        ("default=0", "default=18446744073709551615"),
+        ("default=0", "default=00"),
+        ("default=0", "default=none"),
+        ("default=0", "default="),
+        ("default=0", "default=0,0"),
+        ("edition=1\ndefault=0", "edition=2\ndefault=00"),
+        ("edition=1\ndefault=0", "edition=2\ndefault=none"),
+        ("edition=1\ndefault=0", "edition=2\ndefault=18446744073709551616"),
+        ("edition=1\ndefault=0", "edition=2\ndefault=0\ndefault=0"),
+        ("edition=1\ndefault=0", "edition=3\ndefault=0"),
         ("realms=1", "realms=0"),
         ("realms=1", "realms=2"),
         ("realms=1", "realms=18446744073709551615"),
@@ -107,6 +135,39 @@ fn texts_that_are_not_of_the_form() {
     assert_eq!(load(b"domain=7\nfirst=0\nnext=0\nplugins=0\xff\n").err(), Some(Refusal::BadText));
 }
 
+/// Where the lines of an edition are all that is wrong, coverage says which way.
+#[test]
+fn editions_that_are_not_of_the_form() {
+    for (from, to, reason) in [
+        ("edition=1", "edition=3", "another edition"),
+        ("edition=1", "edition=0", "another edition"),
+        ("default=0", "default=5", "default in edition 1"),
+        ("edition=1\n", "", "no edition line"),
+        ("default=0\n", "", "no default line"),
+        ("edition=1\ndefault=0\n", "", "neither of the lines"),
+        ("edition=1\ndefault=0\n", "default=0\nedition=1\n", "default before edition"),
+        ("edition=1", "edition=01", "form"),
+        ("default=0", "default=05", "form"),
+        ("edition=1\ndefault=0\n", "edition=3\n", "form"),
+        ("edition=1\ndefault=0\n", "edition=3\ndefault=01\n", "form"),
+    ] {
+        let text = EXAMPLE.replacen(from, to, 1);
+        assert_eq!(refusals(THERE, text.as_bytes())[0].reason, reason, "{text:?}");
+        assert_eq!(load(&text).err(), Some(Refusal::BadText), "{text:?}");
+        // 24 comes before 25.
+        assert_eq!(load_into(HERE, &text).err(), Some(Refusal::BadText), "{text:?}");
+    }
+    // These have the form, and the realm rule with them.
+    for (from, to) in [
+        ("edition=1\ndefault=0", "edition=2\ndefault=0"),
+        ("edition=1\ndefault=0", "edition=2\ndefault=18446744073709551615"),
+    ] {
+        let text = EXAMPLE.replacen(from, to, 1);
+        let registry = load(&text).unwrap();
+        assert_eq!(text_of(&registry), text.replace("domain=7", "domain=8"));
+    }
+}
+
 /// Numbers as large as they get, and what is refused at that end.
 #[test]
 fn the_ends_of_numbers() {
@@ -115,6 +176,7 @@ fn the_ends_of_numbers() {
     sheet.domain = last;
     let idle = &mut sheet.plugins[4];
     (idle.generation, idle.revision, idle.payload) = (last, last, last);
+    idle.edition = Edition::Second { default: last };
     idle.realms = vec![Port::new(last - 1, last), Port::new(last, last - 1)];
     idle.dependencies = vec![Port::new(last, last - 1)];
     idle.provisions = vec![(Port::new(last - 1, last), None)];
@@ -136,7 +198,7 @@ fn the_ends_of_numbers() {
     for (place, _) in text.match_indices("18446744073709551615") {
         let (front, rest) = text.split_at(place);
         let more = format!("{front}18446744073709551616{}", &rest[20..]);
-        assert_eq!(refusals(THERE, more.as_bytes())[0].reason, "form");
+        assert_eq!(Sheet::read(more.as_bytes()), None);
         assert_eq!(load(more).err(), Some(Refusal::BadText));
     }
 }

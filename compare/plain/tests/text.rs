@@ -3,7 +3,7 @@
 mod common;
 
 use common::{admitted, anchor, bare, heirs};
-use plain::{Port, Refusal, Registration, Registry};
+use plain::{Port, RealmList, Refusal, Registration, Registry};
 
 fn text(registry: &Registry) -> String {
     let mut room = vec![0; 131_072];
@@ -28,12 +28,17 @@ fn lines<'t>(text: &'t str, start: &str) -> Vec<&'t str> {
 
 fn example() -> Registry {
     let mut registry = Registry::open(7, 0);
-    let new = Registration { realms: &[2, 5], provisions: &[2], payload: 40, ..bare((9, 0)) };
+    let new = Registration {
+        realms: RealmList::first(&[2, 5]),
+        provisions: &[2],
+        payload: 40,
+        ..bare((9, 0))
+    };
     assert_eq!(registry.register(&new), Ok(0));
     registry
 }
 
-const EXAMPLE: &str = "domain=7 first=0 next=1 plugins=1 id=0 parent=none phase=0 retired=0 generation=0 revision=0 payload=40 root=0 queued=none anchor=9,0 realms=1 realm=2,5 deps=0 provs=1 prov=2,5,none";
+const EXAMPLE: &str = "domain=7 first=0 next=1 plugins=1 id=0 parent=none phase=0 retired=0 generation=0 revision=0 payload=40 root=0 queued=none anchor=9,0 edition=1 default=0 realms=1 realm=2,5 deps=0 provs=1 prov=2,5,none";
 
 #[test]
 fn the_example() {
@@ -78,7 +83,7 @@ fn a_life() {
     let block = |state: &str, values: [&str; 2]| {
         let [four, six] = values;
         format!(
-            "id=1 parent=0 {state} anchor=3,1 realms=0 deps=0 provs=2 prov=4,0,{four} prov=6,0,{six}"
+            "id=1 parent=0 {state} anchor=3,1 edition=1 default=0 realms=0 deps=0 provs=2 prov=4,0,{four} prov=6,0,{six}"
         )
     };
     let told =

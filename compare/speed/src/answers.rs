@@ -3,6 +3,7 @@
 use std::collections::{BTreeMap, BTreeSet};
 
 use plain::console::{BUFFER, Lines, Operation, TEXT, is_passed_over, parse};
+use plain::{RealmList, Registration};
 
 use crate::sides::{OURS, Out, PLAIN, Side};
 use crate::slots;
@@ -15,7 +16,7 @@ const LINES: u64 = 50_000;
 const BEFORE: Out = [u64::MAX - 9, 11, 12, 13, 14, 15, 16];
 
 /// The functions that have refusals.
-const REFUSING: [&str; 39] = [
+const REFUSING: [&str; 40] = [
     "register",
     "register_child",
     "begin",
@@ -45,6 +46,7 @@ const REFUSING: [&str; 39] = [
     "load",
     "parent",
     "anchor",
+    "edition",
     "phase",
     "retired",
     "generation",
@@ -238,7 +240,30 @@ macro_rules! ask {
     };
 }
 
+/// A realm list as the sides take it: edition, default, key, realm, key, realm.
+fn numbers_of(realms: RealmList<'_>) -> Vec<u64> {
+    [&[realms.edition, realms.default], realms.rows].concat()
+}
+
 impl Desk {
+    fn register(&mut self, new: &Registration<'_>, realms: &[u64]) {
+        let (dependencies, provisions) = (new.dependencies, new.provisions);
+        match new.parent {
+            None => ask!(self, register(
+                new.anchor.key, new.anchor.realm, new.payload,
+                realms.as_ptr(), realms.len(),
+                dependencies.as_ptr(), dependencies.len(),
+                provisions.as_ptr(), provisions.len()
+            ) -> out),
+            Some(parent) => ask!(self, register_child(
+                parent, new.anchor.key, new.anchor.realm, new.payload,
+                realms.as_ptr(), realms.len(),
+                dependencies.as_ptr(), dependencies.len(),
+                provisions.as_ptr(), provisions.len()
+            ) -> out),
+        }
+    }
+
     /// Carries an operation of a script out, with questions that scripts don't have
     /// before it. The console's own words tell nothing; slots are compared by themselves.
     fn carry_out(&mut self, operation: &Operation<'_>) {
@@ -250,22 +275,10 @@ impl Desk {
                 });
             }
             Operation::Register(new) => {
-                let (realms, dependencies, provisions) =
-                    (new.realms, new.dependencies, new.provisions);
-                match new.parent {
-                    None => ask!(self, register(
-                        new.anchor.key, new.anchor.realm, new.payload,
-                        realms.as_ptr(), realms.len(),
-                        dependencies.as_ptr(), dependencies.len(),
-                        provisions.as_ptr(), provisions.len()
-                    ) -> out),
-                    Some(parent) => ask!(self, register_child(
-                        parent, new.anchor.key, new.anchor.realm, new.payload,
-                        realms.as_ptr(), realms.len(),
-                        dependencies.as_ptr(), dependencies.len(),
-                        provisions.as_ptr(), provisions.len()
-                    ) -> out),
-                }
+                let realms = numbers_of(new.realms);
+                // A list that ends before its rows, which no script has, and then the whole.
+                self.register(&new, &realms[..new.payload as usize % 2]);
+                self.register(&new, &realms);
                 for (name, ask) in [
                     ("domain", self.side.domain),
                     ("first", self.side.first),
@@ -317,10 +330,14 @@ impl Desk {
             }
             Operation::Lookup { id, key } => ask!(self, lookup(id, key) -> out),
             Operation::Resolve { key, realms } => {
-                self.ask("resolve", |side, _, _, out| unsafe {
-                    (side.resolve)(realms.as_ptr(), realms.len(), key, out)
-                });
+                let realms = numbers_of(realms);
+                for realms in [&[][..], &realms[..1], &realms] {
+                    self.ask("resolve", |side, _, _, out| unsafe {
+                        (side.resolve)(realms.as_ptr(), realms.len(), key, out)
+                    });
+                }
             }
+            Operation::Edition(id) => ask!(self, edition(id) -> out),
             Operation::Deps { id, place } => ask!(self, list_dependencies(id, place) -> buffer),
             Operation::Provs { id, place } => ask!(self, list_provisions(id, place) -> buffer),
             Operation::Realms { id, place } => ask!(self, list_realms(id, place) -> buffer),

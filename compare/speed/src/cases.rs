@@ -157,6 +157,12 @@ cases! {
         |s, m, room| SITES[..1].iter().map(|new| register(s, m, new, room));
     "register under a parent of 16 dependencies (16 realm rows), filling 1 to 32", parent_of_16, 31 => 0;
         |s, m, room| SITE_HEIRS[1..].iter().map(|new| register_child(s, m, FIRST, new, room));
+    "register in edition 2 (16 dependencies, 15 provisions, 16 realm rows), filling 0 to 32", |_| {}, 32 => 0;
+        |s, m, room| SECOND_SITES.iter().map(|new| register(s, m, new, room));
+    "register in edition 2 under a parent of 16 dependencies, filling 1 to 28", parent_of_16, 27 => 0;
+        |s, m, room| SECOND_HEIRS[1..28].iter().map(|new| register_child(s, m, FIRST, new, room));
+    "register refused: another edition", all_but_one, 32 => 26;
+        |s, m, room| (0..32).map(|_| register(s, m, &OTHER_EDITION, room));
     "register refused: taken by the last of 31", all_but_one, 1 => 8;
         |s, m, room| STRANGERS[30..31].iter().map(|new| register(s, m, new, room));
     "begin without dependencies", idle, 32 => 0;
@@ -304,6 +310,8 @@ cases! {
         |s, m, room| ids().map(|id| (s.parent)(m, id, &mut room.out));
     "anchor", strangers, 32 => 0;
         |s, m, room| ids().map(|id| (s.anchor)(m, id, &mut room.out));
+    "edition", strangers, 32 => 0;
+        |s, m, room| ids().map(|id| (s.edition)(m, id, &mut room.out));
     "phase", loading, 32 => 0;
         |s, m, room| ids().map(|id| (s.phase)(m, id, &mut room.out));
     "retired", strangers, 32 => 0;
@@ -338,6 +346,11 @@ cases! {
         |s, _m, room| (0..16).map(|n| {
             (s.resolve)(DEEP_REALMS.as_ptr(), DEEP_REALMS.len(), 430 + n, &mut room.out)
         });
+    "resolve in 16 realm rows of edition 2: no row", |_| {}, 16 => 0;
+        |s, _m, room| (0..16).map(|n| {
+            let realms = &SECOND_DEEP_REALMS;
+            (s.resolve)(realms.as_ptr(), realms.len(), 430 + n, &mut room.out)
+        });
     "rows of 32 plugins", strangers, 32 => 32 * 5;
         |s, m, _room| (0..32).map(|_| (s.rows)(m));
     "count of 32 plugins", strangers, 32 => 32;
@@ -363,6 +376,13 @@ cases! {
     "slot cancel", pending_slots, 32 => 0, SLOTS;
         |s, m, _room| slots(m).map(|slot| (s.slot_cancel)(slot));
 }
+
+/// A registration that names edition 3.
+static OTHER_EDITION: Stranger = {
+    let mut other = Stranger::numbered(31);
+    other.realms[0] = 3;
+    other
+};
 
 /// The plugins of a supplied world that need the others.
 fn users() -> impl Iterator<Item = u64> {

@@ -2,8 +2,11 @@
 
 use std::arch::global_asm;
 
-/// The words of the proved registry.
-const PROVED: usize = 4488;
+/// The words of the proved registry, as its crate says.
+const PROVED: usize = match usize::from_str_radix(env!("WORDS"), 10) {
+    Ok(words) => words,
+    Err(_) => panic!("no number"),
+};
 
 /// The words that each world has, whichever registry lies in it.
 pub const WORLD: usize = 6144;
@@ -180,6 +183,7 @@ sides! {
     fn load(m: *mut u64, domain: u64, text: *const u8, length: usize) -> u64;
     fn parent(m: *mut u64, id: u64, out: &mut Out) -> u64;
     fn anchor(m: *mut u64, id: u64, out: &mut Out) -> u64;
+    fn edition(m: *mut u64, id: u64, out: &mut Out) -> u64;
     fn phase(m: *mut u64, id: u64, out: &mut Out) -> u64;
     fn retired(m: *mut u64, id: u64, out: &mut Out) -> u64;
     fn generation(m: *mut u64, id: u64, out: &mut Out) -> u64;

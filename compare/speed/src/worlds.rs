@@ -25,20 +25,29 @@ pub struct World {
 }
 
 /// The lists that a plugin declares.
-#[derive(Clone, Copy, Default)]
+#[derive(Clone, Copy)]
 pub struct Lists<'a> {
+    /// Edition, default, key, realm, key, realm.
     pub realms: &'a [u64],
     pub dependencies: &'a [u64],
     pub provisions: &'a [u64],
 }
 
+/// No lists, and edition 1.
+impl Default for Lists<'_> {
+    fn default() -> Self {
+        Self { realms: &[1, 0], dependencies: &[], provisions: &[] }
+    }
+}
+
 /// Two dependencies, two provisions and three realm rows, none shared with another.
 pub struct Stranger<
-    const REALMS: usize = 6,
+    const REALMS: usize = 8,
     const DEPENDENCIES: usize = 2,
     const PROVISIONS: usize = 2,
 > {
     pub anchor: u64,
+    /// Edition, default, and the rows' numbers.
     pub realms: [u64; REALMS],
     pub dependencies: [u64; DEPENDENCIES],
     pub provisions: [u64; PROVISIONS],
@@ -62,7 +71,7 @@ impl Stranger {
         let base = 1000 * (n + 1);
         Self {
             anchor: ANCHORS + n,
-            realms: [base + 1, STRANGER_REALM, base + 5, 8, base + 9, 9],
+            realms: [1, 0, base + 1, STRANGER_REALM, base + 5, 8, base + 9, 9],
             dependencies: [base + 5, base + 6],
             provisions: [base + 1, base + 2],
         }
@@ -79,33 +88,44 @@ impl<const R: usize, const D: usize, const P: usize> Stranger<R, D, P> {
     }
 }
 
-/// 16 realm rows for every other one of the keys that follow the first.
-const fn every_other(first: u64) -> [u64; 32] {
-    let mut rows = [STRANGER_REALM; 32];
+/// 16 realm rows for every other one of the keys that follow the first, in an edition with
+/// a default.
+const fn every_other(edition: u64, default: u64, first: u64) -> [u64; 34] {
+    let mut realms = [STRANGER_REALM; 34];
+    realms[0] = edition;
+    realms[1] = default;
     let mut n = 0;
     while n < 16 {
-        rows[2 * n] = first + 2 * n as u64;
+        realms[2 * n + 2] = first + 2 * n as u64;
         n += 1;
     }
-    rows
+    realms
 }
 
 /// 16 dependencies, 15 provisions and 16 realm rows, none shared with another. Every other key has a row.
-pub static SITES: [Stranger<32, 16, 15>; 32] = {
-    let mut all = [const { site(0) }; 32];
+pub static SITES: [Stranger<34, 16, 15>; 32] = sites(1, 0);
+
+/// The same in edition 2: the keys without a row have a default realm of their own.
+pub static SECOND_SITES: [Stranger<34, 16, 15>; 32] = sites(2, SECOND_REALM);
+
+/// A default realm in edition 2.
+pub const SECOND_REALM: u64 = 4;
+
+const fn sites(edition: u64, default: u64) -> [Stranger<34, 16, 15>; 32] {
+    let mut all = [const { site(1, 0, 0) }; 32];
     let mut n = 0;
     while n < 32 {
-        all[n] = site(n as u64);
+        all[n] = site(edition, default, n as u64);
         n += 1;
     }
     all
-};
+}
 
-const fn site(n: u64) -> Stranger<32, 16, 15> {
+const fn site(edition: u64, default: u64, n: u64) -> Stranger<34, 16, 15> {
     let base = 1000 * (n + 1);
     Stranger {
         anchor: ANCHORS + n,
-        realms: every_other(base),
+        realms: every_other(edition, default, base),
         dependencies: run(base),
         provisions: run(base + 16),
     }
@@ -441,16 +461,23 @@ pub const AT_40: u64 = 8;
 
 pub const DEEP_PROVISIONS: [u64; 15] = run(301);
 
-/// Its realm rows.
-pub const DEEP_REALMS: [u64; 32] = {
-    let mut rows = [3; 32];
+/// Its realm list.
+pub const DEEP_REALMS: [u64; 34] = deep_realms(1, 0);
+
+/// The same rows in edition 2.
+pub const SECOND_DEEP_REALMS: [u64; 34] = deep_realms(2, SECOND_REALM);
+
+const fn deep_realms(edition: u64, default: u64) -> [u64; 34] {
+    let mut realms = [3; 34];
+    realms[0] = edition;
+    realms[1] = default;
     let mut n = 0;
     while n < 16 {
-        rows[2 * n] = 401 + n as u64;
+        realms[2 * n + 2] = 401 + n as u64;
         n += 1;
     }
-    rows
-};
+    realms
+}
 
 /// Four Active plugins that provide keys 1 to 60, then a grandparent, a parent and
 /// a child of 16 declared dependencies each: the child has 48.
@@ -488,7 +515,7 @@ pub static HEIRS: [Stranger; 32] = {
     let mut n = 0;
     while n < 32 {
         let mut heir = Stranger::numbered(n as u64);
-        heir.realms = [3, 5, heir.provisions[0], STRANGER_REALM, heir.dependencies[0], 8];
+        heir.realms = [1, 0, 3, 5, heir.provisions[0], STRANGER_REALM, heir.dependencies[0], 8];
         all[n] = heir;
         n += 1;
     }
@@ -496,7 +523,7 @@ pub static HEIRS: [Stranger; 32] = {
 };
 
 /// Two dependencies and two provisions; 16 realm rows, of which 8 resolve inherited keys anew.
-pub static SITE_HEIRS: [Stranger<32>; 32] = {
+pub static SITE_HEIRS: [Stranger<34>; 32] = {
     let mut all = [const { site_heir(0) }; 32];
     let mut n = 0;
     while n < 32 {
@@ -506,9 +533,26 @@ pub static SITE_HEIRS: [Stranger<32>; 32] = {
     all
 };
 
-const fn site_heir(n: u64) -> Stranger<32> {
+const fn site_heir(n: u64) -> Stranger<34> {
     let Stranger { anchor, dependencies, provisions, .. } = Stranger::numbered(n);
-    Stranger { anchor, realms: every_other(1), dependencies, provisions }
+    Stranger { anchor, realms: every_other(1, 0, 1), dependencies, provisions }
+}
+
+/// Two dependencies and two provisions; no row, and a default that resolves all inherited
+/// keys anew.
+pub static SECOND_HEIRS: [Stranger<2>; 32] = {
+    let mut all = [const { second_heir(0) }; 32];
+    let mut n = 0;
+    while n < 32 {
+        all[n] = second_heir(n as u64);
+        n += 1;
+    }
+    all
+};
+
+const fn second_heir(n: u64) -> Stranger<2> {
+    let Stranger { anchor, dependencies, provisions, .. } = Stranger::numbered(n);
+    Stranger { anchor, realms: [2, SECOND_REALM], dependencies, provisions }
 }
 
 /// A parent with 16 dependencies.
@@ -541,9 +585,10 @@ pub fn full(world: &mut World) {
 pub fn long(world: &mut World) {
     const KEYS: [u64; 16] = run(u64::MAX - 15);
     for n in 0..32 {
-        let mut realms = [u64::MAX - n; 32];
+        let mut realms = [u64::MAX - n; 34];
+        realms[0] = 2;
         for (row, key) in KEYS.iter().enumerate() {
-            realms[2 * row] = *key;
+            realms[2 * row + 2] = *key;
         }
         world.register(Lists { dependencies: &KEYS, provisions: &KEYS[..15], realms: &realms });
     }
@@ -573,11 +618,11 @@ pub fn one(world: &mut World) {
 }
 
 /// The lengths of the texts of `one`, `dozen`, `active`, `full` and `long`.
-pub const ONE_TEXT: u64 = 206;
-pub const DOZEN_TEXT: u64 = 2169;
-pub const ACTIVE_TEXT: u64 = 5811;
-pub const FULL_TEXT: u64 = 19697;
-pub const LONG_TEXT: u64 = 77663;
+pub const ONE_TEXT: u64 = 226;
+pub const DOZEN_TEXT: u64 = 2409;
+pub const ACTIVE_TEXT: u64 = 6451;
+pub const FULL_TEXT: u64 = 20337;
+pub const LONG_TEXT: u64 = 78911;
 
 /// 32 Idle plugins of 32 rows each, with the newest retired.
 pub fn newest_retired(world: &mut World) {

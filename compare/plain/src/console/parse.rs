@@ -2,7 +2,7 @@
 
 use super::{Line, MAX_LINE, TEXT};
 use crate::admission::{Invocation, Ticket};
-use crate::ports::Port;
+use crate::ports::{Port, RealmList};
 use crate::registration::Registration;
 use crate::retirement::Child;
 
@@ -31,7 +31,8 @@ pub enum Operation<'a> {
     Matches { id: u64, list: &'a [u64] },
     Declares { id: u64, port: Port },
     Lookup { id: u64, key: u64 },
-    Resolve { key: u64, realms: &'a [u64] },
+    Resolve { key: u64, realms: RealmList<'a> },
+    Edition(u64),
     Deps { id: u64, place: u64 },
     Provs { id: u64, place: u64 },
     Realms { id: u64, place: u64 },
@@ -114,8 +115,11 @@ pub fn parse<'a>(line: Line<'a>, numbers: &'a mut Vec<u64>) -> Option<Operation<
         }
         b"resolve" => {
             let key = words.number()?;
-            Operation::Resolve { key, realms: words.all(numbers)? }
+            let (edition, default) = (words.number()?, words.number()?);
+            let rows = words.all(numbers)?;
+            Operation::Resolve { key, realms: RealmList { edition, default, rows } }
         }
+        b"edition" => Operation::Edition(words.one()?),
         b"deps" => {
             let [id, place] = words.exactly()?;
             Operation::Deps { id, place }
@@ -180,16 +184,18 @@ fn registration<'a>(words: &mut Words<'_>, numbers: &'a mut Vec<u64>) -> Option<
     };
     let anchor = Port::new(words.number()?, words.number()?);
     let payload = words.number()?;
+    let (edition, default) = (words.number()?, words.number()?);
     if words.next()? != b"realms" {
         return None;
     }
     words.until(b"deps", numbers)?;
-    let realms_end = numbers.len();
+    let rows_end = numbers.len();
     words.until(b"provs", numbers)?;
     let dependencies_end = numbers.len();
     let numbers = words.all(numbers)?;
     let (front, provisions) = numbers.split_at(dependencies_end);
-    let (realms, dependencies) = front.split_at(realms_end);
+    let (rows, dependencies) = front.split_at(rows_end);
+    let realms = RealmList { edition, default, rows };
     Some(Registration { parent, anchor, payload, realms, dependencies, provisions })
 }
 

@@ -6,8 +6,10 @@ use crate::admission::{Root, Ticket};
 use crate::console::Operation;
 use crate::phases::Phase;
 use crate::plugin::Plugin;
-use crate::ports::{MAX_REALM_ROWS, Port, resolve};
-use crate::registration::{MAX_DEPENDENCIES, MAX_DEPENDENCY_KEYS, MAX_PROVISION_KEYS, MAX_ROWS};
+use crate::ports::{Edition, MAX_REALM_ROWS, Port, resolve};
+use crate::registration::{
+    MAX_DEPENDENCIES, MAX_DEPENDENCY_KEYS, MAX_PROVISION_KEYS, MAX_ROWS, Registration,
+};
 use crate::registry::{MAX_PLUGINS, Registry};
 use crate::sheet::{Leaf, Sheet};
 
@@ -22,10 +24,26 @@ const OWN_PORT: &str = "registered depending on its own port";
 const ANCHOR_DECLARED: &str = "registered depending on its own anchor";
 const ANCHOR_INHERITED: &str = "registered, its anchor in its parent's list";
 const ANCHOR_AGAIN: &str = "registered, its anchor a key resolved again";
+
+const IGNORED: &str = "registered in edition 1, a default ignored";
+const DEFAULT_0: &str = "registered in edition 2, default 0";
+const DEFAULT_LAST: &str = "registered in edition 2, default 2^64 - 1";
+const DEFAULT_OF_ROW: &str = "registered in edition 2, a row's realm";
+const GIVES_DEFAULT: &str = "registered, a provision by default";
+const NEEDS_DEFAULT: &str = "registered, a declared key by default";
+const FIRST_OF_SECOND: &str = "registered in edition 1, its parent in 2";
+const SECOND_OF_FIRST: &str = "registered in edition 2, its parent in 1";
+const SAME_DEFAULT: &str = "registered with its parent's default";
+const OTHER_DEFAULT: &str = "registered, its parent's default another";
+const AGAIN_BY_DEFAULT: &str = "registered, a key again by default";
+const AGAIN_IN_ZERO: &str = "registered in edition 1, again from default";
+const ANCHOR_DEFAULT: &str = "registered, its anchor a key by default";
+
 const BEGIN_48: &str = "begun with 48 dependencies";
 const BEGIN_AGAIN: &str = "begun again";
 const BEGIN_BY_ANCHOR: &str = "begun on another's anchor";
 const BEGIN_ANCHOR_INHERITED: &str = "begun, its anchor in its parent's list";
+const BEGIN_DEFAULT: &str = "begun on a port by default";
 const LIST_AT_END: &str = "nothing listed at the buffer's end";
 
 const WRITE_EXACT: &str = "written into just enough room";
@@ -35,6 +53,7 @@ const WRITE_UNSORTED: &str = "written with places not by rising id";
 const WRITE_QUEUED: &str = "written with a Queued root";
 const WRITE_UNLOADING: &str = "written while Unloading and Queued";
 const WRITE_VALUES: &str = "written with some of a plugin's values";
+const WRITE_EDITIONS: &str = "written with both editions";
 
 const LOAD_EMPTY: &str = "loaded without plugins";
 const LOAD_PLUGINS: &str = "loaded with 32 plugins";
@@ -56,10 +75,17 @@ const LOAD_IDLE_OWN: &str = "loaded Idle and its own provider";
 const LOAD_UNLOADING_OWN: &str = "loaded Unloading and its own provider";
 const LOAD_IDLE_RING: &str = "loaded with a ring of Idle providers";
 const LOAD_ANCHOR_INHERITED: &str = "loaded, its anchor in its parent's list";
+const LOAD_EDITIONS: &str = "loaded with both editions";
+const LOAD_DEFAULT_0: &str = "loaded in edition 2, default 0";
+const LOAD_DEFAULT_LAST: &str = "loaded in edition 2, default 2^64 - 1";
+const LOAD_GIVES_DEFAULT: &str = "loaded, a provision by default";
+const LOAD_FIRST_OF_SECOND: &str = "loaded in edition 1, its parent in 2";
+const LOAD_SECOND_OF_FIRST: &str = "loaded in edition 2, its parent in 1";
+const LOAD_AGAIN: &str = "loaded, a key again by default";
 const LOAD_BACK: &str = "loaded back into the domain of before";
 const TICKET_AGAIN: &str = "admitted by a ticket of before a load";
 
-pub(super) const BOUNDARIES: [&str; 45] = [
+pub(super) const BOUNDARIES: [&str; 67] = [
     KEYS_16,
     KEYS_15,
     REALMS_16,
@@ -71,10 +97,24 @@ pub(super) const BOUNDARIES: [&str; 45] = [
     ANCHOR_DECLARED,
     ANCHOR_INHERITED,
     ANCHOR_AGAIN,
+    IGNORED,
+    DEFAULT_0,
+    DEFAULT_LAST,
+    DEFAULT_OF_ROW,
+    GIVES_DEFAULT,
+    NEEDS_DEFAULT,
+    FIRST_OF_SECOND,
+    SECOND_OF_FIRST,
+    SAME_DEFAULT,
+    OTHER_DEFAULT,
+    AGAIN_BY_DEFAULT,
+    AGAIN_IN_ZERO,
+    ANCHOR_DEFAULT,
     BEGIN_48,
     BEGIN_AGAIN,
     BEGIN_BY_ANCHOR,
     BEGIN_ANCHOR_INHERITED,
+    BEGIN_DEFAULT,
     LIST_AT_END,
     WRITE_EXACT,
     WRITE_ROWS,
@@ -83,6 +123,7 @@ pub(super) const BOUNDARIES: [&str; 45] = [
     WRITE_QUEUED,
     WRITE_UNLOADING,
     WRITE_VALUES,
+    WRITE_EDITIONS,
     LOAD_EMPTY,
     LOAD_PLUGINS,
     LOAD_ROWS,
@@ -103,6 +144,13 @@ pub(super) const BOUNDARIES: [&str; 45] = [
     LOAD_UNLOADING_OWN,
     LOAD_IDLE_RING,
     LOAD_ANCHOR_INHERITED,
+    LOAD_EDITIONS,
+    LOAD_DEFAULT_0,
+    LOAD_DEFAULT_LAST,
+    LOAD_GIVES_DEFAULT,
+    LOAD_FIRST_OF_SECOND,
+    LOAD_SECOND_OF_FIRST,
+    LOAD_AGAIN,
     LOAD_BACK,
     TICKET_AGAIN,
 ];
@@ -153,7 +201,7 @@ pub(super) fn reached(
             let plugin = registry.plugin(id).expect("it was registered");
             reached(new.dependencies.len() == MAX_DEPENDENCY_KEYS, KEYS_16);
             reached(new.provisions.len() == MAX_PROVISION_KEYS, KEYS_15);
-            reached(new.realms.len() == 2 * MAX_REALM_ROWS, REALMS_16);
+            reached(new.realms.rows.len() == 2 * MAX_REALM_ROWS, REALMS_16);
             reached(plugin.dependencies().len() == MAX_DEPENDENCIES, LIST_48);
             reached(registry.rows() == MAX_ROWS, ROWS_1024);
             reached(registry.count() == MAX_PLUGINS as u64, PLUGINS_32);
@@ -167,6 +215,7 @@ pub(super) fn reached(
             let again = |port: &Port| port.key == anchor.key && *port != anchor;
             let again = inherited.iter().any(again);
             reached(again && resolve(anchor.key, new.realms) == Ok(anchor), ANCHOR_AGAIN);
+            editions(registry, new, plugin, reached);
         }
         Operation::Begin(id) => {
             let plugin = registry.plugin(id).expect("it has begun");
@@ -177,6 +226,8 @@ pub(super) fn reached(
             reached(plugin.dependencies().iter().any(by_anchor), BEGIN_BY_ANCHOR);
             let wanted = inherited(registry, plugin).contains(&plugin.anchor());
             reached(wanted, BEGIN_ANCHOR_INHERITED);
+            let by_default = |port: &Port| is_by_default(plugin, *port);
+            reached(plugin.dependencies().iter().any(by_default), BEGIN_DEFAULT);
             loads.began([registry.domain(), id, plugin.generation()]);
         }
         Operation::Deps { id, place } => {
@@ -196,6 +247,8 @@ pub(super) fn reached(
             let valued = |p: &Plugin| p.provisions().iter().any(|&port| p.value(port).is_some());
             let lacks = |p: &Plugin| p.provisions().iter().any(|&port| p.value(port).is_none());
             reached(plugins().any(|(_, p)| valued(p) && lacks(p)), WRITE_VALUES);
+            let first = |(_, p): (u64, &Plugin)| p.edition() == Edition::First;
+            reached(plugins().any(first) && !plugins().all(first), WRITE_EDITIONS);
         }
         Operation::Open { domain, .. } => *loads = Loads::opened(domain),
         Operation::Admit { ticket: Ticket { domain, id, generation, .. }, .. } => {
@@ -209,6 +262,52 @@ pub(super) fn reached(
         _ => {}
     }
     names
+}
+
+/// Whether a port has its realm from a default that is not 0, and not from a row.
+fn is_by_default(plugin: &Plugin, port: Port) -> bool {
+    port.realm != 0
+        && plugin.edition() == Edition::Second { default: port.realm }
+        && !plugin.realms().iter().any(|row| row.key == port.key)
+}
+
+/// Those of editions that a registration has just reached.
+fn editions(
+    registry: &Registry,
+    new: &Registration<'_>,
+    plugin: &Plugin,
+    mut reached: impl FnMut(bool, &'static str),
+) {
+    let (edition, default) = (new.realms.edition, new.realms.default);
+    let (first, second) = (edition == 1, edition == 2);
+    let by_default = |port: &Port| is_by_default(plugin, *port);
+    reached(first && default != 0, IGNORED);
+    reached(second && default == 0, DEFAULT_0);
+    reached(second && default == u64::MAX, DEFAULT_LAST);
+    reached(second && plugin.realms().iter().any(|row| row.realm == default), DEFAULT_OF_ROW);
+    reached(plugin.provisions().iter().any(by_default), GIVES_DEFAULT);
+    let declared = &plugin.dependencies()[..new.dependencies.len()];
+    reached(declared.iter().any(by_default), NEEDS_DEFAULT);
+    reached(by_default(&plugin.anchor()), ANCHOR_DEFAULT);
+
+    let Some(parent) = plugin.parent().and_then(|id| registry.plugin(id).ok()) else { return };
+    match parent.edition() {
+        Edition::First => reached(second, SECOND_OF_FIRST),
+        Edition::Second { default: of_parent } => {
+            reached(first, FIRST_OF_SECOND);
+            reached(second && default == of_parent, SAME_DEFAULT);
+            reached(second && default != of_parent, OTHER_DEFAULT);
+        }
+    }
+    // What is new in the list, and neither declared nor in the parent's.
+    let inherited = &plugin.dependencies()[new.dependencies.len()..];
+    let again = |port: &&Port| !parent.dependencies().contains(port);
+    reached(inherited.iter().filter(again).any(by_default), AGAIN_BY_DEFAULT);
+    let from_default = |port: &Port| {
+        let former = |other: &Port| other.key == port.key && is_by_default(parent, *other);
+        port.realm == 0 && parent.dependencies().iter().any(former)
+    };
+    reached(first && inherited.iter().filter(again).any(from_default), AGAIN_IN_ZERO);
 }
 
 /// Those that a loaded text has.
@@ -237,6 +336,31 @@ fn load(sheet: &Sheet, mut reached: impl FnMut(bool, &'static str)) {
     let anchor_inherited =
         |p: &Leaf| parent(p).is_some_and(|parent| parent.dependencies.contains(&p.anchor));
     reached(any(&anchor_inherited), LOAD_ANCHOR_INHERITED);
+
+    let first = |p: &Leaf| p.edition == Edition::First;
+    let default = |p: &Leaf, default| p.edition == Edition::Second { default };
+    reached(any(&first) && any(&|p| !first(p)), LOAD_EDITIONS);
+    reached(any(&|p| default(p, 0)), LOAD_DEFAULT_0);
+    reached(any(&|p| default(p, u64::MAX)), LOAD_DEFAULT_LAST);
+    let by_default = |p: &Leaf, port: Port| {
+        port.realm != 0 && default(p, port.realm) && !p.realms.contains(&port)
+    };
+    let gives = |p: &Leaf| p.provisions.iter().any(|(port, _)| by_default(p, *port));
+    reached(any(&gives), LOAD_GIVES_DEFAULT);
+    let heir = |p: &Leaf| parent(p).filter(|parent| !parent.dependencies.is_empty());
+    let of_second = |p: &Leaf| heir(p).is_some_and(|parent| !first(parent));
+    reached(any(&|p| first(p) && of_second(p)), LOAD_FIRST_OF_SECOND);
+    let of_first = |p: &Leaf| heir(p).is_some_and(first);
+    reached(any(&|p| !first(p) && of_first(p)), LOAD_SECOND_OF_FIRST);
+    // Right behind the parent's port with that key.
+    let again = |p: &Leaf| {
+        let list = parent(p).map_or(&[][..], |parent| &parent.dependencies);
+        p.dependencies.windows(2).any(|ports| {
+            let new = by_default(p, ports[1]) && !list.contains(&ports[1]);
+            list.contains(&ports[0]) && ports[0].key == ports[1].key && new
+        })
+    };
+    reached(any(&again), LOAD_AGAIN);
 
     let active = |p: &Leaf| p.phase == Phase::Active && !p.dependencies.is_empty();
     reached(any(&active), LOAD_ACTIVE);

@@ -9,13 +9,14 @@ use crate::admission::{Root, SETUP};
 use crate::console::{BUFFER, Console, Operation};
 use crate::phases::Phase;
 use crate::plugin::Plugin;
-use crate::ports::Port;
+use crate::ports::{Port, RealmList};
 use crate::registration::Registration;
 use crate::registry::Registry;
 use crate::sheet::Sheet;
 use crate::slot::Decision;
 
-use super::conditions::{CONDITIONS, DOMAIN, FORM};
+use super::conditions::{CONDITIONS, DOMAIN};
+use super::forms;
 
 /// A refusal number and, where it has several, the reason.
 #[derive(Clone, Copy, Debug, PartialEq, Eq, PartialOrd, Ord)]
@@ -117,6 +118,7 @@ fn look(console: &Console, asked: &Operation<'_>, found: &mut Found) -> Option<(
         | Operation::Matches { id, .. }
         | Operation::Declares { id, .. }
         | Operation::Lookup { id, .. }
+        | Operation::Edition(id)
         | Operation::Show(id) => {
             found.plugin(registry, id)?;
         }
@@ -226,10 +228,13 @@ fn has(plugin: &Plugin, port: Port) -> bool {
     plugin.provisions().contains(&port) || plugin.anchor() == port
 }
 
-fn realms(list: &[u64], found: &mut Found) {
-    found.when(list.len() % 2 == 1, 4, "odd");
-    found.when(list.len().div_ceil(2) > 16, 4, "rows");
-    let keys: Vec<u64> = list.iter().copied().step_by(2).collect();
+fn realms(list: RealmList<'_>, found: &mut Found) {
+    found.when(list.edition == 0, 26, "0");
+    found.when(list.edition == 3, 26, "3");
+    found.when(list.edition > 3, 26, "above 3");
+    found.when(list.rows.len() % 2 == 1, 4, "odd");
+    found.when(list.rows.len().div_ceil(2) > 16, 4, "rows");
+    let keys: Vec<u64> = list.rows.iter().copied().step_by(2).collect();
     found.when(keys.windows(2).any(|pair| pair[0] == pair[1]), 4, "equal keys");
     found.when(keys.windows(2).any(|pair| pair[0] > pair[1]), 4, "falling keys");
 }
@@ -243,7 +248,7 @@ fn room(ports: &[Port], place: u64, found: &mut Found) {
 /// All checks that would refuse to load this text into this domain, in order.
 pub fn refusals(domain: u64, text: &[u8]) -> Vec<Check> {
     let Some(sheet) = Sheet::read(text) else {
-        return vec![FORM];
+        return vec![forms::why(text)];
     };
     let broken = CONDITIONS.iter().filter(|(_, broken)| broken(&sheet)).map(|(check, _)| *check);
     let same = (sheet.domain == domain).then_some(DOMAIN);
@@ -271,12 +276,8 @@ fn register(registry: &Registry, new: &Registration<'_>, found: &mut Found) -> O
         return None;
     }
 
-    let resolve = |key: u64| {
-        let row = new.realms.chunks(2).find(|row| row[0] == key);
-        Port { key, realm: row.map_or(0, |row| row[1]) }
-    };
-    let declared: Vec<Port> = new.dependencies.iter().map(|&key| resolve(key)).collect();
-    let provisions: Vec<Port> = new.provisions.iter().map(|&key| resolve(key)).collect();
+    let declared = resolved(new.realms, new.dependencies);
+    let provisions = resolved(new.realms, new.provisions);
     found.when(repeats(&declared), 6, "");
     found.when(repeats(&provisions), 7, "keys");
     found.when(provisions.contains(&new.anchor), 7, "anchor");
@@ -290,20 +291,38 @@ fn register(registry: &Registry, new: &Registration<'_>, found: &mut Found) -> O
     found.when(registry.next() == u64::MAX, 9, "");
     found.when(registry.count() == 32, 10, "");
 
-    let mut list = declared;
-    for &port in parent.map_or(&[][..], |p| p.dependencies()) {
-        for port in [port, resolve(port.key)] {
+    let list = finished(new, parent.map_or(&[], |p| p.dependencies()));
+    found.when(list.len() > 48, 11, "");
+    let in_use: usize =
+        registry.registered().map(|(_, p)| p.dependencies().len() + p.provisions().len() + 1).sum();
+    found.when(in_use + list.len() + provisions.len() + 1 > 1024, 12, "");
+    Some(())
+}
+
+/// The port that a key resolves to in a list that keeps 26 and 4.
+pub(super) fn resolved_key(list: RealmList<'_>, key: u64) -> Port {
+    let default = if list.edition == 2 { list.default } else { 0 };
+    let row = list.rows.chunks(2).find(|row| row[0] == key);
+    Port { key, realm: row.map_or(default, |row| row[1]) }
+}
+
+pub(super) fn resolved(list: RealmList<'_>, keys: &[u64]) -> Vec<Port> {
+    keys.iter().map(|&key| resolved_key(list, key)).collect()
+}
+
+/// The dependency list of a registration that keeps 26 and 4, with its parent's list.
+pub(super) fn finished(new: &Registration<'_>, inherited: &[Port]) -> Vec<Port> {
+    let provisions = resolved(new.realms, new.provisions);
+    let mut list = resolved(new.realms, new.dependencies);
+    for &port in inherited {
+        for port in [port, resolved_key(new.realms, port.key)] {
             let own = provisions.contains(&port) || port == new.anchor;
             if !own && !list.contains(&port) {
                 list.push(port);
             }
         }
     }
-    found.when(list.len() > 48, 11, "");
-    let in_use: usize =
-        registry.registered().map(|(_, p)| p.dependencies().len() + p.provisions().len() + 1).sum();
-    found.when(in_use + list.len() + provisions.len() + 1 > 1024, 12, "");
-    Some(())
+    list
 }
 
 fn repeats(ports: &[Port]) -> bool {

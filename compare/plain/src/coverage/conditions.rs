@@ -6,15 +6,15 @@
 use crate::admission::Root;
 use crate::phases::Phase;
 use crate::ports::Port;
-use crate::sheet::{Leaf, Sheet};
+use crate::sheet::{Leaf, Rule, Sheet};
 
 use super::checks::Check;
 
-const fn bad(reason: &'static str) -> Check {
+pub(super) const fn bad(reason: &'static str) -> Check {
     Check { number: 24, reason }
 }
 
-/// Refused since the text has not the form.
+/// Refused since the text has not the form, be it for more than an edition's lines.
 pub(super) const FORM: Check = bad("form");
 
 /// Refused since the text has the domain that is asked for.
@@ -24,7 +24,7 @@ pub(super) const DOMAIN: Check = Check { number: 25, reason: "" };
 type Broken = fn(&Sheet) -> bool;
 
 /// Every condition, by what breaks it.
-pub(super) const CONDITIONS: [(Check, Broken); 32] = [
+pub(super) const CONDITIONS: [(Check, Broken); 33] = [
     (bad("ids that don't rise"), |sheet| !sheet.plugins.is_sorted_by(|a, b| a.id < b.id)),
     (bad("id below first"), |sheet| any(sheet, |p| p.id < sheet.first)),
     (bad("id not below next"), |sheet| any(sheet, |p| p.id >= sheet.next)),
@@ -57,14 +57,18 @@ pub(super) const CONDITIONS: [(Check, Broken); 32] = [
         })
     }),
     (bad("list not given"), |sheet| {
-        any(sheet, |p| has_rule(sheet, p) && !given(sheet, p, true) && !given(sheet, p, false))
+        any(sheet, |p| not_given(sheet, p) && !slips(sheet, p).any(|slip| given(sheet, p, slip)))
     }),
     (bad("anchor inherited"), |sheet| {
-        any(sheet, |p| has_rule(sheet, p) && !given(sheet, p, true) && given(sheet, p, false))
+        any(sheet, |p| not_given(sheet, p) && given(sheet, p, with_anchor(p)))
+    }),
+    (bad("by the parent's edition"), |sheet| {
+        let slipped = |p: &Leaf| by_parent(sheet, p).is_some_and(|slip| given(sheet, p, slip));
+        any(sheet, |p| not_given(sheet, p) && slipped(p))
     }),
     (bad("17 declared keys"), |sheet| {
         let many = |counts: Vec<usize>| counts.iter().min().is_some_and(|&least| least > 16);
-        any(sheet, |p| has_rule(sheet, p) && many(declared(sheet, p, true)))
+        any(sheet, |p| has_rule(sheet, p) && many(declared(sheet, p, p.rule())))
     }),
     (bad("generation 0"), |sheet| any(sheet, |p| p.phase != Phase::Idle && p.generation == 0)),
     (bad("Idle with a root"), |sheet| {
@@ -123,23 +127,46 @@ fn has_rule(sheet: &Sheet, plugin: &Leaf) -> bool {
     resolves(plugin) && plugin.parent.is_none_or(parent)
 }
 
-/// How many of its first dependencies can be those that it declared. Its anchor is
-/// skipped among what it inherits, or is not.
-fn declared(sheet: &Sheet, plugin: &Leaf, skipped: bool) -> Vec<usize> {
+fn parent<'s>(sheet: &'s Sheet, plugin: &Leaf) -> Option<&'s Leaf> {
+    sheet.plugins.iter().find(|other| Some(other.id) == plugin.parent)
+}
+
+/// How many of its first dependencies can be those that it declared, by a rule for what
+/// it inherits.
+fn declared(sheet: &Sheet, plugin: &Leaf, rule: Rule) -> Vec<usize> {
     let list = &plugin.dependencies;
-    let parent = sheet.plugins.iter().find(|other| Some(other.id) == plugin.parent);
-    let inherited = parent.map_or(&[][..], |parent| &parent.dependencies);
+    let inherited = parent(sheet, plugin).map_or(&[][..], |parent| &parent.dependencies);
     let fits = |count: &usize| {
         let declared = &list[..*count];
         let resolved = declared.iter().all(|port| plugin.resolve(port.key) == *port);
         let different = !repeats(declared);
-        resolved && different && plugin.finished(declared, inherited, skipped) == *list
+        resolved && different && plugin.finished(declared, inherited, rule) == *list
     };
     (0..=list.len()).filter(fits).collect()
 }
 
-fn given(sheet: &Sheet, plugin: &Leaf, skipped: bool) -> bool {
-    !declared(sheet, plugin, skipped).is_empty()
+fn given(sheet: &Sheet, plugin: &Leaf, rule: Rule) -> bool {
+    !declared(sheet, plugin, rule).is_empty()
+}
+
+/// Whether the rule does not give its list, though there is what it needs.
+fn not_given(sheet: &Sheet, plugin: &Leaf) -> bool {
+    has_rule(sheet, plugin) && !given(sheet, plugin, plugin.rule())
+}
+
+/// The rule by which an anchor is inherited.
+fn with_anchor(plugin: &Leaf) -> Rule {
+    Rule { skips_anchor: false, ..plugin.rule() }
+}
+
+/// The rule by which inherited keys are resolved again by the parent's edition.
+fn by_parent(sheet: &Sheet, plugin: &Leaf) -> Option<Rule> {
+    parent(sheet, plugin).map(|parent| Rule { again: parent.edition, ..plugin.rule() })
+}
+
+/// Rules that are none, and are told apart.
+fn slips(sheet: &Sheet, plugin: &Leaf) -> impl Iterator<Item = Rule> {
+    [with_anchor(plugin)].into_iter().chain(by_parent(sheet, plugin))
 }
 
 /// Whether a Loading or Active plugin has a dependency of which this is true.

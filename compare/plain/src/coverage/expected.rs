@@ -2,6 +2,7 @@
 
 use super::checks::{Check, check};
 use super::conditions::{CONDITIONS, DOMAIN, FORM};
+use super::forms::EDITIONS;
 
 /// An operation, its kinds of acceptance, and the checks that can refuse it.
 pub type Expected = (&'static str, &'static [&'static str], &'static [Check]);
@@ -11,20 +12,43 @@ const NONE: &[&str] = &["", "none"];
 const YES_NO: &[&str] = &["yes", "no"];
 const UNKNOWN: &[Check] = &[check(1, "")];
 const LIST: &[Check] = &[check(1, ""), check(23, "past the end"), check(23, "too little room")];
-const REALMS: &[Check] =
-    &[check(4, "odd"), check(4, "rows"), check(4, "equal keys"), check(4, "falling keys")];
+const REALMS: &[Check] = &[
+    check(26, "0"),
+    check(26, "3"),
+    check(26, "above 3"),
+    check(4, "odd"),
+    check(4, "rows"),
+    check(4, "equal keys"),
+    check(4, "falling keys"),
+];
 
-/// The form, each condition, and the domain.
-const LOAD: [Check; CONDITIONS.len() + 2] = {
-    let mut checks = [FORM; CONDITIONS.len() + 2];
-    let mut n = 0;
-    while n < CONDITIONS.len() {
-        checks[n + 1] = CONDITIONS[n].0;
-        n += 1;
+/// The form, the lines of editions in it, each condition, and the domain.
+const LOAD: [Check; EDITIONS.len() + CONDITIONS.len() + 2] = {
+    let mut checks = [FORM; EDITIONS.len() + CONDITIONS.len() + 2];
+    let (mut n, mut of) = (1, 0);
+    while of < EDITIONS.len() {
+        checks[n] = EDITIONS[of].0;
+        (n, of) = (n + 1, of + 1);
     }
-    checks[n + 1] = DOMAIN;
+    of = 0;
+    while of < CONDITIONS.len() {
+        checks[n] = CONDITIONS[of].0;
+        (n, of) = (n + 1, of + 1);
+    }
+    checks[n] = DOMAIN;
     checks
 };
+
+/// Refusals whose order must be seen: an operation, the number that it answers, and one
+/// that would have come later.
+pub const ORDERS: &[(&str, u8, u8)] = &[
+    ("register", 26, 4),
+    ("register", 26, 5),
+    ("register", 26, 1),
+    ("register", 26, 10),
+    ("register", 4, 5),
+    ("resolve", 26, 4),
+];
 
 /// Every operation with all that it can answer on a registry built from an opening
 /// or a load.
@@ -32,8 +56,11 @@ pub const EXPECTED: &[Expected] = &[
     ("open", PLAIN, &[]),
     (
         "register",
-        &["child", "no parent"],
+        &["child, edition 1", "child, edition 2", "no parent, edition 1", "no parent, edition 2"],
         &[
+            check(26, "0"),
+            check(26, "3"),
+            check(26, "above 3"),
             check(4, "odd"),
             check(4, "rows"),
             check(4, "equal keys"),
@@ -147,7 +174,12 @@ pub const EXPECTED: &[Expected] = &[
     ("matches", YES_NO, UNKNOWN),
     ("declares", YES_NO, UNKNOWN),
     ("lookup", NONE, UNKNOWN),
-    ("resolve", PLAIN, REALMS),
+    (
+        "resolve",
+        &["edition 1, a row", "edition 1, no row", "edition 2, a row", "edition 2, no row"],
+        REALMS,
+    ),
+    ("edition", &["edition 1", "edition 2"], UNKNOWN),
     ("deps", PLAIN, LIST),
     ("provs", PLAIN, LIST),
     ("realms", PLAIN, LIST),

@@ -1,11 +1,11 @@
 //! Realm rows, dependencies and provisions.
 
-use super::records::{append, fresh};
+use super::records::{any_edition, append, fresh};
 use super::some;
 use crate::phases::Phase;
-use crate::ports::Port;
+use crate::ports::{Edition, Port};
 use crate::rng::Rng;
-use crate::sheet::{Leaf, Sheet};
+use crate::sheet::{Leaf, Rule, Sheet};
 
 impl Leaf {
     /// Lets a key resolve to this port by one more row, even beside one of that key.
@@ -55,7 +55,7 @@ pub(super) fn realm_rows(sheet: &mut Sheet, rng: &mut Rng) -> Option<()> {
     let count = rng.one_of([16, 17]);
     while sheet.plugins[n].realms.len() < count {
         let Port { key, realm } = fresh(rng);
-        // Realm 0 would need no row.
+        // The default realm would need no row.
         sheet.plugins[n].aim(Port::new(key, realm + 1));
     }
     Some(())
@@ -123,31 +123,39 @@ pub(super) fn declared(sheet: &mut Sheet, rng: &mut Rng) -> Option<()> {
     let plugin = append(sheet, rng)?;
     while plugin.dependencies.len() < count {
         let port = fresh(rng);
-        plugin.aim(Port { realm: if plugin.realms.len() < 16 { port.realm } else { 0 }, ..port });
+        if plugin.realms.len() < 16 {
+            plugin.aim(port);
+        }
         plugin.dependencies.push(plugin.resolve(port.key));
     }
     Some(())
 }
 
-/// New plugins, each the next one's parent: 16 keys in three realms, and one more.
+/// New plugins, each the next one's parent: 16 keys in three realms, by rows or by
+/// default, and one more.
 pub(super) fn dependencies(sheet: &mut Sheet, rng: &mut Rng) -> Option<()> {
     let start = rng.one_of([1, 1, 50, u64::MAX - 15]);
     let keys: Vec<u64> = (0..16).map(|n| start + n).collect();
     let mut inherited: Vec<Port> = Vec::new();
     let mut parent = None;
-    for realm in 0..4 {
-        let more = realm == 3 && rng.one_in(2);
+    for (n, realm) in [0, 1, 2, 0].into_iter().enumerate() {
+        let more = n == 3 && rng.one_in(2);
+        let by_default = rng.one_in(2);
         let plugin = append(sheet, rng)?;
         plugin.parent = parent;
-        let declared: Vec<Port> = match realm {
-            0 => keys.iter().map(|&key| Port::new(key, 0)).collect(),
-            3 if more => vec![Port::new(fresh(rng).key, 0)],
+        if by_default {
+            plugin.edition = Edition::Second { default: realm };
+        } else {
+            plugin.edition = Edition::First;
+            let rows = if realm == 0 { &[] } else { &keys[..] };
+            plugin.realms = rows.iter().map(|&key| Port::new(key, realm)).collect();
+        }
+        let declared: Vec<Port> = match n {
+            0 => keys.iter().map(|&key| plugin.resolve(key)).collect(),
+            3 if more => vec![plugin.resolve(fresh(rng).key)],
             _ => Vec::new(),
         };
-        if realm == 1 || realm == 2 {
-            plugin.realms = keys.iter().map(|&key| Port::new(key, realm)).collect();
-        }
-        plugin.dependencies = plugin.finished(&declared, &inherited, true);
+        plugin.dependencies = plugin.finished(&declared, &inherited, plugin.rule());
         inherited.clone_from(&plugin.dependencies);
         parent = Some(plugin.id);
     }
@@ -221,6 +229,32 @@ pub(super) fn anchor_inherited(sheet: &mut Sheet, rng: &mut Rng) -> Option<()> {
     let child = append(sheet, rng)?;
     child.parent = Some(parent);
     child.anchor = anchor;
-    child.dependencies = child.finished(&[], &inherited, skipped);
+    let rule = Rule { skips_anchor: skipped, ..child.rule() };
+    child.dependencies = child.finished(&[], &inherited, rule);
+    Some(())
+}
+
+/// A parent, and a child of another edition or default: with a list by its own, or by its
+/// parent's.
+pub(super) fn child_of_another_edition(sheet: &mut Sheet, rng: &mut Rng) -> Option<()> {
+    let own = rng.one_in(2);
+    let keys: Vec<u64> = (0..rng.between(1, 3)).map(|_| fresh(rng).key).collect();
+    let rows: Vec<Port> = keys.iter().map(|&key| Port::new(key, rng.below(4))).collect();
+    let (of_parent, of_child) = (any_edition(rng), any_edition(rng));
+    let parent = append(sheet, rng)?;
+    parent.edition = of_parent;
+    if rng.one_in(2) {
+        parent.aim(rows[0]);
+    }
+    parent.dependencies = keys.iter().map(|&key| parent.resolve(key)).collect();
+    let (parent, inherited) = (parent.id, parent.dependencies.clone());
+    let child = append(sheet, rng)?;
+    child.parent = Some(parent);
+    child.edition = of_child;
+    if rng.one_in(3) {
+        child.aim(rows[rows.len() - 1]);
+    }
+    let rule = Rule { again: if own { of_child } else { of_parent }, ..child.rule() };
+    child.dependencies = child.finished(&[], &inherited, rule);
     Some(())
 }

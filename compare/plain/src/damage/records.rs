@@ -3,13 +3,20 @@
 use super::some;
 use crate::admission::Root;
 use crate::phases::Phase;
-use crate::ports::Port;
+use crate::ports::{Edition, Port};
 use crate::rng::Rng;
 use crate::sheet::{Leaf, Sheet};
 
 /// A port that nobody has heard of.
 pub(super) fn fresh(rng: &mut Rng) -> Port {
     Port::new(rng.between(100_000, 1_000_000_000), rng.below(3))
+}
+
+/// Either edition, mostly with a small default.
+pub(super) fn any_edition(rng: &mut Rng) -> Edition {
+    let default = rng.number();
+    let default = rng.one_of([0, 1, 2, default]);
+    rng.one_of([Edition::First, Edition::Second { default }])
 }
 
 /// Appends an Idle plugin with nothing but an anchor; none if there is no id for it.
@@ -29,6 +36,7 @@ pub(super) fn append<'s>(sheet: &'s mut Sheet, rng: &mut Rng) -> Option<&'s mut 
         payload: rng.number(),
         root: Root::Unissued,
         anchor: fresh(rng),
+        edition: any_edition(rng),
         realms: Vec::new(),
         dependencies: Vec::new(),
         provisions: Vec::new(),
@@ -212,6 +220,27 @@ pub(super) fn anchor(sheet: &mut Sheet, rng: &mut Rng) -> Option<()> {
     Some(())
 }
 
+/// Another edition, or another default. Edition 2 with default 0 says what edition 1 does.
+pub(super) fn edition(sheet: &mut Sheet, rng: &mut Rng) -> Option<()> {
+    let listed = rng.one_in(2);
+    let lists = |p: &Leaf| !p.dependencies.is_empty() || !p.provisions.is_empty();
+    let n = some(sheet, rng, |p| lists(p) || !listed)?;
+    let plugin = &mut sheet.plugins[n];
+    let row = rng.pick(&plugin.realms).map_or(0, |row| row.realm);
+    let near = match plugin.edition {
+        Edition::First => 1,
+        Edition::Second { default } => rng.nudge(default),
+    };
+    plugin.edition = match rng.below(5) {
+        0 => Edition::First,
+        1 => Edition::Second { default: 0 },
+        2 => Edition::Second { default: row },
+        3 => Edition::Second { default: near },
+        _ => any_edition(rng),
+    };
+    Some(())
+}
+
 /// A port that has another provider already, or the same twice.
 pub(super) fn clash(sheet: &mut Sheet, rng: &mut Rng) -> Option<()> {
     let n = some(sheet, rng, |_| true)?;
@@ -273,9 +302,12 @@ fn append_ring(sheet: &mut Sheet, count: usize, rng: &mut Rng) -> Option<()> {
         if rng.one_in(3) {
             plugin.anchor = ports[n];
         } else {
+            plugin.aim(ports[n]);
             plugin.provisions.push((ports[n], None));
         }
-        plugin.dependencies.push(ports[(n + 1) % count]);
+        let needed = ports[(n + 1) % count];
+        plugin.aim(needed);
+        plugin.dependencies.push(needed);
         settle(plugin, phase, rng);
     }
     Some(())

@@ -2,7 +2,7 @@
 
 use super::{Script, keep};
 use crate::console::TEXT;
-use crate::damage::{BYTES, Kind, RECORDS, ROWS};
+use crate::damage::{BYTES, EDITIONS, Kind, RECORDS, ROWS};
 
 /// Bytes that would be answered if they were read as lines.
 const LINES: &[u8] = b"next\nrows\n";
@@ -66,11 +66,12 @@ impl Script {
 
     /// Leaves a text whole, or damages it in one way, rarely in two.
     fn damage(&mut self, text: &mut Vec<u8>) {
-        let kinds: &[&[Kind]] = match self.rng.below(24) {
+        let kinds: &[&[Kind]] = match self.rng.below(26) {
             0..=6 => &[],
             7..=18 => &[RECORDS],
             19 => &[RECORDS, RECORDS],
             20 => &[RECORDS, BYTES],
+            21 | 22 => &[EDITIONS],
             _ => &[BYTES],
         };
         for kinds in kinds {

@@ -14,18 +14,22 @@ pub(super) struct Draft {
     pub(super) parent: Option<u64>,
     pub(super) anchor: Port,
     pub(super) payload: u64,
+    pub(super) edition: u64,
+    pub(super) default: u64,
     pub(super) rows: BTreeMap<u64, u64>,
     pub(super) dependencies: Vec<u64>,
     pub(super) provisions: Vec<u64>,
 }
 
 impl Draft {
-    /// A registration with nothing but an anchor.
+    /// A registration with nothing but an anchor, in edition 1.
     pub(super) fn bare(anchor: Port, payload: u64) -> Self {
         Self {
             parent: None,
             anchor,
             payload,
+            edition: 1,
+            default: 0,
             rows: BTreeMap::new(),
             dependencies: Vec::new(),
             provisions: Vec::new(),
@@ -33,10 +37,11 @@ impl Draft {
     }
 
     fn resolve(&self, key: u64) -> Port {
-        Port::new(key, self.rows.get(&key).copied().unwrap_or(0))
+        let default = if self.edition == 2 { self.default } else { 0 };
+        Port::new(key, self.rows.get(&key).copied().unwrap_or(default))
     }
 
-    /// Lets the key resolve to this port. Realm 0 mostly needs no row.
+    /// Lets the key resolve to this port. Its default realm needs no row.
     fn aim(&mut self, port: Port) {
         if self.resolve(port.key) != port {
             self.rows.insert(port.key, port.realm);
@@ -47,6 +52,18 @@ impl Draft {
         self.dependencies.contains(&key) || self.provisions.contains(&key)
     }
 
+    /// Lets keys 1 to 16 resolve to this realm by rows, where they are needed.
+    pub(super) fn turn_16(&mut self, realm: u64) {
+        for key in 1..=16 {
+            self.aim(Port::new(key, realm));
+        }
+    }
+
+    /// Whether no registration may name its edition.
+    fn is_of_another_edition(&self) -> bool {
+        self.edition != 1 && self.edition != 2
+    }
+
     /// The realm rows as a list of key, realm, key, realm.
     pub(super) fn realms(&self) -> Vec<u64> {
         self.rows.iter().flat_map(|(&key, &realm)| [key, realm]).collect()
@@ -55,7 +72,8 @@ impl Draft {
     pub(super) fn line(&self, realms: &[u64]) -> String {
         let parent = self.parent.map_or("none".to_string(), |id| id.to_string());
         let Port { key, realm } = self.anchor;
-        let start = format!("register {parent} {key} {realm} {}", self.payload);
+        let Self { payload, edition, default, .. } = self;
+        let start = format!("register {parent} {key} {realm} {payload} {edition} {default}");
         let realms = words("realms", realms);
         let dependencies = words("deps", &self.dependencies);
         let provisions = words("provs", &self.provisions);
@@ -80,7 +98,9 @@ impl Script {
             self.spoil(&mut draft);
         }
         let mut realms = draft.realms();
-        if self.rng.one_in(4) {
+        // The edition is looked at before the rows.
+        let spoilt = if draft.is_of_another_edition() { 2 } else { 4 };
+        if self.rng.one_in(spoilt) {
             self.spoil_realms(&mut realms);
         }
         let line = draft.line(&realms);
@@ -94,6 +114,7 @@ impl Script {
         if self.rng.one_in(2) {
             draft.parent = self.id_where(may_be_parent);
         }
+        (draft.edition, draft.default) = self.edition_for(draft.parent);
         // With its parent's rows a child inherits little that is new.
         if let Some(parent) = draft.parent
             && !self.rng.one_in(3)
@@ -127,6 +148,23 @@ impl Script {
         draft
     }
 
+    /// An edition and a default, which edition 1 ignores: often the parent's, and mostly
+    /// a realm in use.
+    fn edition_for(&mut self, parent: Option<u64>) -> (u64, u64) {
+        let of_parent = parent.map(|id| self.plugin(id).edition());
+        let of_parent = of_parent.map_or((1, 0), |of| (of.number(), of.default_realm()));
+        if self.rng.one_in(3) {
+            return of_parent;
+        }
+        let default = match self.rng.below(8) {
+            0 => 0,
+            1 => of_parent.1,
+            2 => self.rng.number(),
+            _ => self.rng.between(1, self.life.realms - 1),
+        };
+        (self.rng.one_of([1, 2, 2]), default)
+    }
+
     /// A draft that provides this port for a plugin in need. It depends on nothing, or is
     /// the needy one's child and has the port as its anchor.
     pub(super) fn provider_draft(&mut self, needy: u64, port: Port) -> Draft {
@@ -138,6 +176,9 @@ impl Script {
             return draft;
         }
         let mut draft = Draft::bare(self.fresh_port(), self.rng.number());
+        if self.rng.one_in(3) {
+            (draft.edition, draft.default) = (2, port.realm);
+        }
         draft.aim(port);
         draft.provisions.push(port.key);
         draft
@@ -145,7 +186,7 @@ impl Script {
 
     /// Makes one thing wrong, odd, or just as much as is allowed.
     fn spoil(&mut self, draft: &mut Draft) {
-        match self.rng.below(16) {
+        match self.rng.below(19) {
             0 => {
                 let keys = self.rng.one_of([16, 17, 17, 18, 40]);
                 draft.dependencies = self.keys(keys);
@@ -202,6 +243,11 @@ impl Script {
                 let realm = self.rng.between(1, 5);
                 self.turn_rows(draft, MAX_REALM_ROWS, realm);
             }
+            15 | 16 => {
+                let any = self.rng.number();
+                draft.edition = self.rng.one_of([0, 3, 3, u64::MAX, any]);
+            }
+            17 => (draft.edition, draft.default) = self.edition_for(None),
             _ => draft.dependencies.push(self.rng.number()),
         }
     }
@@ -321,11 +367,13 @@ impl Script {
         let length = parent.map_or(0, |id| self.plugin(id).dependencies().len());
         if length < 10 {
             let count = self.rng.between(12, 16);
+            (draft.edition, draft.default) = self.edition_for(None);
             draft.dependencies = (0..count).collect();
             self.rng.shuffle(&mut draft.dependencies);
             return draft;
         }
         draft.parent = parent;
+        (draft.edition, draft.default) = self.edition_for(parent);
         // One time in two the list shall get exactly this long.
         let aim = MAX_DEPENDENCIES + self.rng.below(2) as usize;
         let short = aim.saturating_sub(length);
@@ -364,6 +412,8 @@ impl Script {
         {
             let mut draft = Draft::bare(self.fresh_port(), self.rng.number());
             draft.parent = Some(parent);
+            (draft.edition, draft.default) =
+                self.rng.one_of([(1, 0), (1, 5), (2, 0), (2, 1), (2, 2)]);
             return draft;
         }
         let need = self.rng.one_of([room, room, room + 1, room + 1, room.max(2) - 1, 1]);
@@ -378,6 +428,7 @@ impl Script {
         let dependencies = self.rng.between(low, keys.min(most));
         let provisions = (keys - dependencies).min(MAX_PROVISION_KEYS as u64);
         let mut draft = Draft::bare(self.fresh_port(), self.rng.number());
+        (draft.edition, draft.default) = self.edition_for(None);
         draft.dependencies = (0..dependencies).collect();
         let start = self.rng.between(10_000, 90_000);
         draft.provisions = (start..start + provisions).collect();
@@ -390,6 +441,7 @@ impl Script {
         if self.rng.one_in(3) {
             draft.parent = self.id_where(may_be_parent);
         }
+        (draft.edition, draft.default) = self.edition_for(draft.parent);
         draft
     }
 }

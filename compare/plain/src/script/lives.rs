@@ -164,7 +164,8 @@ impl Script {
         let list = self.rng.one_of(["deps", "provs", "realms"]);
         self.ask(list, &[id, 0]);
         self.ask("buffer", &[0, BUFFER as u64]);
-        self.ask("rows", &[]);
+        let more = self.rng.one_of([("rows", None), ("edition", Some(id))]);
+        self.ask(more.0, more.1.as_slice());
     }
 
     /// Moves some plugin on by its next step.
@@ -474,9 +475,7 @@ impl Script {
         for realm in 0..3 {
             let mut provider = Draft::bare(Port::new(16, realm), self.rng.number());
             provider.provisions = (1..=15).collect();
-            if realm > 0 {
-                provider.rows = (1..=16).map(|key| (key, realm)).collect();
-            }
+            self.turn(&mut provider, realm);
             if self.register(&provider) {
                 let id = self.registry().next() - 1;
                 self.raise(id, false);
@@ -497,9 +496,8 @@ impl Script {
             heir.parent = parent;
             if realm == 0 {
                 heir.dependencies = (1..=16).collect();
-            } else {
-                heir.rows = (1..=16).map(|key| (key, realm)).collect();
             }
+            self.turn(&mut heir, realm);
             if !self.register(&heir) {
                 return;
             }
@@ -509,6 +507,14 @@ impl Script {
                 self.raise(id, false);
             }
         }
+    }
+
+    /// Lets keys 1 to 16 resolve to this realm: by rows, or by default.
+    fn turn(&mut self, draft: &mut Draft, realm: u64) {
+        let by_default = self.rng.one_in(2);
+        let other = self.rng.below(4);
+        (draft.edition, draft.default) = if by_default { (2, realm) } else { (1, other) };
+        draft.turn_16(realm);
     }
 
     /// Tells what can be told of the registry as it is.

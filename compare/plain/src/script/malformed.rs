@@ -5,11 +5,11 @@ use super::carry::filler;
 use crate::console::{MAX_LINE, text_length};
 
 /// One good line of every form, to be spoilt.
-const GOOD: [&str; 48] = [
+const GOOD: [&str; 50] = [
     "open 7 0",
-    "register none 9 0 40 realms 2 5 deps provs 2",
-    "register 0 9 0 40 realms 2 5 9 1 deps 4 provs 3",
-    "register none 1 2 3 realms deps provs",
+    "register none 9 0 40 1 0 realms 2 5 deps provs 2",
+    "register 0 9 0 40 2 7 realms 2 5 9 1 deps 4 provs 3",
+    "register none 1 2 3 1 0 realms deps provs",
     "begin 0",
     "ready 0",
     "fail 1",
@@ -31,8 +31,10 @@ const GOOD: [&str; 48] = [
     "matches 0 2 5 3 0",
     "declares 0 2 5",
     "lookup 0 2",
-    "resolve 2",
-    "resolve 2 2 5 9 1",
+    "resolve 2 1 0",
+    "resolve 2 2 7 2 5 9 1",
+    "edition 0",
+    "edition 3",
     "deps 0 0",
     "provs 0 10",
     "realms 0 20",
@@ -83,7 +85,7 @@ const WORDS: [&str; 22] = [
 ];
 
 /// Lines that are bad as they are, or good against expectation.
-const LINES: [&[u8]; 34] = [
+const LINES: [&[u8]; 44] = [
     b" ",
     b"   ",
     b"\t",
@@ -100,14 +102,24 @@ const LINES: [&[u8]; 34] = [
     b"slot pending",
     b"slot decided",
     b"register",
-    b"register none 1 0 5",
-    b"register none 1 0 5 realms deps",
-    b"register none 1 0 5 deps realms provs",
-    b"register none 1 0 5 realms deps provs provs",
-    b"register none 1 0 5 realms realms deps provs",
-    b"register none none 0 5 realms deps provs",
-    b"register nothing 1 0 5 realms deps provs",
-    b"register 1 0 5 realms deps provs",
+    b"register none 1 0 5 1 0",
+    b"register none 1 0 5 1 0 realms deps",
+    b"register none 1 0 5 1 0 deps realms provs",
+    b"register none 1 0 5 1 0 realms deps provs provs",
+    b"register none 1 0 5 1 0 realms realms deps provs",
+    b"register none none 0 5 1 0 realms deps provs",
+    b"register nothing 1 0 5 1 0 realms deps provs",
+    b"register 1 0 5 1 0 realms deps provs",
+    b"register none 1 0 5 realms deps provs",
+    b"register none 1 0 5 1 realms deps provs",
+    b"register none 1 0 5 1 0 0 realms deps provs",
+    b"register none 1 0 5 none 0 realms deps provs",
+    b"register none 1 0 5 1 none realms deps provs",
+    b"resolve 2",
+    b"resolve 2 1",
+    b"resolve 2 none 0",
+    b"edition",
+    b"edition 0 0",
     b"load",
     b"load 7",
     b"load 7 9 9",
@@ -194,10 +206,10 @@ impl Script {
             4 => padded("#", b"#", MAX_LINE + self.rng.below(6000) as usize),
             5 => padded("rows 1", b"0", MAX_LINE + self.rng.below(70_000) as usize),
             6 => padded(&format!("matches {id}"), b" 1", length),
-            7 => padded("resolve 3", b" 2 5", length),
-            8 => padded("register none 1 0 5 realms", b" 4 4", length - 12),
-            9 => padded("register none 1 0 5 realms deps", b" 4", length - 6),
-            10 => padded("register none 1 0 5 realms deps provs", b" 12", length),
+            7 => padded("resolve 3 2 7", b" 2 5", length),
+            8 => padded("register none 1 0 5 1 0 realms", b" 4 4", length - 12),
+            9 => padded("register none 1 0 5 2 7 realms deps", b" 4", length - 6),
+            10 => padded("register none 1 0 5 1 0 realms deps provs", b" 12", length),
             11 => padded("load 7 0", b" ", length),
             _ => {
                 let mut line = vec![b' '; length - 4];
@@ -206,10 +218,12 @@ impl Script {
             }
         };
         // Two of the forms still lack their last words.
-        let line = match line.strip_prefix(b"register none 1 0 5 realms") {
-            Some(rest) if rest.starts_with(b" 4") => [&line[..], b" deps provs"].concat(),
-            Some(rest) if rest.starts_with(b" deps 4") => [&line[..], b" provs"].concat(),
-            _ => line,
+        let line = if line.starts_with(b"register none 1 0 5 1 0 realms 4") {
+            [&line[..], b" deps provs"].concat()
+        } else if line.starts_with(b"register none 1 0 5 2 7 realms deps 4") {
+            [&line[..], b" provs"].concat()
+        } else {
+            line
         };
         self.say(line);
     }

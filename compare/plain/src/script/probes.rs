@@ -9,7 +9,7 @@ use crate::slot::Decision;
 
 impl Script {
     pub(super) fn probe(&mut self) {
-        match self.rng.below(40) {
+        match self.rng.below(42) {
             0 => self.probe_phase("begin", Phase::Idle),
             1 => self.probe_ready(),
             2 => self.probe_phase("fail", Phase::Loading),
@@ -34,6 +34,7 @@ impl Script {
             31..=33 => self.probe_list(),
             34 => self.probe_buffer(),
             35 => self.probe_id("show"),
+            36 | 37 => self.probe_id("edition"),
             _ => self.probe_slot(),
         }
     }
@@ -323,6 +324,14 @@ impl Script {
         if rows > 0 && self.rng.one_in(4) {
             list[2 * (rows as usize - 1)] = u64::MAX;
         }
+        let any = self.rng.number();
+        let listed = self.rng.pick(&list).unwrap_or(1);
+        let default = self.rng.one_of([0, 1, any, listed]);
+        let edition = match self.rng.below(9) {
+            0 => self.rng.one_of([0, 3, u64::MAX, any]),
+            1..=3 => 1,
+            _ => 2,
+        };
         if self.rng.one_in(3) {
             self.spoil_realms(&mut list);
         }
@@ -330,7 +339,7 @@ impl Script {
             Some(number) if !self.rng.one_in(3) => number,
             _ => self.rng.number(),
         };
-        list.insert(0, key);
+        list.splice(0..0, [key, edition, default]);
         self.ask("resolve", &list);
     }
 

@@ -2,7 +2,7 @@
 
 use plain::coverage::refusals;
 use plain::sheet::{Leaf, Sheet};
-use plain::{Port, Refusal, Registration, Registry};
+use plain::{Port, RealmList, Refusal, Registration, Registry};
 
 use super::{activate, admitted, bare, dependencies, heirs};
 
@@ -49,7 +49,8 @@ pub fn kept(sheet: &Sheet) -> Registry {
 /// with a Queued root; 3 is Unloading with some values; 4 is Idle.
 pub fn family() -> Sheet {
     let mut registry = Registry::open(HERE, 0);
-    let provider = Registration { provisions: &[1, 2, 6], realms: &[1, 4], ..bare((50, 0)) };
+    let provider =
+        Registration { provisions: &[1, 2, 6], realms: RealmList::first(&[1, 4]), ..bare((50, 0)) };
     assert_eq!(registry.register(&provider), Ok(0));
     activate(&mut registry, 0);
     let reader = Registration { dependencies: &[2, 50], provisions: &[20], ..bare((51, 3)) };
@@ -57,7 +58,7 @@ pub fn family() -> Sheet {
     activate(&mut registry, 1);
     let child = Registration {
         parent: Some(1),
-        realms: &[1, 4, 21, 9],
+        realms: RealmList::first(&[1, 4, 21, 9]),
         dependencies: &[1],
         provisions: &[21],
         ..bare((52, 0))

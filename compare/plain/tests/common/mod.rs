@@ -3,15 +3,15 @@
 
 pub mod loads;
 
-use plain::{Invocation, Port, Refusal, Registration, Registry};
+use plain::{Invocation, Port, RealmList, Refusal, Registration, Registry};
 
-/// A registration with nothing but an anchor.
+/// A registration with nothing but an anchor, in edition 1.
 pub fn bare(anchor: (u64, u64)) -> Registration<'static> {
     Registration {
         parent: None,
         anchor: Port::new(anchor.0, anchor.1),
         payload: 0,
-        realms: &[],
+        realms: RealmList::first(&[]),
         dependencies: &[],
         provisions: &[],
     }
@@ -53,8 +53,12 @@ pub fn heirs(registry: &mut Registry) -> u64 {
     for realm in 0..3 {
         let realms: Vec<u64> = keys.iter().flat_map(|&key| [key, realm]).collect();
         let declared = if realm == 0 { &keys[..] } else { &[] };
-        let new =
-            Registration { parent, realms: &realms, dependencies: declared, ..bare(anchor(realm)) };
+        let new = Registration {
+            parent,
+            realms: RealmList::first(&realms),
+            dependencies: declared,
+            ..bare(anchor(realm))
+        };
         parent = Some(registry.register(&new).unwrap());
     }
     parent.unwrap()

@@ -6,12 +6,13 @@
 use std::slice::{from_raw_parts, from_raw_parts_mut};
 
 use plain::{
-    Child, ChildSlot, Invocation, Phase, Port, Registration, Registry, Root, SETUP, Ticket,
+    Child, ChildSlot, Invocation, Phase, Port, RealmList, Registration, Registry, Root, SETUP,
+    Ticket,
 };
 
 use crate::telling::{
-    Out, SLOT, Slot, accepted, done, handed_back, kept, number, numbers, of, of_child, of_port,
-    of_slot, perhaps, whether,
+    Out, SLOT, Slot, accepted, done, handed_back, kept, number, numbers, of, of_child, of_edition,
+    of_port, of_slot, perhaps, whether,
 };
 
 /// Exports functions under C names that begin with `plain_`, none of them inlined.
@@ -64,15 +65,16 @@ border! {
         provision_count: usize,
         out: &mut Out,
     ) -> u64 {
-        let new = Registration {
+        let realms = RealmList::from_numbers(unsafe { list(realms, realm_count) });
+        let new = |realms| Registration {
             parent: None,
             anchor: Port::new(key, realm),
             payload,
-            realms: unsafe { list(realms, realm_count) },
+            realms,
             dependencies: unsafe { list(dependencies, dependency_count) },
             provisions: unsafe { list(provisions, provision_count) },
         };
-        number(m.register(&new), out)
+        number(realms.and_then(|realms| m.register(&new(realms))), out)
     }
 
     fn register_child(
@@ -89,15 +91,16 @@ border! {
         provision_count: usize,
         out: &mut Out,
     ) -> u64 {
-        let new = Registration {
+        let realms = RealmList::from_numbers(unsafe { list(realms, realm_count) });
+        let new = |realms| Registration {
             parent: Some(parent),
             anchor: Port::new(key, realm),
             payload,
-            realms: unsafe { list(realms, realm_count) },
+            realms,
             dependencies: unsafe { list(dependencies, dependency_count) },
             provisions: unsafe { list(provisions, provision_count) },
         };
-        number(m.register(&new), out)
+        number(realms.and_then(|realms| m.register(&new(realms))), out)
     }
 
     fn begin(m: &mut Registry, id: u64, out: &mut Out) -> u64 {
@@ -280,6 +283,10 @@ border! {
         numbers(m.plugin(id).map(|plugin| of_port(plugin.anchor())), out)
     }
 
+    fn edition(m: &Registry, id: u64, out: &mut Out) -> u64 {
+        numbers(m.edition(id).map(of_edition), out)
+    }
+
     fn phase(m: &Registry, id: u64, out: &mut Out) -> u64 {
         of(m.plugin(id), |plugin| plugin.phase() as u64, out)
     }
@@ -315,7 +322,8 @@ border! {
     }
 
     fn resolve(realms: *const u64, count: usize, key: u64, out: &mut Out) -> u64 {
-        numbers(plain::resolve(key, unsafe { list(realms, count) }).map(of_port), out)
+        let realms = RealmList::from_numbers(unsafe { list(realms, count) });
+        numbers(realms.and_then(|realms| plain::resolve(key, realms)).map(of_port), out)
     }
 
     fn domain(m: &Registry) -> u64 {

@@ -1,6 +1,6 @@
 //! An answer as a status and the numbers behind their count.
 
-use plain::{Child, ChildSlot, Decision, Plugin, Port, Refusal};
+use plain::{Child, ChildSlot, Decision, Edition, Plugin, Port, Refusal};
 
 /// A count and up to six numbers.
 pub(crate) type Out = [u64; 7];
@@ -66,6 +66,10 @@ pub(crate) fn of(
 
 pub(crate) fn of_port(port: Port) -> [u64; 2] {
     [port.key, port.realm]
+}
+
+pub(crate) fn of_edition(edition: Edition) -> [u64; 2] {
+    [edition.number(), edition.default_realm()]
 }
 
 pub(crate) fn of_child(child: Child) -> [u64; 3] {
