@@ -8,7 +8,7 @@ use mathlib.Core.Option.{Option, none, some}
 use lib.Dec.{eqb}
 use lib.ListN.{length}
 use Rattle.rules.specs.Basics.{pick, isNone, one}
-use Rattle.rules.specs.declared.Port.{Port}
+use Rattle.rules_types.specs.declared.Port.{Port}
 use Rattle.rules.specs.Holds.{Plugin, Provision, Registry, lookup, provider, isActive}
 use Rattle.rules.specs.Outcomes.{Outcome, tells, refusing, accepting, writes, stores, adds, removes, answerOf, Check, checked, known, handingBack}
 use Rattle.rules.specs.Ports.{flat, resolveKey}

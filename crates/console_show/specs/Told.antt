@@ -8,8 +8,8 @@ use lib.ListN.{length, getD, drop, set}
 use lib.Seq.{sets, sets-eq, take-append-seam}
 use Rattle.rules.specs.Basics.{one}
 use Rattle.rules.specs.Holds.{Plugin}
-use Rattle.rules.specs.declared.Root.{Root}
-use Rattle.rules.specs.declared.Root.the-variants.{Unissued, Queued, Spent}
+use Rattle.rules_types.specs.declared.Root.{Root}
+use Rattle.rules_types.specs.declared.Root.the-variants.{Unissued, Queued, Spent}
 use Rattle.rules.specs.Outcomes.{Answer, Refused, Accepted}
 use Rattle.rules.specs.Queries.{Field, Parent, Anchor, EditionOf, PhaseOf, RetiredMark, Generation, Revision, Payload, RootOf, rootNumbers, fieldOf}
 use Rattle.memory.specs.Writes.{puts}

@@ -9,7 +9,7 @@ use lib.ListN.{length}
 use Rattle.rules.specs.Basics.{last}
 use Rattle.rules.specs.Holds.{Plugin, Registry, lookup}
 use Rattle.rules.specs.Load.{movedTo, opens, load}
-use Rattle.rules.specs.declared.Root.the-variants.{Queued}
+use Rattle.rules_types.specs.declared.Root.the-variants.{Queued}
 use Rattle.rules_laws.specs.Demand3 as three
 use Rattle.rules_laws.specs.Built.{Built}
 use Rattle.rules_laws.specs.Kept.{opened-built, built-start}

@@ -11,11 +11,11 @@ use lib.ListN.{length, getD, set, drop, length-set, length-take, length-drop}
 use lib.Seq.{getD-set-same, getD-set-other, getD-take, getD-drop, ext-getD}
 use mir.Val.{boolByte}
 use Rattle.rules.specs.Holds.{Plugin, changed}
-use Rattle.rules.specs.declared.Port.{Port}
-use Rattle.rules.specs.declared.Phase.{Phase}
-use Rattle.rules.specs.declared.Phase.the-variants.{Idle, Loading, Active, Unloading}
-use Rattle.rules.specs.declared.Root.{Root}
-use Rattle.rules.specs.declared.Root.the-variants.{Unissued, Queued, Spent}
+use Rattle.rules_types.specs.declared.Port.{Port}
+use Rattle.rules_types.specs.declared.Phase.{Phase}
+use Rattle.rules_types.specs.declared.Phase.the-variants.{Idle, Loading, Active, Unloading}
+use Rattle.rules_types.specs.declared.Root.{Root}
+use Rattle.rules_types.specs.declared.Root.the-variants.{Unissued, Queued, Spent}
 use Rattle.rules.specs.Ports.{pairs}
 use Rattle.rules.specs.Queries.{phaseNumber}
 use Rattle.rules.specs.Limits.{maxProvisionKeys}

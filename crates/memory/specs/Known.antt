@@ -8,7 +8,7 @@ use mathlib.Core.Option.{none, some}
 use lib.ListN.{length}
 use borrow.Author.Tests.{eqb-true}
 use Rattle.rules.specs.Holds.{Plugin, lookup}
-use Rattle.rules.specs.Generations.{generationOf}
+use Rattle.rules_types.specs.Generations.{generationOf}
 use Rattle.rules.specs.Refusals.{Unknown}
 use Rattle.rules.specs.Outcomes.{Outcome, refuses, stores, found, known, after}
 use Rattle.memory.specs.Layout.{taken, memoryWords, places}

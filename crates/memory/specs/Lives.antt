@@ -1,11 +1,11 @@
 -- What the operations make of a life.
 use Prim.Native.Nat.{ℕ}
 use mathlib.Core.Bool.{Bool, true}
-use Rattle.rules.specs.Generations.{nextGeneration}
-use Rattle.rules.specs.declared.Generation.{Generation}
-use Rattle.rules.specs.declared.Phase.{Phase}
-use Rattle.rules.specs.declared.Root.{Root}
-use Rattle.rules.specs.declared.Root.the-variants.{Unissued}
+use Rattle.rules_types.specs.Generations.{nextGeneration}
+use Rattle.rules_types.specs.declared.Generation.{Generation}
+use Rattle.rules_types.specs.declared.Phase.{Phase}
+use Rattle.rules_types.specs.declared.Root.{Root}
+use Rattle.rules_types.specs.declared.Root.the-variants.{Unissued}
 use Rattle.memory.specs.declared.Life.{Life}
 
 -- revision and payload stay

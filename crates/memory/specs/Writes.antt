@@ -8,8 +8,8 @@ use lib.ListN.{set}
 use mir.Val.{boolByte}
 use Rattle.rules.specs.Basics.{pick}
 use Rattle.rules.specs.Queries.{phaseNumber}
-use Rattle.rules.specs.declared.Root.{Root}
-use Rattle.rules.specs.declared.Root.the-variants.{Unissued, Queued, Spent}
+use Rattle.rules_types.specs.declared.Root.{Root}
+use Rattle.rules_types.specs.declared.Root.the-variants.{Unissued, Queued, Spent}
 use Rattle.memory.specs.declared.Parent.{Parent}
 use Rattle.memory.specs.declared.Parent.the-variants as parent
 use Rattle.memory.specs.declared.Place.{Place}

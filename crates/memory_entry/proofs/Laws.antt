@@ -57,7 +57,8 @@ puts-led m rows b v w =
 
 -- the writer's steps, one after the other
 pub fill-steps : (m m₁ m₂ m₃ m₄ m₅ : List ℕ) (p : ℕ) (e : Entry) (ds cs zs : List ℕ) → e .start ≤ maxRows → length ds ≤ maxDependencies * rowWords
-    → m₁ ≡ puts m (rowWord (e .start)) 0 ds → m₂ ≡ puts m₁ (rowWord (e .start) + length ds) 0 cs → m₃ ≡ puts m₂ (p * placeWords + editionWord) 0 (e .edition ∷ e .default ∷ zs)
+    → m₁ ≡ puts m (rowWord (e .start)) 0 ds → m₂ ≡ puts m₁ (rowWord (e .start) + length ds) 0 cs
+    → m₃ ≡ puts m₂ (p * placeWords + editionWord) 0 (e .edition ∷ e .default ∷ zs)
     → m₄ ≡ puts m₃ (p * placeWords) idWord (entryWords e) → m₅ ≡ occupiedAt (set m₄ nextWord (e .next)) p → m₅ ≡ filledPlace m p e ds cs zs
 unfolding filledPlace
 fill-steps m m₁ m₂ m₃ m₄ m₅ p e ds cs zs a b e₁ e₂ e₃ e₄ e₅ = rw (le-leb _ _ a, le-leb _ _ b) (rw (e₅, e₄, e₃, e₂, e₁))

@@ -14,10 +14,10 @@ use lib.Seq.{getD-take, getD-drop, ext-getD}
 use borrow.Author.Tests.{eqb-true, eqb-false}
 use Rattle.rules.specs.Basics.{pick}
 use Rattle.rules.specs.Holds.{Plugin, neverBegun}
-use Rattle.rules.specs.Generations.{generationOf}
-use Rattle.rules.specs.declared.Port.{Port}
-use Rattle.rules.specs.declared.Phase.the-variants.{Idle}
-use Rattle.rules.specs.declared.Root.the-variants.{Unissued}
+use Rattle.rules_types.specs.Generations.{generationOf}
+use Rattle.rules_types.specs.declared.Port.{Port}
+use Rattle.rules_types.specs.declared.Phase.the-variants.{Idle}
+use Rattle.rules_types.specs.declared.Root.the-variants.{Unissued}
 use Rattle.rules.specs.Ports.{pairs, realmList}
 use Rattle.rules.specs.Registration.{unoffered}
 use Rattle.rules.specs.Limits.{maxRows, maxProvisionKeys, maxDependencies, maxRealmRows}
@@ -239,7 +239,8 @@ module _ (m m′ : List ℕ) (p : ℕ) (n : Newcomer) (h : p < places) (free : t
   realms-part : realmPart m′ p ≡ listWords n
   realms-part =
       rw realms-new
-      (part-list m′ (listWords n) (p * placeWords + editionWord) ((n .z + 1) * rowWords) (omega (arith, sized .realms)) (omega (arith, size′, sized .few-realms)) (r .realms))
+      (part-list m′ (listWords n) (p * placeWords + editionWord) ((n .z + 1) * rowWords) (omega (arith, sized .realms))
+      (omega (arith, size′, sized .few-realms)) (r .realms))
 
   life-new : lifeAt m′ p ≡ record { revision = 0; payload = n .payload; phase = Idle; retired = false; generation = generationOf neverBegun; root = Unissued }
   unfolding lifeAt decoded

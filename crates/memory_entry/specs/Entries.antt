@@ -6,7 +6,7 @@ use lib.ListN.{length, set}
 use Rattle.rules.specs.Basics.{pick}
 use Rattle.rules.specs.Holds.{neverBegun}
 use Rattle.rules.specs.Limits.{maxRows, maxDependencies}
-use Rattle.memory.specs.Layout.{rowWord, placeWords, idWord, editionWord, rowWords}
+use Rattle.memory.specs.Layout.{nextWord, rowWord, placeWords, idWord, editionWord, rowWords}
 use Rattle.memory.specs.Writes.{puts}
 use Rattle.memory_places.specs.Changes.{occupiedAt}
 use Rattle.memory_entry.specs.declared.Entry.{Entry}
@@ -23,6 +23,6 @@ filledPlace m p e dependencies claims realms =
     let r = rowWord (e .start) in
     pick (leb (e .start) maxRows)
     (pick (leb (length dependencies) (maxDependencies * rowWords))
-    (occupiedAt (set (puts (puts (puts (puts m r 0 dependencies) (r + length dependencies) 0 claims) (p * placeWords + editionWord) 0 (e .edition ∷ e .default ∷ realms))
-    (p * placeWords) idWord (entryWords e)) 2 (e .next)) p)
+    (occupiedAt (set (puts (puts (puts (puts m r 0 dependencies) (r + length dependencies) 0 claims)
+    (p * placeWords + editionWord) 0 (e .edition ∷ e .default ∷ realms)) (p * placeWords) idWord (entryWords e)) nextWord (e .next)) p)
     m) m

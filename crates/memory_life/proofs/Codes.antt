@@ -1,8 +1,8 @@
 -- The last arm of each code.
 use Prim.Native.Nat.{ℕ, zero, suc}
 use mathlib.Core.Path.{_≡_, refl}
-use Rattle.rules.specs.declared.Phase.the-variants.{Unloading}
-use Rattle.rules.specs.declared.Root.the-variants.{Spent}
+use Rattle.rules_types.specs.declared.Phase.the-variants.{Unloading}
+use Rattle.rules_types.specs.declared.Root.the-variants.{Spent}
 use Rattle.memory.specs.View.{phaseOf, rootOf}
 
 pub root-rest : (n v a : ℕ) → (n ≡ 0 → ⊥) → (n ≡ 1 → ⊥) → Spent ≡ rootOf n v a

@@ -4,7 +4,7 @@ use native.Mathlib.Omega.{arith}
 use mathlib.Core.Path.{_≡_}
 use mathlib.Core.List.{List}
 use Rattle.rules.specs.Holds.{port}
-use Rattle.rules.specs.declared.Port.{Port}
+use Rattle.rules_types.specs.declared.Port.{Port}
 use Rattle.memory.specs.Layout.{word, part, startAt, depsAt, provsAt, realmsAt, depPart, provPart, realmPart, placeWords, editionWord, rowWords, rowWord}
 use Rattle.memory.specs.View.{anchorAt}
 

@@ -4,7 +4,7 @@ use mathlib.Core.Path.{_≡_, refl, ap}
 use mathlib.Core.List.{List, [], _∷_, map}
 use lib.ListN.{length}
 use Rattle.rules.specs.Holds.{Provision, provided}
-use Rattle.rules.specs.declared.Port.{Port}
+use Rattle.rules_types.specs.declared.Port.{Port}
 use Rattle.rules.specs.Ports.{pairs}
 use Rattle.memory.specs.Layout.{provPart}
 use Rattle.memory.specs.View.{valued, pluginAt}

@@ -12,7 +12,7 @@ use borrow.Author.Tests.{leb-true}
 use Rattle.rules.specs.Basics.{isSome, orElse, yesNo}
 use Rattle.rules.specs.Conditions.{listsShort, claims}
 use Rattle.rules.specs.Holds.{Provision, Plugin, provided, rowsOf, withProvisions, editionNumber, defaultOf}
-use Rattle.rules.specs.declared.Port.{Port}
+use Rattle.rules_types.specs.declared.Port.{Port}
 use Rattle.rules.specs.Limits.{maxRows, maxDependencies, maxProvisionKeys, maxRealmRows}
 use Rattle.rules.specs.Outcomes.{atLowestFree, withPlaces}
 use Rattle.rules.specs.Ports.{pairs, flat}

@@ -15,8 +15,8 @@ use Rattle.rules.specs.Limits.{maxPluginRows}
 use Rattle.memory.specs.Layout.{occupancy, taken, idAt, depsAt, provsAt, places}
 use Rattle.memory_places.specs.Rows.{rowsAt, rowsBy, rowsFrom}
 use Rattle.memory_places.specs.Lowest.{lowestOf, lowest-here, lowest-not, lowest-free}
-use Rattle.rules.specs.declared.Optional.{Optional}
-use Rattle.rules.specs.declared.Optional.the-variants.{Is, None}
+use Rattle.rules_types.specs.declared.Optional.{Optional}
+use Rattle.rules_types.specs.declared.Optional.the-variants.{Is, None}
 use Rattle.rules.specs.Answers.{optionOf}
 
 -- Rows, four places at a time: what is counted, and what is left.

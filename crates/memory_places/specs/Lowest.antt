@@ -11,7 +11,7 @@ use Rattle.rules.specs.Outcomes.{Accepted, answerOf}
 use Rattle.rules.specs.Queries.{lower, lowestFrom, idFrom}
 use Rattle.memory.specs.Layout.{taken, idAt, places}
 use Rattle.memory.specs.View.{pluginAt, placeAt, placesFrom, view}
-use Rattle.rules.specs.declared.Optional.{Optional}
+use Rattle.rules_types.specs.declared.Optional.{Optional}
 use Rattle.rules.specs.Answers.{optionOf, optionAnswer}
 
 -- of n places from i on

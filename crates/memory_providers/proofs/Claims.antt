@@ -7,7 +7,7 @@ use mathlib.Core.List.{List}
 use lib.ListN.{length}
 use Rattle.rules.specs.Basics.{any, isSome}
 use Rattle.rules.specs.Holds.{Plugin, held, isIn, provides, provider, samePort, provided}
-use Rattle.rules.specs.declared.Port.{Port}
+use Rattle.rules_types.specs.declared.Port.{Port}
 use Rattle.rules.specs.Ports.{pairs}
 use Rattle.rules_laws.specs.Laws.Members.{same-swap}
 use Rattle.memory.specs.Layout.{part, startAt, depsAt, provsAt, memoryWords, places, rowsStart, rowWords}

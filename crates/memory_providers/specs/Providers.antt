@@ -10,7 +10,7 @@ use lib.Seq.{drop-cons}
 use Rattle.rules.specs.Holds.{port, Plugin, isIn, provides, provider}
 use Rattle.rules.specs.Ports.{pairs}
 use Rattle.rules.specs.Conditions.{claims}
-use Rattle.rules.specs.declared.Port.{Port}
+use Rattle.rules_types.specs.declared.Port.{Port}
 use Rattle.memory.specs.Layout.{word, part, anchorWord, provsAt, memoryWords, places, rowWords}
 use Rattle.memory.specs.View.{anchorAt, pluginAt, view}
 use Rattle.memory_lists.specs.Listed.{provided-at}

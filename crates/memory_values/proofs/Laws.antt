@@ -14,7 +14,7 @@ use lib.ListN.{length, set}
 use lib.Pow.{pow-lt, pow-pos, shr-shr, field, mod-mod-pow}
 use borrow.Author.Tests.{eq-eqb, eqb-true, eqb-false, lt-ltb, le-ltb}
 use Rattle.rules.specs.Basics.{pick}
-use Rattle.rules.specs.declared.Port.{Port}
+use Rattle.rules_types.specs.declared.Port.{Port}
 use Rattle.rules.specs.Holds.{samePort}
 use Rattle.rules.specs.Ports.{pairs}
 use Rattle.rules.specs.Values.{valueIn}

@@ -13,7 +13,7 @@ use lib.Seq.{getD-set-same, getD-set-other}
 use borrow.Author.Tests.{eq-eqb, ne-eqb, eqb-true, eqb-false}
 use Rattle.rules.specs.Basics.{pick}
 use Rattle.rules.specs.Holds.{Provision, samePort, isIn, withProvisions}
-use Rattle.rules.specs.declared.Port.{Port}
+use Rattle.rules_types.specs.declared.Port.{Port}
 use Rattle.rules.specs.Phases.{dropped}
 use Rattle.rules.specs.Ports.{pairs}
 use Rattle.rules.specs.Registration.{repeats}

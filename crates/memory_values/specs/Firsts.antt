@@ -8,7 +8,7 @@ use mathlib.Core.Option.{Option, none}
 use lib.ListN.{length, getD, length-take, length-drop}
 use Rattle.rules.specs.Basics.{any, isNone}
 use Rattle.rules.specs.Holds.{port, Provision, samePort, isIn}
-use Rattle.rules.specs.declared.Port.{Port}
+use Rattle.rules_types.specs.declared.Port.{Port}
 use Rattle.rules.specs.Ports.{pairs, flat}
 use Rattle.rules.specs.Values.{valueIn, firstMissing}
 use Rattle.rules_laws.specs.Laws.Tests.{by-test}

@@ -1,6 +1,6 @@
 -- A place's values put all at once: its provisions then have the values whose mask and numbers were put, and all else reads as before.
 use Prim.Native.Nat.{ℕ, suc, _+_, _*_, _/_, _%_, _^_, _≤_, _<_}
-use native.Mathlib.Nat.{pow-suc, div-eq-of-lt}
+use native.Mathlib.Nat.{pow-suc}
 use native.Mathlib.Omega.{arith}
 use mathlib.Core.Path.{_≡_, refl, sym, ap, _∙_}
 use mathlib.Core.Logic.{_≢_}
@@ -12,17 +12,16 @@ use lib.Pow.{shr-shr}
 use lib.Seq.{getD-set-same, getD-set-other, take-all}
 use Rattle.rules.specs.Basics.{isSome, orElse, yesNo}
 use Rattle.rules.specs.Holds.{Provision, withProvisions}
-use Rattle.rules.specs.declared.Port.{Port}
+use Rattle.rules_types.specs.declared.Port.{Port}
 use Rattle.rules.specs.Limits.{maxProvisionKeys}
 use Rattle.rules.specs.Ports.{pairs}
 use Rattle.memory.specs.Layout.{word, taken, provPart, memoryWords, placeWords, places, maskWord, valuesWord}
 use Rattle.memory.specs.View.{valueAt, valued, pluginAt}
 use Rattle.memory.specs.Frames.{puts-length, puts-apart, puts-before, puts-same}
-use Rattle.memory_places.specs.Bits.{bit}
 use Rattle.memory_values.specs.Values.{maskAt, putValues, maskOf, valuesOf}
 use Rattle.memory_values.specs.After.{Others, taken-stays, others-stay, plugin-stays}
 
--- One provision more: its bit is the next one, which was 0.
+-- A mask has a bit for each provision: one more takes the next bit, which was 0.
 at-most-one : (b : Bool) → yesNo b ≤ 1
 at-most-one true = omega arith
 at-most-one false = omega arith
@@ -30,9 +29,6 @@ at-most-one false = omega arith
 pub mask-below : (vs : List Provision) → maskOf vs < 2 ^ length vs
 mask-below [] = omega arith
 mask-below (v ∷ vs) = omega (arith, at-most-one (isSome (v .value)), mask-below vs, pow-suc 2 (length vs))
-
-pub mask-free : (vs : List Provision) → bit (maskOf vs) (length vs) ≡ 0
-mask-free vs = let e : maskOf vs / 2 ^ length vs ≡ 0 = div-eq-of-lt (mask-below vs) in rw e
 
 pub mask-none : (vs : List Provision) (q : Port) → maskOf (vs ++ record { port = q; value = none } ∷ []) ≡ maskOf vs
 mask-none [] q = refl

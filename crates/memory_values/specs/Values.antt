@@ -5,7 +5,7 @@ use lib.Dec.{eqb}
 use lib.ListN.{set, take}
 use Rattle.rules.specs.Basics.{pick, isNone, isSome, orElse, yesNo}
 use Rattle.rules.specs.Holds.{Provision, samePort}
-use Rattle.rules.specs.declared.Port.{Port}
+use Rattle.rules_types.specs.declared.Port.{Port}
 use Rattle.rules.specs.Limits.{maxProvisionKeys}
 use Rattle.memory.specs.Layout.{word, placeWords, maskWord, valuesWord}
 use Rattle.memory.specs.Writes.{puts}

@@ -1,7 +1,7 @@
 -- Two answers that say the same are equal, for the answers whose crates do not say so themselves.
 use mathlib.Core.Path.{_≡_, refl, ap}
-use Rattle.rules.specs.declared.Root.{Root}
-use Rattle.rules.specs.declared.Root.the-variants.{Unissued, Queued, Spent}
+use Rattle.rules_types.specs.declared.Root.{Root}
+use Rattle.rules_types.specs.declared.Root.the-variants.{Unissued, Queued, Spent}
 use Rattle.rules.specs.Queries.{rootNumbers}
 use Rattle.registry_queries.specs.Answers.{rootAnswer}
 use Rattle.registry_queries.specs.declared.RootAnswer.{RootAnswer}

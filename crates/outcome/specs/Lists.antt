@@ -2,7 +2,7 @@
 use denote.Ref.{now}
 use Rattle.ports_realms.specs.Answers.{resolved-exact}
 use Rattle.slot_child.specs.Exact.{decided-exact, slot-exact}
-use Rattle.rules.proofs as rules
+use Rattle.rules_types.proofs as rules_types
 use Rattle.rules.specs.Answers.{number-exact}
 use Rattle.slot_child.proofs as slot_child
 use Rattle.ports_listed.proofs as ports_listed
@@ -13,29 +13,29 @@ use Rattle.ports_inherited.proofs as ports_inherited
 use Rattle.outcome.specs.One.{One, OneSeen}
 use Rattle.outcome.specs.Equations.{by-equation, by-two, one-outcome, one-with-memory}
 
-pub rules-Port-new : One rules.Port.new.ended rules.Port.new.Reads.Learnt
-rules-Port-new κs a r s ms ns p q = by-equation p q
+pub rules-types-Port-new : One rules_types.Port.new.ended rules_types.Port.new.Reads.Learnt
+rules-types-Port-new κs a r s ms ns p q = by-equation p q
 
-pub rules-Port-in-default-realm : One rules.Port.«in_default_realm».ended rules.Port.«in_default_realm».Reads.Learnt
-rules-Port-in-default-realm κs a r s ms ns p q = by-equation p q
+pub rules-types-Port-in-default-realm : One rules_types.Port.«in_default_realm».ended rules_types.Port.«in_default_realm».Reads.Learnt
+rules-types-Port-in-default-realm κs a r s ms ns p q = by-equation p q
 
-pub rules-Edition-number : One rules.Edition.number.ended rules.Edition.number.Reads.Learnt
-rules-Edition-number κs a r s ms ns p q = by-equation p q
+pub rules-types-Edition-number : One rules_types.Edition.number.ended rules_types.Edition.number.Reads.Learnt
+rules-types-Edition-number κs a r s ms ns p q = by-equation p q
 
-pub rules-Edition-default : One rules.Edition.default.ended rules.Edition.default.Reads.Learnt
-rules-Edition-default κs a r s ms ns p q = by-equation p q
+pub rules-types-Edition-default : One rules_types.Edition.default.ended rules_types.Edition.default.Reads.Learnt
+rules-types-Edition-default κs a r s ms ns p q = by-equation p q
 
-pub rules-Edition-absent : One rules.Edition.absent.ended rules.Edition.absent.Reads.Learnt
-rules-Edition-absent κs a r s ms ns p q = by-equation p q
+pub rules-types-Edition-absent : One rules_types.Edition.absent.ended rules_types.Edition.absent.Reads.Learnt
+rules-types-Edition-absent κs a r s ms ns p q = by-equation p q
 
-pub rules-Phase-number : One rules.Phase.number.ended rules.Phase.number.Reads.Learnt
-rules-Phase-number κs a r s ms ns p q = by-equation p q
+pub rules-types-Phase-number : One rules_types.Phase.number.ended rules_types.Phase.number.Reads.Learnt
+rules-types-Phase-number κs a r s ms ns p q = by-equation p q
 
-pub rules-Generation-of : One rules.Generation.of.ended rules.Generation.of.Reads.Learnt
-rules-Generation-of κs a r s ms ns p q = by-equation p q
+pub rules-types-Generation-of : One rules_types.Generation.of.ended rules_types.Generation.of.Reads.Learnt
+rules-types-Generation-of κs a r s ms ns p q = by-equation p q
 
-pub rules-Generation-next : One rules.Generation.next.ended rules.Generation.next.Reads.Learnt
-rules-Generation-next κs a r s ms ns p q = by-equation p q
+pub rules-types-Generation-next : One rules_types.Generation.next.ended rules_types.Generation.next.Reads.Learnt
+rules-types-Generation-next κs a r s ms ns p q = by-equation p q
 
 pub slot-child-Slot-pending : One slot_child.Slot.pending.ended slot_child.Slot.pending.Reads.Learnt
 slot-child-Slot-pending κs a r s ms ns p q = one-outcome slot-exact p q

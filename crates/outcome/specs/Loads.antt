@@ -1,5 +1,7 @@
 -- Each promise of these crates allows one outcome: what a load reads, asks and writes.
-use mathlib.Core.Path.{ap}
+use Prim.Native.Nat.{ℕ}
+use mathlib.Core.Path.{_≡_, ap}
+use mathlib.Core.List.{List}
 use denote.Ref.{now}
 use Rattle.rules.specs.Answers.{done-exact}
 use Rattle.memory.proofs as memory
@@ -97,7 +99,8 @@ text-read-root-lines κs a r s ms ns p q = root-one p q
 pub text-read-block-read-block : One text_read_block.«read_block».ended text_read_block.«read_block».Reads.Learnt
 text-read-block-read-block κs a r s ms ns p q =
     let e = block-one p q in
-    (e .0, (ap (λ (l : Lent). l .realms) (e .1), (ap (λ (l : Lent). l .dependencies) (e .1), (ap (λ (l : Lent). l .claims) (e .1), ap (λ (l : Lent). l .values) (e .1)))))
+    let same : (f : Lent → List ℕ) → f _ ≡ f _ = λ f. ap f (e .1) in
+    (e .0, (same (λ l. l .realms), (same (λ l. l .dependencies), (same (λ l. l .claims), same (λ l. l .values)))))
 
 pub registry-load-load : One registry_load.load.ended registry_load.load.Reads.Learnt
 registry-load-load κs a r s ms ns p q = one-with-memory done-exact p q

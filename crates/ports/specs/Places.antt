@@ -7,7 +7,7 @@ use borrow.Author.Tests.{eq-eqb, ne-eqb}
 pub use Rattle.rules_laws.specs.Laws.Pairs.{pairs-at, pairs-behind, pairs-end, part-end, length-pairs, length-flat, odd-length, length-odd, length-even}
 pub use Rattle.rules_laws.specs.Laws.Pairs.{even-length, flat-pairs, flat-pairs-even, pairs-flat, flat-append, pairs-take, pairs-drop, pairs-whole, pairs-get}
 pub use Rattle.rules_laws.specs.Laws.Pairs.{flat-get, pairs-same-length, pairs-same}
-use Rattle.rules.specs.declared.Port.{Port}
+use Rattle.rules_types.specs.declared.Port.{Port}
 use Rattle.rules.specs.Holds.{samePort, isIn}
 use Rattle.rules.specs.Ports.{samePorts}
 use Rattle.rules.specs.Registration.{repeats}

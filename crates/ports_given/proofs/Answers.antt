@@ -8,7 +8,7 @@ use lib.Dec.{eqb, leb}
 use lib.ListN.{length, take}
 use borrow.Author.Tests.{leb-true, leb-false, eq-eqb}
 use Rattle.rules.specs.Basics.{all}
-use Rattle.rules.specs.declared.Port.{Port}
+use Rattle.rules_types.specs.declared.Port.{Port}
 use Rattle.rules.specs.Holds.{port}
 use Rattle.rules.specs.Ports.{pairs, flat, oddLength, resolveIn, resolve, samePorts}
 use Rattle.rules.specs.Conditions.{resolvedIn}

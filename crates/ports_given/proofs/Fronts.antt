@@ -10,7 +10,7 @@ use lib.ListN.{length, getD, take, set, replicate, length-append, length-replica
 use lib.Seq.{take-suc, take-take, length-take-le}
 use borrow.Author.Tests.{not-true}
 use Rattle.rules.specs.Basics.{any, all, twice}
-use Rattle.rules.specs.declared.Port.{Port}
+use Rattle.rules_types.specs.declared.Port.{Port}
 use Rattle.rules.specs.Holds.{port, Realms}
 use Rattle.rules.specs.Ports.{pairs}
 use Rattle.rules.specs.Conditions.{resolvedIn, keysOf}

@@ -10,7 +10,7 @@ use lib.ListN.{length, take, replicate, length-map, length-take}
 use lib.Seq.{take-at, take-all, take-take, take-append-le}
 use borrow.Author.Tests.{le-leb, eqb-true, eqb-false}
 use Rattle.rules.specs.Basics.{all, twice}
-use Rattle.rules.specs.declared.Port.{Port}
+use Rattle.rules_types.specs.declared.Port.{Port}
 use Rattle.rules.specs.Holds.{Realms, samePort}
 use Rattle.rules.specs.Ports.{resolve, samePorts}
 use Rattle.rules.specs.Dependencies.{dependencyList}

@@ -7,7 +7,7 @@ use mathlib.Core.List.{List}
 use lib.Dec.{leb}
 use lib.ListN.{length, take}
 use Rattle.rules.specs.Basics.{all, twice}
-use Rattle.rules.specs.declared.Port.{Port}
+use Rattle.rules_types.specs.declared.Port.{Port}
 use Rattle.rules.specs.Holds.{Realms}
 use Rattle.rules.specs.Conditions.{resolvedIn, keysOf, givenWithin}
 use Rattle.rules.specs.Limits.{maxDependencyKeys, maxDependencies}

@@ -8,7 +8,7 @@ use lib.Dec.{eqb}
 use lib.ListN.{length, getD, drop, length-append, drop-of-length-le}
 use borrow.Author.Tests.{eqb-true, ne-eqb}
 use Rattle.rules.specs.Basics.{pick}
-use Rattle.rules.specs.declared.Port.{Port}
+use Rattle.rules_types.specs.declared.Port.{Port}
 use Rattle.rules.specs.Holds.{port, Realms, isIn}
 use Rattle.rules.specs.Ports.{pairs, resolveIn, resolve}
 use Rattle.rules.specs.Dependencies.{candidates, inherit, skipped}

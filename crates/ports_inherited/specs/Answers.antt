@@ -6,7 +6,7 @@ use mathlib.Core.List.{List, []}
 use lib.ListN.{length, take}
 use lib.Seq.{take-all}
 use borrow.Author.Tests.{le-leb, lt-leb}
-use Rattle.rules.specs.declared.Port.{Port}
+use Rattle.rules_types.specs.declared.Port.{Port}
 use Rattle.rules.specs.Holds.{Realms}
 use Rattle.rules.specs.Dependencies.{dependencyList}
 use Rattle.rules.specs.Limits.{maxDependencyKeys, maxDependencies}

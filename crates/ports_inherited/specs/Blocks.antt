@@ -4,7 +4,7 @@ use mathlib.Core.List.{List, []}
 use lib.Dec.{leb}
 use lib.ListN.{length}
 use Rattle.rules.specs.Basics.{pick}
-use Rattle.rules.specs.declared.Port.{Port}
+use Rattle.rules_types.specs.declared.Port.{Port}
 use Rattle.rules.specs.Ports.{flat}
 use Rattle.rules.specs.Limits.{maxDependencies}
 use Rattle.ports_resolved.specs.Filled.{filled}

@@ -10,7 +10,7 @@ use lib.ListN.{length, getD, take, drop, set, length-drop, drop-of-length-le}
 use lib.Seq.{paste-suc, take-all, drop-drop}
 use borrow.Author.Tests.{lt-ltb, le-ltb}
 use borrow.Rule.Slice.PartMut.{midOf, putMid}
-use Rattle.rules.specs.declared.Port.{Port}
+use Rattle.rules_types.specs.declared.Port.{Port}
 use Rattle.rules.specs.Refusals.{ShortBuffer}
 use Rattle.rules.specs.Outcomes.{refuses, writes, checked, written}
 use Rattle.rules.specs.Ports.{pairs, flat}

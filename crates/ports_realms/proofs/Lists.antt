@@ -9,8 +9,8 @@ use lib.Dec.{eqb}
 use lib.ListN.{length, getD, take, drop, drop-of-length-le, length-drop}
 use lib.Seq.{take-all}
 use borrow.Author.Tests.{eq-eqb, ne-eqb, lt-ltb, le-ltb}
-use Rattle.rules.specs.declared.Edition.the-variants.{First, Second}
-use Rattle.rules.specs.declared.Done.the-variants.{Accepted, Refused}
+use Rattle.rules_types.specs.declared.Edition.the-variants.{First, Second}
+use Rattle.rules_types.specs.declared.Done.the-variants.{Accepted, Refused}
 use Rattle.rules.specs.Answers.{verdict}
 use Rattle.rules.specs.Ports.{realmList, badEdition, badRealms, realmChecks}
 

@@ -4,8 +4,8 @@ use mathlib.Core.Path.{_≡_, sym, ap, _∙_}
 use mathlib.Core.Bool.{false}
 use mathlib.Core.List.{List, [], _∷_}
 use lib.ListN.{drop}
-use Rattle.rules.specs.declared.Port.{Port}
-use Rattle.rules.specs.declared.Done.the-variants as done
+use Rattle.rules_types.specs.declared.Port.{Port}
+use Rattle.rules_types.specs.declared.Done.the-variants as done
 use Rattle.rules.specs.Holds.{port}
 use Rattle.rules.specs.Answers.{verdict}
 use Rattle.rules.specs.Outcomes.{Refused, Accepted, answerOf}

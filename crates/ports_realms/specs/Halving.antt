@@ -5,7 +5,7 @@ use mathlib.Core.List.{List, [], _∷_}
 use lib.Dec.{leb, ltb}
 use lib.ListN.{length, getD, take, drop}
 use Rattle.rules.specs.Basics.{pick}
-use Rattle.rules.specs.declared.Port.{Port}
+use Rattle.rules_types.specs.declared.Port.{Port}
 use Rattle.rules.specs.Holds.{port, Realms, isIn}
 use Rattle.rules.specs.Ports.{pairs, resolveIn, rowsIn, realmsOf}
 

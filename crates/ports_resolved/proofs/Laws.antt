@@ -7,7 +7,7 @@ use mathlib.Core.List.{List, map}
 use lib.ListN.{length, getD, set, take, drop, length-map, length-take, drop-of-length-le}
 use lib.Seq.{getD-take, drop-cons}
 use borrow.Author.Tests.{eq-eqb, ne-eqb}
-use Rattle.rules.specs.declared.Port.{Port}
+use Rattle.rules_types.specs.declared.Port.{Port}
 use Rattle.rules.specs.Ports.{resolveIn}
 use Rattle.rules.specs.Limits.{maxDependencyKeys}
 use Rattle.ports_resolved.specs.Keys.{candidateOf}

@@ -6,7 +6,7 @@ use lib.Dec.{eqb}
 use lib.ListN.{length}
 use lib.Seq.{take-all}
 use borrow.Author.Tests.{eq-eqb, eqb-true}
-use Rattle.rules.specs.declared.Port.{Port}
+use Rattle.rules_types.specs.declared.Port.{Port}
 use Rattle.rules.specs.Basics.{any}
 use Rattle.rules.specs.Holds.{Realms, samePort, isIn}
 use Rattle.rules.specs.Ports.{resolveIn, resolve}

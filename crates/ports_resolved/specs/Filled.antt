@@ -6,7 +6,7 @@ use mathlib.Core.Path.{_≡_, sym, ap, _∙_, subst}
 use mathlib.Core.List.{List, [], _∷_, _++_, map, map-append, append-assoc}
 use lib.ListN.{length, getD, take, drop, set, replicate, length-append, drop-of-length-le, List·getD-append}
 use lib.Seq.{set-at, take-at, take-suc, drop-cons}
-use Rattle.rules.specs.declared.Port.{Port}
+use Rattle.rules_types.specs.declared.Port.{Port}
 use Rattle.rules.specs.Holds.{port}
 use Rattle.rules.specs.Ports.{pairs, flat}
 use Rattle.ports.specs.Places.{length-flat, pairs-flat, flat-append, flat-get}

@@ -6,7 +6,7 @@ use lib.Dec.{eqb}
 use lib.ListN.{length, take}
 use Rattle.rules.specs.Basics.{pick, any}
 use Rattle.rules.specs.Limits.{maxDependencyKeys, maxProvisionKeys, maxDependencies}
-use Rattle.rules.specs.declared.Port.{Port}
+use Rattle.rules_types.specs.declared.Port.{Port}
 use Rattle.rules.specs.Ports.{resolveIn, flat}
 use Rattle.ports_resolved.specs.declared.Claimed.{Claimed}
 use Rattle.ports_resolved.specs.declared.Turn.{Turn}

@@ -4,7 +4,7 @@ use native.Mathlib.Omega.{arith}
 use mathlib.Core.Path.{_≡_, refl, sym, ap, _∙_}
 use mathlib.Core.List.{List, [], _∷_, _++_, append-assoc, append-nil}
 use lib.ListN.{length, set, take, length-append, length-map, length-take}
-use Rattle.rules.specs.declared.Port.{Port}
+use Rattle.rules_types.specs.declared.Port.{Port}
 use Rattle.rules.specs.Ports.{resolveIn, flat}
 use Rattle.rules.specs.Limits.{maxDependencyKeys}
 use Rattle.ports_resolved.specs.Filled.{filled, Lists, lists-more}

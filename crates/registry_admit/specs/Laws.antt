@@ -8,8 +8,8 @@ use mathlib.Core.List.{List, []}
 use lib.Dec.{eqb}
 use borrow.Author.Tests.{eq-eqb, ne-eqb, eqb-true}
 use Rattle.rules.specs.Holds.{Plugin, isLoading, withRoot}
-use Rattle.rules.specs.declared.Root.{Root}
-use Rattle.rules.specs.declared.Root.the-variants.{Queued, Spent}
+use Rattle.rules_types.specs.declared.Root.{Root}
+use Rattle.rules_types.specs.declared.Root.the-variants.{Queued, Spent}
 use Rattle.rules.specs.Refusals.{Refusal, number, Unknown, Retired, InvalidState, Stale}
 use Rattle.rules.specs.Outcomes.{Refused, Accepted, Outcome, refuses, stores, checked, answerOf, Meets}
 use Rattle.rules.specs.Phases.{setup}

@@ -6,7 +6,7 @@ use native.Mathlib.Omega.{arith}
 use mathlib.Core.Path.{_≡_, sym, ap, _∙_}
 use mathlib.Core.Bool.{true, false, _||_, or-true, or-comm}
 use mathlib.Core.List.{List, [], _∷_, _++_}
-use Rattle.rules.specs.declared.Port.{Port}
+use Rattle.rules_types.specs.declared.Port.{Port}
 use Rattle.rules.specs.Holds.{plugins, provided, provides, samePort, isIn}
 use Rattle.rules.specs.Registration.{repeats}
 use Rattle.rules.specs.Conditions.{claims, portsDiffer}

@@ -6,7 +6,7 @@ use mathlib.Core.Bool.{Bool, true, false, _&&_, true≢false}
 use mathlib.Core.List.{List, _∷_, _++_}
 use lib.ListN.{length}
 use borrow.Author.Tests.{eqb-true}
-use Rattle.rules.specs.declared.Port.{Port}
+use Rattle.rules_types.specs.declared.Port.{Port}
 use Rattle.rules.specs.Holds.{samePort, isIn}
 use Rattle.rules.specs.Registration.{repeats}
 use Rattle.rules_laws.specs.Laws.Tests.{by-test, both}

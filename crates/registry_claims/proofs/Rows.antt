@@ -6,7 +6,7 @@ use mathlib.Core.Path.{_≡_, sym, ap, _∙_, subst}
 use mathlib.Core.Bool.{Bool, true, false, _&&_, true≢false}
 use mathlib.Core.List.{List, _∷_, _++_, append-assoc}
 use lib.ListN.{length, getD, take, drop, take-append-drop}
-use Rattle.rules.specs.declared.Port.{Port}
+use Rattle.rules_types.specs.declared.Port.{Port}
 use Rattle.rules.specs.Holds.{port, isIn}
 use Rattle.rules.specs.Ports.{pairs}
 use Rattle.rules.specs.Registration.{repeats}

@@ -5,7 +5,7 @@ use mathlib.Core.Bool.{Bool, true, false}
 use mathlib.Core.List.{List}
 use lib.ListN.{length}
 use Rattle.rules.specs.Holds.{held, isIn}
-use Rattle.rules.specs.declared.Port.{Port}
+use Rattle.rules_types.specs.declared.Port.{Port}
 use Rattle.rules.specs.Registration.{repeats}
 use Rattle.rules.specs.Conditions.{claimsOf}
 use Rattle.memory.specs.Layout.{places}

@@ -6,7 +6,7 @@ use mathlib.Core.List.{List, []}
 use lib.Dec.{leb}
 use lib.ListN.{length, drop}
 use Rattle.rules.specs.Basics.{all, isSome, orNone}
-use Rattle.rules.specs.declared.Port.{Port}
+use Rattle.rules_types.specs.declared.Port.{Port}
 use Rattle.rules.specs.Holds.{Realms, lookup}
 use Rattle.rules.specs.Ports.{pairs, badRealms, realmList, realmsOf}
 use Rattle.rules.specs.Registration.{parentOf, inheritedFrom}

@@ -8,7 +8,7 @@ use lib.Dec.{leb}
 use lib.ListN.{length}
 use borrow.Author.Tests.{le-leb, le-ltb}
 use Rattle.rules.specs.Basics.{all}
-use Rattle.rules.specs.declared.Port.{Port}
+use Rattle.rules_types.specs.declared.Port.{Port}
 use Rattle.rules.specs.Holds.{Realms, Registry}
 use Rattle.rules.specs.Ports.{pairs, oddLength, rising, badRealms, rowsIn, realmList, realmsOf}
 use Rattle.rules.specs.Conditions.{resolvedIn}

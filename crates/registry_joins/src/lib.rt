@@ -38,7 +38,8 @@ pub fn ports_fit(
     provisions: &[u64],
     dependencies: &[u64],
 ) -> bool
-    ensures { λ r. ⌜ r ≡ lentFit (view (now (m .entry))) (parentId parent) anchor (now (realms .entry)) (now (provisions .entry)) (now (dependencies .entry)) ⌝ }
+    ensures { λ r. ⌜ r ≡ lentFit (view (now (m .entry))) (parentId parent) anchor
+        (now (realms .entry)) (now (provisions .entry)) (now (dependencies .entry)) ⌝ }
 {
     if ports_realms::bad_realms(ports_realms::rows(realms)) {
         return false;

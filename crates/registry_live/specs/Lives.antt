@@ -10,9 +10,9 @@ use Rattle.rules.specs.Holds.{isLoading}
 use Rattle.rules.specs.Refusals.{number, Retired, InvalidState, Stale}
 use Rattle.rules.specs.Outcomes.{firstNumber}
 use Rattle.rules.specs.Admission.{isUnissued, isQueued, admissionChecks}
-use Rattle.rules.specs.declared.Phase.{Phase}
-use Rattle.rules.specs.declared.Root.{Root}
-use Rattle.rules.specs.declared.Root.the-variants.{Queued}
+use Rattle.rules_types.specs.declared.Phase.{Phase}
+use Rattle.rules_types.specs.declared.Root.{Root}
+use Rattle.rules_types.specs.declared.Root.the-variants.{Queued}
 use Rattle.memory.specs.declared.Life.{Life}
 
 -- Loading, and of this generation

@@ -8,10 +8,10 @@ use lib.ListN.{length}
 use mir.Val.{boolByte}
 use Rattle.rules.specs.Basics.{pick, isSome, orElse, yesNo}
 use Rattle.rules.specs.Limits.{maxRealmRows, maxDependencies}
-use Rattle.rules.specs.declared.Port.{Port}
-use Rattle.rules.specs.declared.Edition.{Edition}
-use Rattle.rules.specs.declared.Root.{Root}
-use Rattle.rules.specs.declared.Root.the-variants.{Unissued, Queued, Spent}
+use Rattle.rules_types.specs.declared.Port.{Port}
+use Rattle.rules_types.specs.declared.Edition.{Edition}
+use Rattle.rules_types.specs.declared.Root.{Root}
+use Rattle.rules_types.specs.declared.Root.the-variants.{Unissued, Queued, Spent}
 use Rattle.rules.specs.Holds.{Plugin, Registry, provided, editionNumber, defaultOf}
 use Rattle.rules.specs.Ports.{oddLength, flat, realmNumbers}
 use Rattle.rules.specs.Queries.{phaseNumber}

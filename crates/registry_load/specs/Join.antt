@@ -8,10 +8,10 @@ use mathlib.Core.List.{List, [], _∷_}
 use mathlib.Core.Option.{Option}
 use lib.ListN.{length, getD, take, drop, length-drop}
 use lib.Seq.{take-all}
-use Rattle.rules.specs.declared.Port.{Port}
-use Rattle.rules.specs.declared.Edition.{Edition}
+use Rattle.rules_types.specs.declared.Port.{Port}
+use Rattle.rules_types.specs.declared.Edition.{Edition}
 use Rattle.rules.specs.Holds.{port, Plugin, Registry, rowsOf}
-use Rattle.rules.specs.Ports.{pairs, flat, realmList, realmNumbers}
+use Rattle.rules.specs.Ports.{pairs, flat, rowsIn, realmList, realmNumbers}
 use Rattle.rules.specs.Conditions.{claims}
 use Rattle.rules.specs.Load.{unqueued}
 use Rattle.rules_laws.specs.Laws.Realms.{realm-list-back}
@@ -75,16 +75,18 @@ module _ (r : Registry) (b : Block) (realms dependencies claims : List ℕ) (fro
 
 unfoldable pub blockPut : List ℕ → Block → (realms dependencies claims values : List ℕ) → (place rows next : ℕ) → List ℕ
 blockPut w b realms dependencies claims values place rows next =
-    loadedPlace w place (entryOf b (realmList (realmsIn b realms) .edition) rows next) (decoded (loadedLife b)) (drop 2 (realmsIn b realms))
+    loadedPlace w place (entryOf b (realmList (realmsIn b realms) .edition) rows next) (decoded (loadedLife b)) (rowsIn (realmsIn b realms))
     (neededIn b dependencies) (claimedIn b claims) (b .mask) (take (b .provisions) values)
 
 -- what is in use then
 abbrev pub joinedBy : Block → ℕ → Joined
 joinedBy b rows = record { next = b .next; rows = rows + b .dependencies + b .provisions + 1; from = b .id + 1 }
 
-pub put-by : (w : List ℕ) (b : Block) (realms dependencies claims values : List ℕ) (place rows next : ℕ) {l : List ℕ} {o : Edition} {e : Entry} {life : Life} {r d c v w′ : List ℕ}
-    → l ≡ realmsIn b realms → o ≡ realmList l .edition → e ≡ entryOf b o rows next → life ≡ decoded (loadedLife b) → r ≡ drop 2 l
-    → d ≡ neededIn b dependencies → c ≡ claimedIn b claims → v ≡ take (b .provisions) values → w′ ≡ loadedPlace w place e life r d c (b .mask) v → w′ ≡ blockPut w b realms dependencies claims values place rows next
+pub put-by : (w : List ℕ) (b : Block) (realms dependencies claims values : List ℕ) (place rows next : ℕ)
+    {l : List ℕ} {o : Edition} {e : Entry} {life : Life} {r d c v w′ : List ℕ}
+    → l ≡ realmsIn b realms → o ≡ realmList l .edition → e ≡ entryOf b o rows next → life ≡ decoded (loadedLife b) → r ≡ rowsIn l
+    → d ≡ neededIn b dependencies → c ≡ claimedIn b claims → v ≡ take (b .provisions) values
+    → w′ ≡ loadedPlace w place e life r d c (b .mask) v → w′ ≡ blockPut w b realms dependencies claims values place rows next
 unfolding blockPut
 put-by w b realms dependencies claims values place rows next listed o e l r d c v put = put ∙ rw (e, l, r, d, c, v, o, listed)
 

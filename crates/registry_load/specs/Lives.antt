@@ -10,10 +10,10 @@ use borrow.Author.Tests.{eqb-true, eqb-false, ltb-true, ltb-false, leb-false, le
 use Rattle.rules_laws.specs.Laws.Tests.{by-test}
 use Rattle.rules.specs.Basics.{pick, any, all, every, isNone, _⊃_}
 use Rattle.rules.specs.Limits.{maxRows, maxRealmRows, maxDependencies, maxProvisionKeys}
-use Rattle.rules.specs.declared.Phase.{Phase}
-use Rattle.rules.specs.declared.Phase.the-variants.{Idle, Loading, Active, Unloading}
-use Rattle.rules.specs.declared.Root.{Root}
-use Rattle.rules.specs.declared.Root.the-variants.{Unissued, Queued, Spent}
+use Rattle.rules_types.specs.declared.Phase.{Phase}
+use Rattle.rules_types.specs.declared.Phase.the-variants.{Idle, Loading, Active, Unloading}
+use Rattle.rules_types.specs.declared.Root.{Root}
+use Rattle.rules_types.specs.declared.Root.the-variants.{Unissued, Queued, Spent}
 use Rattle.rules.specs.Holds.{Provision, Plugin, isIdle, isActive, rowsOf}
 use Rattle.rules.specs.Phases.{isSpent}
 use Rattle.rules.specs.Admission.{isUnissued}

@@ -6,7 +6,7 @@ use mathlib.Core.Bool.{Bool, true, false, _||_}
 use mathlib.Core.List.{List, _∷_}
 use Rattle.rules.specs.Basics.{all}
 use Rattle.rules.specs.Holds.{isActive, isLoading}
-use Rattle.rules.specs.declared.Port.{Port}
+use Rattle.rules_types.specs.declared.Port.{Port}
 use Rattle.rules.specs.Phases.{available}
 use Rattle.rules.specs.Ports.{pairs}
 use Rattle.memory.specs.Layout.{depPart, places}

@@ -4,7 +4,7 @@ use mathlib.Core.Bool.{Bool, _&&_}
 use mathlib.Core.List.{List}
 use Rattle.rules.specs.Basics.{any}
 use Rattle.rules.specs.Holds.{Plugin, provides, running}
-use Rattle.rules.specs.declared.Port.{Port}
+use Rattle.rules_types.specs.declared.Port.{Port}
 use Rattle.memory.specs.View.{pluginAt}
 
 -- the plugin of a place provides one of the ports

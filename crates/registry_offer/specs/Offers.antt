@@ -7,9 +7,9 @@ use mathlib.Core.Bool.{Bool, true, false, not, _&&_}
 use mathlib.Core.List.{List, []}
 use Rattle.rules.specs.Basics.{isSome}
 use Rattle.rules.specs.Holds.{Provision, provided, isIn, isLoading}
-use Rattle.rules.specs.declared.Port.{Port}
-use Rattle.rules.specs.declared.Phase.{Phase}
-use Rattle.rules.specs.declared.Phase.the-variants.{Loading}
+use Rattle.rules_types.specs.declared.Port.{Port}
+use Rattle.rules_types.specs.declared.Phase.{Phase}
+use Rattle.rules_types.specs.declared.Phase.the-variants.{Loading}
 use Rattle.rules.specs.Refusals.{Refusal, number, Unknown, Closed, Undeclared, Duplicate}
 use Rattle.rules.specs.Outcomes.{Answer, Refused, Accepted, refuses, stores, checked, answerOf}
 use Rattle.rules.specs.Ports.{pairs}
@@ -26,7 +26,7 @@ use Rattle.memory_lists.specs.Listed.{provided-at}
 use Rattle.memory_life.specs.Told.{life-found}
 use Rattle.ports.specs.declared.Found.{Found}
 use Rattle.ports.specs.declared.Found.the-variants as found
-use Rattle.rules.specs.declared.Optional.{Optional}
+use Rattle.rules_types.specs.declared.Optional.{Optional}
 use Rattle.rules.specs.Answers.{optionOf}
 use Rattle.memory_values.specs.Values.{portFrom, withValue}
 use Rattle.memory_values.specs.Firsts.{port-there, port-nothing, port-below, provisions-at, value-there}

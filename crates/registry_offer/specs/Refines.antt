@@ -11,7 +11,7 @@ use lib.Seq.{getD-set-other}
 use borrow.Author.Tests.{eq-eqb, ne-eqb, eqb-true, eqb-false, not-false}
 use Rattle.rules.specs.Basics.{pick, isSome}
 use Rattle.rules.specs.Holds.{provided, isIn}
-use Rattle.rules.specs.declared.Port.{Port}
+use Rattle.rules_types.specs.declared.Port.{Port}
 use Rattle.rules.specs.Refusals.{Refusal, Unknown}
 use Rattle.rules.specs.Outcomes.{Outcome, refuses, stores, after, storedAt}
 use Rattle.rules.specs.Ports.{pairs}

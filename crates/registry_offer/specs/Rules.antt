@@ -4,7 +4,7 @@ use mathlib.Core.Bool.{Bool, not, _&&_}
 use mathlib.Core.List.{List, [], _∷_, map}
 use Rattle.rules.specs.Basics.{isSome}
 use Rattle.rules.specs.Holds.{Plugin, provided, isIn, isLoading, withProvisions}
-use Rattle.rules.specs.declared.Port.{Port}
+use Rattle.rules_types.specs.declared.Port.{Port}
 use Rattle.rules.specs.Refusals.{Closed, Undeclared, Duplicate}
 use Rattle.rules.specs.Outcomes.{Outcome, stores, Check, _⇒_, checked}
 use Rattle.rules.specs.Values.{valueIn, offered}

@@ -6,9 +6,9 @@ use mathlib.Core.List.{List, [], _∷_}
 use mathlib.Core.Option.{Option}
 use lib.ListN.{getD}
 use Rattle.rules.specs.Basics.{yesNo, one}
-use Rattle.rules.specs.declared.Port.{Port}
-use Rattle.rules.specs.declared.Phase.{Phase}
-use Rattle.rules.specs.declared.Edition.{Edition}
+use Rattle.rules_types.specs.declared.Port.{Port}
+use Rattle.rules_types.specs.declared.Phase.{Phase}
+use Rattle.rules_types.specs.declared.Edition.{Edition}
 use Rattle.rules.specs.Holds.{port, Plugin, editionNumber, defaultOf}
 use Rattle.rules.specs.Outcomes.{Answer, Refused, Accepted, answerOf, lentAfter}
 use Rattle.rules.specs.Ports.{pairs, flat, realmList}

@@ -7,7 +7,7 @@ use Rattle.rules.specs.Outcomes.{Answer, Refused, Accepted}
 use Rattle.rules.specs.Ports.{flat}
 use Rattle.rules.specs.Queries.{rootNumbers}
 use Rattle.rules.specs.Holds.{editionNumber, defaultOf}
-use Rattle.rules.specs.declared.Edition.the-variants.{First, Second}
+use Rattle.rules_types.specs.declared.Edition.the-variants.{First, Second}
 use Rattle.registry_queries.specs.declared.Perhaps.{Perhaps}
 use Rattle.registry_queries.specs.declared.Perhaps.the-variants as perhaps
 use Rattle.registry_queries.specs.declared.PortAnswer.{PortAnswer}

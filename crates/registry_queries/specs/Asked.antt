@@ -2,10 +2,9 @@
 use Prim.Native.Nat.{ℕ}
 use mathlib.Core.Path.{_≡_, refl, _∙_}
 use mathlib.Core.List.{List, []}
-use lib.ListN.{drop}
 use Rattle.rules.specs.Refusals.{Unknown}
 use Rattle.rules.specs.Outcomes.{refuses, answers}
-use Rattle.rules.specs.Ports.{pairs, realmList}
+use Rattle.rules.specs.Ports.{pairs, rowsIn, realmList}
 use Rattle.rules.specs.Queries.{Field, fieldOf, askPlugin}
 use Rattle.rules.specs.Dependencies.{firstPort, dependencyPort}
 use Rattle.rules.specs.Lists.{Which, Dependencies, Provisions, RealmRows, listOf, listing, list}
@@ -20,7 +19,7 @@ use Rattle.memory_lists.specs.Listed.{provided-at}
 abbrev pub partOf : Which → List ℕ → ℕ → List ℕ
 partOf Dependencies m i = depPart m i
 partOf Provisions m i = provPart m i
-partOf RealmRows m i = drop 2 (realmPart m i)
+partOf RealmRows m i = rowsIn (realmPart m i)
 
 pub list-at : (w : Which) (m : List ℕ) (i : ℕ) → listOf w (pluginAt m i) ≡ pairs (partOf w m i)
 unfolding pluginAt realmList

@@ -7,8 +7,8 @@ use mathlib.Core.Option.{none, some}
 use lib.ListN.{set}
 use Rattle.rules.specs.Basics.{any, isNone}
 use Rattle.rules.specs.Holds.{Provision, Plugin, withProvisions, withRoot}
-use Rattle.rules.specs.declared.Phase.{Phase}
-use Rattle.rules.specs.declared.Root.the-variants.{Unissued}
+use Rattle.rules_types.specs.declared.Phase.{Phase}
+use Rattle.rules_types.specs.declared.Root.the-variants.{Unissued}
 use Rattle.rules.specs.Refusals.{Refusal, number, Retired, InvalidState, NotRun, Missing}
 use Rattle.rules.specs.Ports.{pairs}
 use Rattle.rules.specs.Outcomes.{Refused, Accepted, Outcome, refuses, stores, checked, answerOf}

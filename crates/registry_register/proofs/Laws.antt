@@ -10,7 +10,7 @@ use lib.ListN.{length, take, drop}
 use lib.Seq.{take-all}
 use borrow.Author.Tests.{eqb-false}
 use Rattle.rules.specs.Basics.{last}
-use Rattle.rules.specs.declared.Edition.{Edition}
+use Rattle.rules_types.specs.declared.Edition.{Edition}
 use Rattle.rules.specs.Holds.{rowsInUse}
 use Rattle.rules.specs.Ports.{realmList}
 use Rattle.rules.specs.Outcomes.{Refused, Accepted}
@@ -23,8 +23,8 @@ use Rattle.memory_places.specs.Free.{free-at, count-full}
 use Rattle.memory_entry.specs.Entries.{filledPlace}
 use Rattle.memory_entry.specs.declared.Entry.{Entry}
 use Rattle.rules.specs.Registration.{roomChecks}
-use Rattle.rules.specs.declared.Done.{Done}
-use Rattle.rules.specs.declared.Done.the-variants as done
+use Rattle.rules_types.specs.declared.Done.{Done}
+use Rattle.rules_types.specs.declared.Done.the-variants as done
 use Rattle.rules.specs.Answers.{verdict}
 use Rattle.rules_laws.specs.Laws.Verdicts.{passes}
 use Rattle.registry_register.specs.Written.{newEntry, lateVerdict, settledAnswer, settledWords}

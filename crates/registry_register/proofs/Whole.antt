@@ -9,7 +9,7 @@ use lib.ListN.{length, take, drop, length-drop, length-map}
 use lib.Seq.{take-all}
 use borrow.Author.Tests.{ltb-false, lt-ltb, leb-true, leb-false}
 use Rattle.rules.specs.Holds.{Registry, provided, rowsOf, rowsInUse}
-use Rattle.rules.specs.declared.Port.{Port}
+use Rattle.rules_types.specs.declared.Port.{Port}
 use Rattle.rules.specs.Ports.{pairs, flat, badRealms, realmList, realmsOf}
 use Rattle.rules.specs.Dependencies.{dependencyList}
 use Rattle.rules.specs.Outcomes.{Refused, adds, answerOf}
@@ -39,8 +39,8 @@ use Rattle.ports_resolved.specs.Answers.{map-resolve, claims-law}
 use Rattle.ports_inherited.specs.declared.Dependencies.{Dependencies}
 use Rattle.ports_inherited.specs.Blocks.{fitted}
 use Rattle.ports_inherited.specs.Answers.{dependency-law, fitted-law, fitted-long}
-use Rattle.rules.specs.declared.Done.{Done}
-use Rattle.rules.specs.declared.Done.the-variants as done
+use Rattle.rules_types.specs.declared.Done.{Done}
+use Rattle.rules_types.specs.declared.Done.the-variants as done
 use Rattle.registry_register.specs.declared.checks.Early.{Early}
 use Rattle.registry_register.specs.declared.checks.Early.the-variants as early
 use Rattle.rules.specs.Answers.{verdict}
@@ -49,7 +49,7 @@ use Rattle.registry_register.specs.Verdicts.{under, placeAbove}
 use Rattle.registry_register.specs.Runs.{under-passed, under-refused, asks, claims, room, early-refuses, claims-refuse, late-refuses, all-pass}
 use Rattle.registry_register.specs.Parts.{dependenciesAt, claimsIn, listIn}
 use Rattle.registry_register.specs.Written.{definition, newEntry, writtenAt, addedTo, lateVerdict, settledAnswer, settledWords}
-use Rattle.rules.specs.declared.Number.{Number}
+use Rattle.rules_types.specs.declared.Number.{Number}
 use Rattle.rules.specs.Answers.{numberAnswer}
 
 -- a list that is too long is refused by its count too
@@ -136,7 +136,8 @@ module _ (m : List ℕ) (parent : Parent) (anchor : Port) (zs ks vs : List ℕ) 
         pub claims-told : (n : ℕ) → t ≡ done.Refused n → (Refused n [] ≡ answerOf (register r d)) × (m ≡ addedTo m (register r d))
         claims-told n z = refused n (claims-refuse r d e n (sym taken ∙ z))
 
-        module _ (free : t ≡ done.Accepted) (l : Dependencies) (listed : l ≡ listIn m above anchor zs ks cw) (dw : List ℕ) (first : dw ≡ take (l .count * 2) (l .ports)) where
+        module _ (free : t ≡ done.Accepted) (l : Dependencies) (listed : l ≡ listIn m above anchor zs ks cw)
+            (dw : List ℕ) (first : dw ≡ take (l .count * 2) (l .ports)) where
           none-taken : verdict (claims r d) ≡ done.Accepted
           none-taken = sym taken ∙ free
 

@@ -5,7 +5,7 @@ use mathlib.Core.Option.{Option}
 use lib.ListN.{length, take}
 use Rattle.rules.specs.Basics.{orElse, isSome, yesNo}
 use Rattle.rules.specs.Limits.{maxDependencyKeys}
-use Rattle.rules.specs.declared.Port.{Port}
+use Rattle.rules_types.specs.declared.Port.{Port}
 use Rattle.rules.specs.Ports.{pairs}
 use Rattle.rules.specs.Dependencies.{dependencyList}
 use Rattle.ports_realms.specs.Halving.{reachedIn}

@@ -9,8 +9,8 @@ use Rattle.rules.specs.Registration.{Definition, claimed, dependenciesOf, newPl
 use Rattle.rules_laws.specs.Laws.Verdicts.{RefusesWith, verdict-first, verdict-then, checked-pass, checked-refuses}
 use Rattle.rules.specs.Answers.{verdict}
 use Rattle.memory.specs.declared.Place.{Place}
-use Rattle.rules.specs.declared.Done.{Done}
-use Rattle.rules.specs.declared.Done.the-variants.{Accepted, Refused}
+use Rattle.rules_types.specs.declared.Done.{Done}
+use Rattle.rules_types.specs.declared.Done.the-variants.{Accepted, Refused}
 use Rattle.registry_register.specs.declared.checks.Early.the-variants as early
 use Rattle.registry_register.specs.Verdicts.{under}
 

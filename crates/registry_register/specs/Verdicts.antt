@@ -8,8 +8,8 @@ use Rattle.memory.specs.declared.Parent.{Parent}
 use Rattle.memory.specs.declared.Parent.the-variants as parent
 use Rattle.memory.specs.declared.Place.{Place}
 use Rattle.memory.specs.declared.Place.the-variants.{None}
-use Rattle.rules.specs.declared.Done.{Done}
-use Rattle.rules.specs.declared.Done.the-variants as done
+use Rattle.rules_types.specs.declared.Done.{Done}
+use Rattle.rules_types.specs.declared.Done.the-variants as done
 use Rattle.registry_register.specs.declared.checks.Early.{Early}
 use Rattle.registry_register.specs.declared.checks.Early.the-variants as early
 

@@ -5,8 +5,8 @@ use mathlib.Core.List.{List, [], _∷_}
 use mathlib.Core.Option.{Option}
 use lib.ListN.{length}
 use Rattle.rules.specs.Holds.{Plugin, provided, rowsInUse, editionNumber, defaultOf}
-use Rattle.rules.specs.declared.Port.{Port}
-use Rattle.rules.specs.declared.Edition.{Edition}
+use Rattle.rules_types.specs.declared.Port.{Port}
+use Rattle.rules_types.specs.declared.Edition.{Edition}
 use Rattle.rules.specs.Ports.{flat, rowsIn, realmList}
 use Rattle.rules.specs.Outcomes.{Answer, Refused, Accepted, Outcome}
 use Rattle.rules.specs.Registration.{Definition, roomChecks}
@@ -22,8 +22,8 @@ use Rattle.memory_entry.specs.Entries.{filledPlace}
 use Rattle.memory_entry.specs.Filled.{filled-size}
 use Rattle.memory_entry.specs.declared.Entry.{Entry}
 use Rattle.rules.specs.Answers.{verdict}
-use Rattle.rules.specs.declared.Done.{Done}
-use Rattle.rules.specs.declared.Done.the-variants as done
+use Rattle.rules_types.specs.declared.Done.{Done}
+use Rattle.rules_types.specs.declared.Done.the-variants as done
 use Rattle.registry_register.specs.Parts.{tagOf, wordOf}
 
 -- the rules' definition of what is lent

@@ -18,8 +18,8 @@ use Rattle.memory.specs.declared.Life.{Life}
 use Rattle.memory.specs.declared.Place.the-variants.{At, None}
 use Rattle.memory.specs.Layout.{places}
 use Rattle.memory_rows.specs.Moves.{freedPlace}
-use Rattle.rules.specs.declared.Done.{Done}
-use Rattle.rules.specs.declared.Done.the-variants as done
+use Rattle.rules_types.specs.declared.Done.{Done}
+use Rattle.rules_types.specs.declared.Done.the-variants as done
 use Rattle.rules.specs.Answers.{doneAnswer}
 use Rattle.registry_remove.specs.Words.{removedFrom}
 

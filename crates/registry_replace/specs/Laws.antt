@@ -24,7 +24,7 @@ use Rattle.registry_replace.specs.Words.{replacing, replacedIn, replaced
 use Rattle.registry_replace.specs.Records.{changeOf, was-last, not-last, recordOf, fitsBehind, fits-sum}
 use Rattle.registry_replace.specs.declared.Change.{Change}
 use Rattle.registry_replace.specs.declared.Replaced.the-variants as replaced
-use Rattle.rules.specs.declared.Whether.the-variants as whether
+use Rattle.rules_types.specs.declared.Whether.the-variants as whether
 use Rattle.rules.specs.Answers.{whetherAnswer}
 
 -- what a replacement comes to once the plugin is found

@@ -8,8 +8,8 @@ use mathlib.Core.Option.{Option, none, some}
 use lib.Dec.{eqb}
 use borrow.Author.Tests.{eq-eqb, ne-eqb}
 use Rattle.rules.specs.Basics.{all, last}
-use Rattle.rules.specs.Generations.{nextGeneration}
-use Rattle.rules.specs.declared.Phase.{Phase}
+use Rattle.rules_types.specs.Generations.{nextGeneration}
+use Rattle.rules_types.specs.declared.Phase.{Phase}
 use Rattle.rules.specs.Refusals.{Retired, InvalidState, Exhausted, Unavailable, InUse}
 use Rattle.rules.specs.Outcomes.{Accepted, refuses, stores, checked, Meets}
 use Rattle.rules.specs.Ports.{pairs}

@@ -4,7 +4,7 @@ use mathlib.Core.Path.{_≡_, refl, ap}
 use mathlib.Core.Option.{Option, none, some}
 use lib.Dec.{eqb}
 use Rattle.rules.specs.Basics.{pick}
-use Rattle.rules.specs.declared.Phase.{Phase}
+use Rattle.rules_types.specs.declared.Phase.{Phase}
 use Rattle.rules.specs.Phases as rules
 use Rattle.memory.specs.View.{phaseOf}
 use Rattle.registry_table.specs.declared.Step.{Step}

@@ -8,7 +8,7 @@ use mathlib.Core.Option.{Option}
 use lib.ListN.{getD}
 use Rattle.rules.specs.Basics.{yesNo, one}
 use Rattle.rules.specs.Holds.{port, Provision, Plugin, provider, provided, isIn, isLoading, isActive, running}
-use Rattle.rules.specs.declared.Port.{Port}
+use Rattle.rules_types.specs.declared.Port.{Port}
 use Rattle.rules.specs.Refusals.{Refusal, number, Unknown, Closed, Undeclared, Missing}
 use Rattle.rules.specs.Outcomes.{Answer, Refused, Accepted, Outcome, refuses, answers, checked, known, answerOf}
 use Rattle.rules.specs.Ports.{pairs, flat, oddLength, samePorts}
@@ -25,8 +25,8 @@ use Rattle.memory_lists.specs.Listed.{provided-at}
 use Rattle.memory_providers.specs.Providers.{providerAt, provider-view, provider-below}
 use Rattle.ports.specs.declared.Found.{Found}
 use Rattle.ports.specs.declared.Found.the-variants as found
-use Rattle.rules.specs.declared.Optional.{Optional}
-use Rattle.rules.specs.declared.Optional.the-variants as optional
+use Rattle.rules_types.specs.declared.Optional.{Optional}
+use Rattle.rules_types.specs.declared.Optional.the-variants as optional
 use Rattle.rules.specs.Answers.{optionOf}
 use Rattle.memory_values.specs.Values.{lackFrom}
 use Rattle.memory_values.specs.Firsts.{provisions-at, lack-nothing, lack-answer}

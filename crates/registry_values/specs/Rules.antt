@@ -4,7 +4,7 @@ use mathlib.Core.Bool.{Bool, not, _&&_, _||_}
 use mathlib.Core.List.{List, [], _∷_}
 use Rattle.rules.specs.Basics.{yesNo, one}
 use Rattle.rules.specs.Holds.{Plugin, Registry, provider, provided, isIn, running}
-use Rattle.rules.specs.declared.Port.{Port}
+use Rattle.rules_types.specs.declared.Port.{Port}
 use Rattle.rules.specs.Refusals.{number, Closed, Undeclared, Missing}
 use Rattle.rules.specs.Outcomes.{Answer, Refused, Accepted, Outcome, answers, Check, _⇒_, checked}
 use Rattle.rules.specs.Ports.{pairs, oddLength, samePorts}

@@ -6,14 +6,14 @@ use mathlib.Core.Option.{Option, none, some}
 use Rattle.rules.specs.Basics.{pick, one}
 use Rattle.rules.specs.Refusals as refusal
 use Rattle.rules.specs.Outcomes.{Answer, Refused, Accepted, Check}
-use Rattle.rules.specs.declared.Done.{Done}
-use Rattle.rules.specs.declared.Done.the-variants as done
-use Rattle.rules.specs.declared.Whether.{Whether}
-use Rattle.rules.specs.declared.Whether.the-variants as whether
-use Rattle.rules.specs.declared.Number.{Number}
-use Rattle.rules.specs.declared.Number.the-variants as number
-use Rattle.rules.specs.declared.Optional.{Optional}
-use Rattle.rules.specs.declared.Optional.the-variants as optional
+use Rattle.rules_types.specs.declared.Done.{Done}
+use Rattle.rules_types.specs.declared.Done.the-variants as done
+use Rattle.rules_types.specs.declared.Whether.{Whether}
+use Rattle.rules_types.specs.declared.Whether.the-variants as whether
+use Rattle.rules_types.specs.declared.Number.{Number}
+use Rattle.rules_types.specs.declared.Number.the-variants as number
+use Rattle.rules_types.specs.declared.Optional.{Optional}
+use Rattle.rules_types.specs.declared.Optional.the-variants as optional
 
 abbrev pub doneAnswer : Done → Answer
 doneAnswer done.Accepted = Accepted []

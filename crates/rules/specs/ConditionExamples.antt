@@ -5,11 +5,11 @@ use mathlib.Core.Bool.{true, false, not}
 use mathlib.Core.List.{List, [], _∷_, _++_, map}
 use mathlib.Core.Option.{Option, none, some}
 use lib.Dec.{eqb}
-use Rattle.rules.specs.declared.Port.{Port}
-use Rattle.rules.specs.declared.Phase.{Phase}
-use Rattle.rules.specs.declared.Phase.the-variants.{Idle, Loading, Active, Unloading}
-use Rattle.rules.specs.declared.Root.{Root}
-use Rattle.rules.specs.declared.Root.the-variants.{Unissued, Queued, Spent}
+use Rattle.rules_types.specs.declared.Port.{Port}
+use Rattle.rules_types.specs.declared.Phase.{Phase}
+use Rattle.rules_types.specs.declared.Phase.the-variants.{Idle, Loading, Active, Unloading}
+use Rattle.rules_types.specs.declared.Root.{Root}
+use Rattle.rules_types.specs.declared.Root.the-variants.{Unissued, Queued, Spent}
 use Rattle.rules.specs.Holds.{port, First, Provision, Plugin, changed, neverBegun, withRevision, withRetired}
 use Rattle.rules.specs.Ports.{resolve}
 use Rattle.rules.specs.Dependencies.{dependencyList}
@@ -92,9 +92,12 @@ family more =
     let child = heir 3 (some 2) 16 (parent .dependencies) in
     says (elder ∷ parent ∷ child ∷ heir 4 (some 3) more (child .dependencies) ∷ [])
 
--- 32 rows: 16 dependencies, 15 provisions and the anchor
-abbrev wide : ℕ → Plugin
-wide id = plugin id none (at 0 (from 10 16)) (at 0 (from (id * 32 + 3000) 15))
+-- 32 plugins: one of 17 rows, its 30 children of 33, and one with 15 provisions, which has 16 rows and so many dependencies
+abbrev crowd : ℕ → Said
+crowd dependencies =
+    let elder = heir 1 none 16 [] in
+    let children = map (λ id. heir id (some 1) 16 (elder .dependencies)) (from 2 30) in
+    says (elder ∷ children ++ plugin 32 none (at 0 (from 9 dependencies)) (at 0 (from 2000 15)) ∷ [])
 
 pub record Broken : Type 0 where
   -- 1: ids rise strictly, from first to below next
@@ -108,7 +111,7 @@ pub record Broken : Type 0 where
   pub unknown-parent : Breaks 2 (says (plugin 1 (some 0) [] [] ∷ []))
   -- 3, 4: the limits on plugins and rows, and on lists
   pub plugins : Breaks 3 (says (map alone (from 1 33)))
-  pub rows : Breaks 3 (says (map wide (from 1 31) ++ plugin 32 (some 1) (at 0 (from 9 17)) (at 0 (from 2000 15)) ∷ []))
+  pub rows : Breaks 3 (crowd 2)
   pub dependencies : Breaks 4 (family 1)
   pub provisions : Breaks 4 (says (giving (from 10 16) 1 ∷ []))
   pub realm-rows : Breaks 4 (says (within (at 1 (from 1 17)) ∷ []))
@@ -191,7 +194,7 @@ pub record Free : Type 0 where
   pub retired-parent : Loads (parental (withRetired true))
   pub unloading-parent : Loads (parental (lives Unloading Spent 1 none))
   pub full : Loads (says (map alone (from 1 32)))
-  pub rows : Loads (says (map wide (from 1 32)))
+  pub rows : Loads (crowd 1)
   pub dependencies : Loads (family 0)
   pub declared-16 : Loads (says (needing (from 10 16) 1 ∷ []))
   pub inherited : Loads (says (registered [] 1 none (at 0 (2 ∷ [])) [] ∷ plugin 2 (some 1) (port 2 0 ∷ port 2 5 ∷ []) [] ∷ []))

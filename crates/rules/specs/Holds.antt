@@ -5,26 +5,16 @@ use mathlib.Core.List.{List, [], _∷_, map}
 use mathlib.Core.Option.{Option, none, some}
 use lib.Dec.{eqb}
 use lib.ListN.{length}
-pub use Rattle.rules.specs.declared.Port.{Port}
-pub use Rattle.rules.specs.declared.Phase.{Phase}
-pub use Rattle.rules.specs.declared.Phase.the-variants.{Idle, Loading, Active, Unloading}
-pub use Rattle.rules.specs.declared.Root.{Root}
-pub use Rattle.rules.specs.declared.Root.the-variants.{Unissued, Queued, Spent}
-pub use Rattle.rules.specs.declared.Edition.{Edition}
-pub use Rattle.rules.specs.declared.Edition.the-variants.{First, Second}
+pub use Rattle.rules_types.specs.declared.Port.{Port}
+pub use Rattle.rules_types.specs.declared.Phase.{Phase}
+pub use Rattle.rules_types.specs.declared.Phase.the-variants.{Idle, Loading, Active, Unloading}
+pub use Rattle.rules_types.specs.declared.Root.{Root}
+pub use Rattle.rules_types.specs.declared.Root.the-variants.{Unissued, Queued, Spent}
+pub use Rattle.rules_types.specs.declared.Edition.{Edition}
+pub use Rattle.rules_types.specs.declared.Edition.the-variants.{First, Second}
+pub use Rattle.rules_types.specs.Kinds.{port, defaultRealm, neverBegun, editionNumber, defaultOf}
 use Rattle.rules.specs.Basics.{any, first}
 use Rattle.rules.specs.Limits.{maxPlugins}
-
--- A port is (key, realm).
-abbrev pub port : ℕ → ℕ → Port
-port k r = record { key = k; realm = r }
-
--- Realm 0 and generation 0 are named constants of their kinds.
-abbrev pub defaultRealm : ℕ
-defaultRealm = 0
-
-abbrev pub neverBegun : ℕ
-neverBegun = 0
 
 abbrev pub samePort : Port → Port → Bool
 samePort p q = eqb (p .key) (q .key) && eqb (p .realm) (q .realm)
@@ -65,15 +55,6 @@ pub record Realms : Type 0 where
 pub record RealmList : Type 0 where
   pub edition : Edition
   pub rows : List Port
-
-abbrev pub editionNumber : Edition → ℕ
-editionNumber First = 1
-editionNumber (Second d) = 2
-
--- Absent keys get realm 0 in edition 1, and in edition 2 the default realm that comes with the list.
-abbrev pub defaultOf : Edition → ℕ
-defaultOf First = defaultRealm
-defaultOf (Second d) = d
 
 -- Both editions are read as one table.
 abbrev pub tableOf : RealmList → Realms

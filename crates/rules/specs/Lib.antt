@@ -1,7 +1,6 @@
 pub mod Basics
 pub mod Limits
 pub mod Holds
-pub mod Generations
 pub mod Refusals
 pub mod Outcomes
 pub mod Answers

@@ -3,18 +3,12 @@ use Prim.Native.Nat.{ℕ}
 use mathlib.Core.List.{List, [], _∷_}
 use mathlib.Core.Option.{Option, none, some}
 use lib.Dec.{ltb, leb}
+pub use Rattle.rules_types.specs.Kinds.{phaseNumber}
 use Rattle.rules.specs.Basics.{pick, yesNo, one}
 use Rattle.rules.specs.Holds.{Plugin, Registry, plugins, count, rowsInUse}
 use Rattle.rules.specs.Holds.{Phase, Idle, Loading, Active, Unloading, Root, Unissued, Queued, Spent, editionNumber, defaultOf}
 use Rattle.rules.specs.Outcomes.{Outcome, answers, known}
 use Rattle.rules.specs.Ports.{flat}
-
--- phases in table order
-abbrev pub phaseNumber : Phase → ℕ
-phaseNumber Idle = 0
-phaseNumber Loading = 1
-phaseNumber Active = 2
-phaseNumber Unloading = 3
 
 -- 0 Unissued, 1 Queued with revision and argument, 2 Spent
 abbrev pub rootNumbers : Root → List ℕ

@@ -6,10 +6,10 @@ use mathlib.Core.List.{List, _∷_, map}
 use mathlib.Core.Option.{some}
 use lib.ListN.{length}
 use Rattle.rules.specs.Basics.{all, any, isNone, isSome, twice, last}
-use Rattle.rules.specs.declared.Port.{Port}
+use Rattle.rules_types.specs.declared.Port.{Port}
 use Rattle.rules.specs.Holds.{Provision, Plugin, Registry, plugins, provided, provides, running, lookup, rowsInUse, tableOf}
-use Rattle.rules.specs.declared.Phase.the-variants.{Idle, Active}
-use Rattle.rules.specs.declared.Root.the-variants.{Unissued, Queued, Spent}
+use Rattle.rules_types.specs.declared.Phase.the-variants.{Idle, Active}
+use Rattle.rules_types.specs.declared.Root.the-variants.{Unissued, Queued, Spent}
 use Rattle.rules.specs.Holds.{isIdle}
 use Rattle.rules.specs.Ports.{rising, resolve}
 use Rattle.rules.specs.Dependencies.{dependencyList}

@@ -13,7 +13,7 @@ use lib.Dec.{eqb}
 use lib.ListN.{length}
 use borrow.Author.Tests.{eqb-true, eqb-false, not-true}
 use Rattle.rules.specs.Basics.{all, sameNumbers}
-use Rattle.rules.specs.declared.Root.the-variants.{Queued, Spent}
+use Rattle.rules_types.specs.declared.Root.the-variants.{Queued, Spent}
 use Rattle.rules.specs.Holds.{Plugin, Registry, lookup, opened, withRoot}
 use Rattle.rules.specs.Refusals.{Retired, InvalidState, Stale}
 use Rattle.rules.specs.Outcomes.{Answer, Refused, Accepted, Outcome, stores, answerOf, _⇒_, checked, found}

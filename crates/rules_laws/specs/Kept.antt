@@ -21,8 +21,8 @@ use mathlib.Core.List.{List, [], _∷_, _++_}
 use mathlib.Core.Option.{some}
 use mathlib.Core.Logic.{_≢_}
 use Rattle.rules.specs.Basics.{last}
-use Rattle.rules.specs.declared.Port.{Port}
-use Rattle.rules.specs.declared.Root.the-variants.{Queued}
+use Rattle.rules_types.specs.declared.Port.{Port}
+use Rattle.rules_types.specs.declared.Root.the-variants.{Queued}
 use Rattle.rules.specs.Holds.{Plugin, Registry, opened, lookup, provides, rowsInUse}
 use Rattle.rules.specs.Outcomes.{Accepted, Outcome, tells, refusing, accepting, writes, stores, adds, removes, answerOf, after}
 use Rattle.rules.specs.Steps.{Op, Run, step, afterStep, goOn, goOnWith, run, runFresh}

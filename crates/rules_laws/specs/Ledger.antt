@@ -10,7 +10,7 @@ use lib.Dec.{eqb}
 use lib.ListN.{length, length-map, getD}
 use borrow.Author.Tests.{eqb-true, eq-eqb}
 use Rattle.rules.specs.Basics.{first, twice, sum, last}
-use Rattle.rules.specs.declared.Port.{Port}
+use Rattle.rules_types.specs.declared.Port.{Port}
 use Rattle.rules.specs.Holds.{Plugin, Registry, plugins, lookup, count, provider, opened, rowsOf, sumRows, rowsInUse}
 use Rattle.rules.specs.Outcomes.{Answer, Refused, Accepted, Outcome, tells, refusing, accepting, writes, stores, adds, removes, checked, found, answerOf, after}
 use Rattle.rules.specs.Ports.{badRealms, resolve, realmList, badEdition}

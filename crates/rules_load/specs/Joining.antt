@@ -6,7 +6,7 @@ use mathlib.Core.Option.{Option}
 use lib.Dec.{leb}
 use lib.ListN.{length}
 use Rattle.rules.specs.Basics.{all, isSome, orNone}
-use Rattle.rules.specs.declared.Port.{Port}
+use Rattle.rules_types.specs.declared.Port.{Port}
 use Rattle.rules.specs.Limits.{maxPlugins, maxRows, maxDependencyKeys}
 use Rattle.rules.specs.Holds.{Realms, tableOf, Plugin, Registry, provided, lookup, rowsOf, sumRows}
 use Rattle.rules.specs.Ports.{rising}

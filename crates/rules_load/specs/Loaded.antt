@@ -10,8 +10,8 @@ use mathlib.Core.Logic.{_≢_}
 use lib.Dec.{eqb, leb}
 use lib.ListN.{length}
 use borrow.Author.Tests.{eq-eqb, ne-eqb, leb-true}
-use Rattle.rules.specs.declared.Root.{Root}
-use Rattle.rules.specs.declared.Root.the-variants.{Unissued, Queued, Spent}
+use Rattle.rules_types.specs.declared.Root.{Root}
+use Rattle.rules_types.specs.declared.Root.the-variants.{Unissued, Queued, Spent}
 use Rattle.rules.specs.Basics.{twice, last}
 use Rattle.rules.specs.Limits.{maxPlugins, maxRows}
 use Rattle.rules.specs.Holds.{Plugin, Registry, plugins, opened, lookup, sumRows}

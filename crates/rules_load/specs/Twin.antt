@@ -8,7 +8,7 @@ use mathlib.Core.Option.{Option, none, some}
 use lib.Dec.{leb, ltb}
 use lib.ListN.{length}
 use borrow.Author.Tests.{lt-ltb, ltb-true, le-leb, leb-true, not-true}
-use Rattle.rules.specs.declared.Port.{Port}
+use Rattle.rules_types.specs.declared.Port.{Port}
 use Rattle.rules.specs.Basics.{all, orNone, isSome, twice}
 use Rattle.rules.specs.Limits.{maxPlugins, maxRows}
 use Rattle.rules.specs.Holds.{Plugin, Registry, plugins, provides, running, lookup, rowsInUse, sumRows, isActive}

@@ -8,7 +8,7 @@ use lib.Dec.{eqb}
 use borrow.Author.Tests.{eqb-true, not-true}
 use Rattle.rules.specs.Basics.{holds, yesNo}
 use Rattle.rules.specs.Holds.{Plugin, Registry, lookup, isLoading, withRoot}
-use Rattle.rules.specs.declared.Root.the-variants.{Queued, Spent}
+use Rattle.rules_types.specs.declared.Root.the-variants.{Queued, Spent}
 use Rattle.rules.specs.Outcomes.{Accepted, answerOf}
 use Rattle.rules.specs.Phases.{setup}
 use Rattle.rules.specs.Admission.{Ticket, Invocation, isUnissued, isLive, receipt, admit, admits, call}

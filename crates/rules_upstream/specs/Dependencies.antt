@@ -6,7 +6,7 @@ use mathlib.Core.List.{List, [], _∷_, _++_, map, append-nil, append-assoc}
 use mathlib.Core.Logic.{inl, inr, _↔_}
 use lib.Dec.{eqb}
 use Rattle.rules.specs.Basics.{pick, any}
-use Rattle.rules.specs.declared.Port.{Port}
+use Rattle.rules_types.specs.declared.Port.{Port}
 use Rattle.rules.specs.Holds.{Realms, samePort, isIn}
 use Rattle.rules.specs.Ports.{flat, resolve}
 use Rattle.rules.specs.Dependencies.{candidates, ownPorts, skipped, inherit, dependencyList, firstPort}

@@ -3,7 +3,7 @@ use Prim.Native.Nat.{ℕ}
 use mathlib.Core.Path.{_≡_, refl}
 use mathlib.Core.List.{[]}
 use mathlib.Core.Option.{none}
-use Rattle.rules.specs.declared.Port.{Port}
+use Rattle.rules_types.specs.declared.Port.{Port}
 use Rattle.rules.specs.Holds.{Registry, opened, lookup, provider}
 use Rattle.rules.specs.Outcomes.{Accepted, answerOf}
 use Rattle.rules.specs.Values.{visible}

@@ -8,10 +8,10 @@ use mathlib.Core.Option.{none}
 use lib.Dec.{eqb}
 use borrow.Author.Tests.{eq-eqb}
 use Rattle.rules.specs.Basics.{any, all, isSome, isNone, holds, one, last}
-use Rattle.rules.specs.declared.Port.{Port}
-use Rattle.rules.specs.declared.Phase.{Phase}
-use Rattle.rules.specs.declared.Phase.the-variants.{Idle, Loading, Active, Unloading}
-use Rattle.rules.specs.declared.Root.the-variants.{Unissued}
+use Rattle.rules_types.specs.declared.Port.{Port}
+use Rattle.rules_types.specs.declared.Phase.{Phase}
+use Rattle.rules_types.specs.declared.Phase.the-variants.{Idle, Loading, Active, Unloading}
+use Rattle.rules_types.specs.declared.Root.the-variants.{Unissued}
 use Rattle.rules.specs.Holds.{Plugin, Registry, lookup, provided, isIn, isIdle, isLoading, isUnloading}
 use Rattle.rules.specs.Holds.{withGeneration, withRoot, withProvisions}
 use Rattle.rules.specs.Outcomes.{Accepted, Outcome, answerOf, after}

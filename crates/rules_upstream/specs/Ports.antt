@@ -8,7 +8,7 @@ use mathlib.Core.Logic.{inl, inr}
 use lib.Dec.{eqb, ltb}
 use borrow.Author.Tests.{eq-eqb, ne-eqb, ltb-true}
 use Rattle.rules.specs.Basics.{any}
-use Rattle.rules.specs.declared.Port.{Port}
+use Rattle.rules_types.specs.declared.Port.{Port}
 use Rattle.rules.specs.Holds.{Realms, port}
 use Rattle.rules.specs.Ports.{rising, resolveIn, resolve}
 use Rattle.rules_laws.specs.Laws.Tests.{both, neither}

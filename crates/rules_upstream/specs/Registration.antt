@@ -8,12 +8,12 @@ use mathlib.Core.List.{[], _∷_, map-map, map-id}
 use mathlib.Core.Option.{Option, none, some}
 use mathlib.Core.Logic.{_⊎_, inl, inr, ⊎-elim, _↔_}
 use lib.Dec.{ltb, leb}
-use lib.ListN.{length, drop}
+use lib.ListN.{length}
 use Rattle.rules.specs.Basics.{any, isSome, isNone, holds, last}
-use Rattle.rules.specs.declared.Port.{Port}
+use Rattle.rules_types.specs.declared.Port.{Port}
 use Rattle.rules.specs.Holds.{Provision, Plugin, Registry, lookup, provider, provided, provides, isIn, count, rowsInUse, rowsOf, isUnloading}
 use Rattle.rules.specs.Outcomes.{Accepted, Outcome, answerOf, after}
-use Rattle.rules.specs.Ports.{realmList, badEdition, badRealms, pairs}
+use Rattle.rules.specs.Ports.{rowsIn, realmList, badEdition, badRealms, pairs}
 use Rattle.rules.specs.Registration.{Definition, parentOf, resolved, claimed, repeats, unoffered, dependenciesOf, newPlugin, registrationChecks, register}
 use Rattle.rules_laws.specs.Laws.Tests.{by-test}
 use Rattle.rules_laws.specs.Laws.Members.{In, same-port, same-self, is-in}
@@ -34,7 +34,7 @@ pub record Registered (r : Registry) (d : Definition) (u : Outcome) : Type 0 whe
   pub next : after r u .next ≡ r .next + 1
   pub parent : plugin .parent ≡ d .parent
   pub anchor : plugin .anchor ≡ d .anchor
-  pub realms : plugin .realms .rows ≡ pairs (drop 2 (d .realms))
+  pub realms : plugin .realms .rows ≡ pairs (rowsIn (d .realms))
   pub dependencies : plugin .dependencies ≡ dependenciesOf r d
   pub provisions : provided plugin ≡ resolved d (d .provisions)
   pub revision : plugin .revision ≡ 0
@@ -56,7 +56,10 @@ enabled r d =
 
 -- What document 01 asks besides: an edition (26), well-formed lists (4, 5), and room (10, 11, 12).
 abbrev pub wellFormed : Definition → Bool
-wellFormed d = not (badEdition (d .realms)) && not (badRealms (drop 2 (d .realms))) && not (ltb maxDependencyKeys (length (d .dependencies)) || ltb maxProvisionKeys (length (d .provisions)))
+wellFormed d =
+    not (badEdition (d .realms))
+    && not (badRealms (rowsIn (d .realms)))
+    && not (ltb maxDependencyKeys (length (d .dependencies)) || ltb maxProvisionKeys (length (d .provisions)))
 
 abbrev pub roomFor : Registry → Definition → Bool
 roomFor r d = not (leb maxPlugins (count r)) && not (ltb maxDependencies (length (dependenciesOf r d)))

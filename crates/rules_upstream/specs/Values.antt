@@ -9,8 +9,8 @@ use mathlib.Core.Logic.{_⊎_, inl, inr, ⊎-elim, _↔_}
 use lib.Dec.{eqb}
 use borrow.Author.Tests.{not-false}
 use Rattle.rules.specs.Basics.{pick, any, all, isSome, isNone, holds, sameNumbers, yesNo, one}
-use Rattle.rules.specs.declared.Port.{Port}
-use Rattle.rules.specs.declared.Phase.the-variants.{Active}
+use Rattle.rules_types.specs.declared.Port.{Port}
+use Rattle.rules_types.specs.declared.Phase.the-variants.{Active}
 use Rattle.rules.specs.Holds.{Provision, Registry, Plugin, plugins, lookup, provider, provided, provides, samePort, isIn}
 use Rattle.rules.specs.Holds.{isLoading, isActive, running, withProvisions}
 use Rattle.rules.specs.Outcomes.{Refused, Accepted, Outcome, answerOf, checked, found}

@@ -3,12 +3,12 @@ use mathlib.Core.Path.{_≡_, refl, sym, ap, _∙_}
 use mathlib.Core.Option.{Option, none, some}
 use Prim.Native.Nat.{ℕ}
 use Rattle.rules.specs.Slot as rules
-use Rattle.rules.specs.declared.Optional.{Optional}
-use Rattle.rules.specs.declared.Optional.the-variants.{Is, None}
+use Rattle.rules_types.specs.declared.Optional.{Optional}
+use Rattle.rules_types.specs.declared.Optional.the-variants.{Is, None}
 use Rattle.slot_child.specs.declared.Decision.{Decision}
 use Rattle.slot_child.specs.declared.Decision.the-variants.{Pending, Assigned, Failed, Cancelled}
 use Rattle.slot_child.specs.declared.Slot.{Slot}
-use Rattle.rules.specs.declared.Done.{Done}
+use Rattle.rules_types.specs.declared.Done.{Done}
 use Rattle.rules.specs.Answers.{optionOf, done-exact}
 use Rattle.slot_child.specs.declared.Decided.{Decided}
 use Rattle.slot_child.specs.Slots.{decisionOf, slotOf, decidedOf}

@@ -5,9 +5,9 @@ use mathlib.Core.List.{List, [], _∷_}
 use Rattle.rules.specs.Retirement as retirement
 use Rattle.rules.specs.Slot as rules
 use Rattle.slot_child.specs.declared.Identity.{Identity}
-use Rattle.rules.specs.declared.Optional.the-variants.{Is}
+use Rattle.rules_types.specs.declared.Optional.the-variants.{Is}
 use Rattle.slot_child.specs.declared.Decision.the-variants.{Cancelled}
-use Rattle.rules.specs.declared.Done.the-variants.{Accepted, Refused}
+use Rattle.rules_types.specs.declared.Done.the-variants.{Accepted, Refused}
 use Rattle.rules.specs.Answers.{doneAnswer}
 use Rattle.slot_child.specs.declared.Decided.{Decided}
 use Rattle.slot_child.specs.Slots.{slotOf, decidedOf}

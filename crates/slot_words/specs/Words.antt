@@ -13,8 +13,8 @@ use Rattle.rules.specs.Outcomes.{Answer, Refused, Accepted}
 use Rattle.rules.specs.Retirement as retirement
 use Rattle.rules.specs.Slot as rules
 use Rattle.slot_child.specs.declared.Identity.{Identity}
-use Rattle.rules.specs.declared.Optional.{Optional}
-use Rattle.rules.specs.declared.Optional.the-variants.{Is, None}
+use Rattle.rules_types.specs.declared.Optional.{Optional}
+use Rattle.rules_types.specs.declared.Optional.the-variants.{Is, None}
 use Rattle.rules.specs.Answers.{optionOf}
 use Rattle.slot_child.specs.declared.Decision.{Decision}
 use Rattle.slot_child.specs.declared.Decision.the-variants.{Pending, Assigned, Failed, Cancelled}

@@ -7,8 +7,8 @@ use mathlib.Core.List.{List, [], _++_}
 use mathlib.Core.Option.{Option}
 use lib.ListN.{length, getD, drop}
 use Rattle.rules.specs.Limits.{maxProvisionKeys}
-use Rattle.rules.specs.declared.Port.{Port}
-use Rattle.rules.specs.declared.Edition.{Edition}
+use Rattle.rules_types.specs.declared.Port.{Port}
+use Rattle.rules_types.specs.declared.Edition.{Edition}
 use Rattle.rules.specs.Text.Values.{editionAndDefault}
 use Rattle.rules.specs.Ports.{pairs, realmList}
 use Rattle.text_form.specs.Bytes.{bytes}

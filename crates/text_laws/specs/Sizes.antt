@@ -10,8 +10,8 @@ use mathlib.Core.Option.{none, some}
 use mathlib.Core.Logic.{_⊎_, inl, inr}
 use lib.ListN.{length, length-append}
 use Rattle.rules.specs.Basics.{sum, last}
-use Rattle.rules.specs.declared.Phase.{Phase}
-use Rattle.rules.specs.declared.Phase.the-variants.{Idle, Loading, Active, Unloading}
+use Rattle.rules_types.specs.declared.Phase.{Phase}
+use Rattle.rules_types.specs.declared.Phase.the-variants.{Idle, Loading, Active, Unloading}
 use Rattle.rules.specs.Holds.{Plugin, Places, Registry, held, plugins, count, rowsOf, sumRows, rowsInUse}
 use Rattle.rules_laws.specs.Built.{Built}
 use Rattle.rules_laws.specs.Laws.Members.{In}

@@ -7,8 +7,8 @@ use mathlib.Core.List.{List, _++_}
 use lib.Dec.{eqb, ltb}
 use lib.ListN.{length, drop}
 use Rattle.rules_basics.specs.Basics.{pick, last}
-use Rattle.rules.specs.declared.Phase.{Phase}
-use Rattle.rules.specs.declared.Phase.the-variants.{Idle, Loading, Active, Unloading}
+use Rattle.rules_types.specs.declared.Phase.{Phase}
+use Rattle.rules_types.specs.declared.Phase.the-variants.{Idle, Loading, Active, Unloading}
 use Rattle.rules.specs.Basics.{yesNo}
 use Rattle.rules.specs.Queries.{phaseNumber}
 use Rattle.rules.specs.Text.Values.{phase, zeroOrOne}

@@ -4,9 +4,9 @@ use mathlib.Core.Path.{_≡_, refl, ap, _∙_}
 use mathlib.Core.List.{List}
 use mathlib.Core.Option.{Option, none}
 use Rattle.rules.specs.Holds.{port}
-use Rattle.rules.specs.declared.Root.{Root}
-use Rattle.rules.specs.declared.Root.the-variants.{Unissued, Queued, Spent}
-use Rattle.rules.specs.declared.Edition.the-variants.{First, Second}
+use Rattle.rules_types.specs.declared.Root.{Root}
+use Rattle.rules_types.specs.declared.Root.the-variants.{Unissued, Queued, Spent}
+use Rattle.rules_types.specs.declared.Edition.the-variants.{First, Second}
 use Rattle.rules.specs.Text.Values.{keyRealm, keyRealmValue, unissued, queued, spent, spent-apart, issued-apart, toRoot, rootAndQueued}
 use Rattle.rules.specs.Text.Values.{firstEdition, secondEdition, second-apart, toEdition, editionAndDefault}
 use Rattle.memory.specs.View.{parentOf}

@@ -6,10 +6,10 @@ use mathlib.Core.Bool.{Bool, not}
 use mathlib.Core.List.{List}
 use mathlib.Core.Option.{Option}
 use lib.Dec.{eqb}
-use Rattle.rules.specs.declared.Port.{Port}
-use Rattle.rules.specs.declared.Phase.{Phase}
-use Rattle.rules.specs.declared.Root.{Root}
-use Rattle.rules.specs.declared.Edition.{Edition}
+use Rattle.rules_types.specs.declared.Port.{Port}
+use Rattle.rules_types.specs.declared.Phase.{Phase}
+use Rattle.rules_types.specs.declared.Root.{Root}
+use Rattle.rules_types.specs.declared.Edition.{Edition}
 use Rattle.rules.specs.Basics.{yesNo, isSome, orElse}
 use Rattle.rules.specs.Holds.{port, editionNumber, defaultOf}
 use Rattle.rules.specs.Holds as holds

@@ -5,8 +5,8 @@ use mathlib.Core.Bool.{Bool, not}
 use mathlib.Core.List.{List}
 use mathlib.Core.Option.{Option}
 use lib.Dec.{eqb}
-use Rattle.rules.specs.declared.Phase.{Phase}
-use Rattle.rules.specs.declared.Root.{Root}
+use Rattle.rules_types.specs.declared.Phase.{Phase}
+use Rattle.rules_types.specs.declared.Root.{Root}
 use Rattle.rules.specs.Holds.{Plugin, port}
 use Rattle.rules.specs.Text.{Lines, lines, pluginOf, block, realms}
 use Rattle.rules.specs.Text.Values as values

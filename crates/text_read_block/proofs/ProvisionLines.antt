@@ -12,7 +12,7 @@ use lib.Seq.{take-all, take-append-le}
 use borrow.Author.Tests.{ltb-true, ltb-false}
 use Rattle.rules.specs.Basics.{isSome, orElse, yesNo}
 use Rattle.rules.specs.Limits.{maxProvisionKeys}
-use Rattle.rules.specs.declared.Port.{Port}
+use Rattle.rules_types.specs.declared.Port.{Port}
 use Rattle.rules.specs.Holds as holds
 use Rattle.rules.specs.Text.Values.{keyRealmValue}
 use Rattle.rules_laws.specs.Laws.Tests.{by-test}

@@ -9,8 +9,8 @@ use lib.ListN.{length, take, replicate, length-map}
 use lib.Seq.{take-all}
 use Rattle.rules.specs.Basics.{isSome, orElse, yesNo}
 use Rattle.rules.specs.Limits.{maxProvisionKeys, maxRealmRows, maxDependencies}
-use Rattle.rules.specs.declared.Phase.{Phase}
-use Rattle.rules.specs.declared.Root.{Root}
+use Rattle.rules_types.specs.declared.Phase.{Phase}
+use Rattle.rules_types.specs.declared.Root.{Root}
 use Rattle.rules.specs.Holds.{Plugin, port, provided}
 use Rattle.rules.specs.Ports.{flat, realmNumbers}
 use Rattle.rules.specs.Queries.{phaseNumber}

@@ -6,7 +6,7 @@ use lib.Dec.{eqb, ltb}
 use lib.ListN.{length, take}
 use Rattle.rules.specs.Basics.{pick}
 use Rattle.rules.specs.Limits.{maxProvisionKeys}
-use Rattle.rules.specs.declared.Port.{Port}
+use Rattle.rules_types.specs.declared.Port.{Port}
 use Rattle.rules.specs.Holds.{port, RealmList, Provision, editionNumber, defaultOf}
 use Rattle.rules.specs.Text.{realms}
 use Rattle.rules.specs.Text.Values.{keyRealm, keyRealmValue}

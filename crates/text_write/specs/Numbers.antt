@@ -12,7 +12,7 @@ use lib.ListN.{length, getD, take, drop, length-take, length-drop}
 use Rattle.rules.specs.Basics.{last, pick}
 use Rattle.rules.specs.Holds.{Plugin, held, plugins, count, rowsInUse}
 use Rattle.rules_laws.specs.Laws.Members.{In}
-use Rattle.rules.specs.declared.Edition.the-variants.{First, Second}
+use Rattle.rules_types.specs.declared.Edition.the-variants.{First, Second}
 use Rattle.rules.specs.Ports.{pairs, editionOf, realmList}
 use Rattle.rules.specs.Text.Values.{keyRealm, keyRealmValue, rootAndQueued, editionAndDefault}
 use Rattle.rules.specs.Text.{block, text, said, textOf}

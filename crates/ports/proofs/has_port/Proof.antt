@@ -6,7 +6,7 @@ use mathlib.Core.Path.{_≡_, sym, ap, _∙_}
 use mathlib.Core.List.{List}
 use lib.ListN.{drop}
 use borrow.Author.Needs.{needs}
-use Rattle.rules.specs.declared.Port.{Port}
+use Rattle.rules_types.specs.declared.Port.{Port}
 use Rattle.rules.specs.Holds.{port, isIn}
 use Rattle.rules.specs.Ports.{pairs}
 use Rattle.ports.specs.Places.{pairs-at, pairs-end, in-hit, in-miss}

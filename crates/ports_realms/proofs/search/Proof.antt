@@ -4,7 +4,7 @@ use native.Mathlib.Omega.{arith}
 use mathlib.Core.Path.{_≡_, refl, sym, ap, _∙_}
 use mathlib.Core.Logic.{inl, inr, ⊎-elim}
 use borrow.Author.Needs.{needs}
-use Rattle.rules.specs.declared.Port.{Port}
+use Rattle.rules_types.specs.declared.Port.{Port}
 use Rattle.ports_realms.proofs.Interval.{Searching, starts, goes-on, ends-empty, ends-other, ends-found}
 use Rattle.ports_realms.proofs.search.Statement.{statement}
 use Rattle.ports_realms.proofs.search.Tie as tie

@@ -1,7 +1,7 @@
 -- By the turn, and by whether the key resolves to the port's own realm.
 use mathlib.Core.Path.{ap}
 use borrow.Author.Needs.{needs}
-use Rattle.rules.specs.declared.Port.{Port}
+use Rattle.rules_types.specs.declared.Port.{Port}
 use Rattle.rules.specs.Ports.{pairs}
 use Rattle.ports_realms.specs.Rows.{resolve-with}
 use Rattle.ports_realms.specs.Halving.{reached}

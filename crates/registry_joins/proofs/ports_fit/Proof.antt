@@ -16,7 +16,8 @@ returns c =
     let b = c .before in
     let r = b .before in
     let a = r .before .before .before .before .args in
-    fit-bad (a .m .now) (a .parent) (a .anchor) (a .realms .now) (a .provisions .now) (a .dependencies .now) _ (r .rows .ensures) (sym (b .bad-realms .ensures) ∙ c .if1 .taken)
+    fit-bad (a .m .now) (a .parent) (a .anchor) (a .realms .now) (a .provisions .now) (a .dependencies .now) _ (r .rows .ensures)
+    (sym (b .bad-realms .ensures) ∙ c .if1 .taken)
 
 enum-known-parent : tie.Need-enum-known-parent
 enum-known-parent c = search needs

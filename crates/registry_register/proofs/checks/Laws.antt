@@ -10,7 +10,7 @@ use Rattle.rules.specs.Basics.{pick, any, isSome, last}
 use Rattle.rules.specs.Holds.{Registry, provider, count, isUnloading}
 use Rattle.rules.specs.Refusals.{DuplicateDependency}
 use Rattle.rules.specs.Outcomes.{Check, _⇒_}
-use Rattle.rules.specs.declared.Port.{Port}
+use Rattle.rules_types.specs.declared.Port.{Port}
 use Rattle.rules.specs.Ports.{realmChecks, realmsOf}
 use Rattle.rules.specs.Registration.{Definition, resolved, repeats, parentChecks, keyChecks, askedChecks, claimChecks, roomChecks}
 use Rattle.rules.specs.Limits.{maxRows, maxDependencies, maxDependencyKeys, maxProvisionKeys}
@@ -25,8 +25,8 @@ use Rattle.memory.specs.declared.Place.{Place}
 use Rattle.memory.specs.declared.Place.the-variants.{At, None}
 use Rattle.ports_resolved.specs.Keys.{keysRepeat}
 use Rattle.ports_resolved.specs.Answers.{keys-repeat-in}
-use Rattle.rules.specs.declared.Done.{Done}
-use Rattle.rules.specs.declared.Done.the-variants.{Accepted, Refused}
+use Rattle.rules_types.specs.declared.Done.{Done}
+use Rattle.rules_types.specs.declared.Done.the-variants.{Accepted, Refused}
 use Rattle.registry_register.specs.declared.checks.Early.{Early}
 use Rattle.registry_register.specs.declared.checks.Early.the-variants as early
 use Rattle.rules.specs.Answers.{verdict}

@@ -10,7 +10,7 @@ use lib.Dec.{eqb, leb}
 use lib.ListN.{length}
 use borrow.Author.Tests.{eqb-true, eqb-false, eq-eqb, ne-eqb, leb-true, leb-false}
 use Rattle.rules.specs.Basics.{pick, sameNumbers}
-use Rattle.rules.specs.declared.Root.the-variants.{Queued}
+use Rattle.rules_types.specs.declared.Root.the-variants.{Queued}
 use Rattle.rules.specs.Holds.{Plugin, Registry, lookup, count}
 use Rattle.rules.specs.Refusals.{Refusal, number}
 use Rattle.rules.specs.Outcomes.{Answer, Refused, Accepted, Reply, refusing, accepting, Outcome, tells, refuses, answers, writes, stores, adds, removes}

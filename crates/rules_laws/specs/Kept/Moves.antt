@@ -11,7 +11,7 @@ use lib.Dec.{eqb}
 use lib.ListN.{length}
 use borrow.Author.Tests.{eqb-false, ne-eqb}
 use Rattle.rules.specs.Basics.{all, any, isSome, last}
-use Rattle.rules.specs.declared.Port.{Port}
+use Rattle.rules_types.specs.declared.Port.{Port}
 use Rattle.rules.specs.Holds.{Plugin, Registry, plugins, lookup, provider, provides, running, isIdle, isActive, count, rowsOf, rowsInUse}
 use Rattle.rules.specs.Outcomes.{stores, adds, removes, after}
 use Rattle.rules.specs.Registration.{parentOf, inheritedFrom}

@@ -10,7 +10,7 @@ use lib.Dec.{eqb, ltb}
 use lib.ListN.{length, length-map, drop}
 use borrow.Author.Tests.{eqb-true, eqb-false, ltb-false, leb-false, not-false}
 use Rattle.rules.specs.Basics.{any, isSome, isNone, twice, last}
-use Rattle.rules.specs.declared.Port.{Port}
+use Rattle.rules_types.specs.declared.Port.{Port}
 use Rattle.rules.specs.Holds.{Realms, Provision, Plugin, Registry, lookup, provider, provided, samePort, isIn}
 use Rattle.rules.specs.Ports.{pairs, oddLength, rising, badRealms, realmList, realmsOf, resolve}
 use Rattle.rules.specs.Registration.{Definition, parentOf, inheritedFrom, resolved, claimed, unoffered, repeats, dependenciesOf, newPlugin, registrationChecks}

@@ -8,11 +8,11 @@ use mathlib.Core.List.{List, [], _∷_, map-map}
 use mathlib.Core.Option.{Option, none, some}
 use borrow.Author.Tests.{eqb-false, not-false}
 use Rattle.rules.specs.Basics.{all, last}
-use Rattle.rules.specs.declared.Port.{Port}
-use Rattle.rules.specs.declared.Phase.{Phase}
-use Rattle.rules.specs.declared.Phase.the-variants.{Idle, Loading, Active, Unloading}
-use Rattle.rules.specs.declared.Root.{Root}
-use Rattle.rules.specs.declared.Root.the-variants.{Unissued, Queued, Spent}
+use Rattle.rules_types.specs.declared.Port.{Port}
+use Rattle.rules_types.specs.declared.Phase.{Phase}
+use Rattle.rules_types.specs.declared.Phase.the-variants.{Idle, Loading, Active, Unloading}
+use Rattle.rules_types.specs.declared.Root.{Root}
+use Rattle.rules_types.specs.declared.Root.the-variants.{Unissued, Queued, Spent}
 use Rattle.rules.specs.Holds.{Plugin, Registry, lookup, isLoading, isActive, withRetired}
 use Rattle.rules.specs.Outcomes.{Reply, refusing, accepting, Outcome, tells, writes, stores, adds, removes, Check, checked, known, handingBack, after}
 use Rattle.rules.specs.Registration.{Definition, newPlugin, register}

@@ -4,7 +4,7 @@ use mathlib.Core.Path.{_≡_, refl, sym, _∙_}
 use mathlib.Core.Bool.{true, false, _&&_, true≢false}
 use mathlib.Core.Option.{Option, none, some}
 use Rattle.rules.specs.Basics.{any, isSome, holds, twice}
-use Rattle.rules.specs.declared.Port.{Port}
+use Rattle.rules_types.specs.declared.Port.{Port}
 use Rattle.rules.specs.Holds.{Plugin, Registry, plugins, lookup, provider, provides, running, isActive}
 use Rattle.rules.specs.Phases.{available, inUse}
 use Rattle.rules_laws.specs.Laws.Members.{first-in, first-none, any-false, lookup-in}

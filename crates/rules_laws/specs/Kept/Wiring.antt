@@ -6,8 +6,8 @@ use mathlib.Core.Option.{Option, none, some}
 use mathlib.Core.Logic.{_⊎_, ⊎-elim}
 use lib.Dec.{eqb}
 use borrow.Author.Tests.{eqb-true}
-use Rattle.rules.specs.declared.Port.{Port}
-use Rattle.rules.specs.declared.Phase.the-variants.{Active}
+use Rattle.rules_types.specs.declared.Port.{Port}
+use Rattle.rules_types.specs.declared.Phase.the-variants.{Active}
 use Rattle.rules.specs.Holds.{Plugin, Registry, lookup, provides, running}
 use Rattle.rules_laws.specs.Laws.Tests.{by-test}
 use Rattle.rules_laws.specs.Laws.Members.{In}

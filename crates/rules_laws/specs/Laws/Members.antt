@@ -9,7 +9,7 @@ use mathlib.Core.Logic.{_⊎_, inl, inr, ⊎-elim}
 use lib.Dec.{eqb}
 use borrow.Author.Tests.{eqb-true, eqb-false, eq-eqb, ne-eqb}
 use Rattle.rules.specs.Basics.{any, all, first}
-use Rattle.rules.specs.declared.Port.{Port}
+use Rattle.rules_types.specs.declared.Port.{Port}
 use Rattle.rules.specs.Holds.{Plugin, Places, Registry, held, plugins, lookup, samePort, isIn}
 use Rattle.rules.specs.Outcomes.{storedAt, freedAt, atLowestFree}
 use Rattle.rules_laws.specs.Laws.Tests.{by-test, both}

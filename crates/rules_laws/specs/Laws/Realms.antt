@@ -7,9 +7,9 @@ use mathlib.Core.List.{List, [], _∷_}
 use lib.Dec.{eqb, ltb}
 use lib.ListN.{length, getD, take, drop}
 use borrow.Author.Tests.{eqb-true, ltb-true}
-use Rattle.rules.specs.declared.Port.{Port}
-use Rattle.rules.specs.declared.Edition.{Edition}
-use Rattle.rules.specs.declared.Edition.the-variants.{First, Second}
+use Rattle.rules_types.specs.declared.Port.{Port}
+use Rattle.rules_types.specs.declared.Edition.{Edition}
+use Rattle.rules_types.specs.declared.Edition.the-variants.{First, Second}
 use Rattle.rules.specs.Holds.{port, RealmList, editionNumber, defaultOf}
 use Rattle.rules.specs.Ports.{rising, resolveIn, editionOf, realmList, realmNumbers}
 use Rattle.rules_laws.specs.Laws.Tests.{by-test, both}

@@ -2,8 +2,8 @@
 use mathlib.Core.Path.{_≡_, refl}
 use mathlib.Core.Bool.{true, false}
 use Rattle.rules.specs.Basics.{isNone}
-use Rattle.rules.specs.declared.Phase.{Phase}
-use Rattle.rules.specs.declared.Phase.the-variants.{Idle, Loading, Active, Unloading}
+use Rattle.rules_types.specs.declared.Phase.{Phase}
+use Rattle.rules_types.specs.declared.Phase.the-variants.{Idle, Loading, Active, Unloading}
 use Rattle.rules.specs.Holds.{isIdle, isLoading, isActive}
 use Rattle.rules.specs.Phases.{Begin, Ready, Fail, Unload, Finish, cell}
 

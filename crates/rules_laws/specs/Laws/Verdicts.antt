@@ -7,7 +7,7 @@ use Rattle.rules.specs.Refusals.{Refusal, number}
 use Rattle.rules.specs.Outcomes.{Outcome, answerOf, refuses, Check, checked}
 use Rattle.rules.specs.Outcomes as outcomes
 use Rattle.rules.specs.Answers.{verdict}
-use Rattle.rules.specs.declared.Done.the-variants.{Accepted, Refused}
+use Rattle.rules_types.specs.declared.Done.the-variants.{Accepted, Refused}
 use Rattle.rules_laws.specs.Laws.Tests.{by-test, Passed}
 
 -- a run that refuses does not pass

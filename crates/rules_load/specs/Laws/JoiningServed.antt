@@ -2,7 +2,7 @@
 use mathlib.Core.Path.{_≡_, refl, sym, ap, _∙_}
 use mathlib.Core.Bool.{Bool, false, _&&_, and-true, and-false, or-false}
 use mathlib.Core.List.{List, [], _∷_}
-use Rattle.rules.specs.declared.Port.{Port}
+use Rattle.rules_types.specs.declared.Port.{Port}
 use Rattle.rules.specs.Basics.{all, first, holds, _⊃_}
 use Rattle.rules.specs.Holds.{Plugin, Registry, plugins, provides, provider, isActive, running}
 use Rattle.rules.specs.Registration.{repeats}

@@ -5,9 +5,9 @@ use mathlib.Core.Bool.{true, false, not, _&&_}
 use lib.Dec.{leb}
 use lib.ListN.{length}
 use borrow.Author.Tests.{le-leb, leb-true, not-true}
-use Rattle.rules.specs.declared.Phase.the-variants.{Idle, Active}
-use Rattle.rules.specs.declared.Root.{Root}
-use Rattle.rules.specs.declared.Root.the-variants.{Unissued, Queued, Spent}
+use Rattle.rules_types.specs.declared.Phase.the-variants.{Idle, Active}
+use Rattle.rules_types.specs.declared.Root.{Root}
+use Rattle.rules_types.specs.declared.Root.the-variants.{Unissued, Queued, Spent}
 use Rattle.rules.specs.Basics.{any, all, isNone, last}
 use Rattle.rules.specs.Limits.{maxProvisionKeys, maxRealmRows, maxDependencies}
 use Rattle.rules.specs.Holds.{Provision, Plugin, provided, isIdle, isActive, tableOf}

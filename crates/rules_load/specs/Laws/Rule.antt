@@ -9,7 +9,7 @@ use lib.Dec.{eqb, leb}
 use lib.ListN.{length, length-map, take}
 use lib.Seq.{take-at, append-snoc}
 use borrow.Author.Tests.{eqb-true, eqb-false, leb-true, le-leb, not-true}
-use Rattle.rules.specs.declared.Port.{Port}
+use Rattle.rules_types.specs.declared.Port.{Port}
 use Rattle.rules.specs.Basics.{twice}
 use Rattle.rules.specs.Limits.{maxDependencyKeys}
 use Rattle.rules.specs.Holds.{tableOf, Realms, Plugin, provided, samePort}

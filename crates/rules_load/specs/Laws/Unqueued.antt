@@ -7,9 +7,9 @@ use mathlib.Core.Option.{Option, none, some}
 use mathlib.Core.Logic.{inl, inr}
 use lib.Dec.{eqb, ltb}
 use lib.ListN.{length-map}
-use Rattle.rules.specs.declared.Port.{Port}
-use Rattle.rules.specs.declared.Root.{Root}
-use Rattle.rules.specs.declared.Root.the-variants.{Unissued, Queued, Spent}
+use Rattle.rules_types.specs.declared.Port.{Port}
+use Rattle.rules_types.specs.declared.Root.{Root}
+use Rattle.rules_types.specs.declared.Root.the-variants.{Unissued, Queued, Spent}
 use Rattle.rules.specs.Basics.{any, all, only, orNone, isNone, isSome, last, _⊃_}
 use Rattle.rules.specs.Holds.{Provision, Plugin, provides, running, sumRows, rowsOf, isIdle, isActive}
 use Rattle.rules.specs.Phases.{isSpent}

@@ -1,6 +1,6 @@
 -- The two editions in their order: the second is tried where the first is torn.
 use mathlib.Core.Path.{refl}
-use Rattle.rules.specs.declared.Edition.the-variants.{First}
+use Rattle.rules_types.specs.declared.Edition.the-variants.{First}
 use Rattle.text_read.specs.Reads.{reads-at, torn-any}
 use Rattle.text_read.proofs.Values.{edition-first, edition-second}
 use borrow.Author.Needs.{needs}

@@ -1,5 +1,5 @@
 -- The three ways in their order: each is tried where those before it are torn.
-use Rattle.rules.specs.declared.Root.the-variants.{Unissued, Queued, Spent}
+use Rattle.rules_types.specs.declared.Root.the-variants.{Unissued, Queued, Spent}
 use Rattle.text_read.proofs.Values.{root-unissued, root-queued, root-spent, root-told}
 use borrow.Author.Needs.{needs}
 use Rattle.text_read.proofs.root_lines.Statement.{statement}

@@ -1,8 +1,8 @@
 -- `Generation::next` meets its contract: the test decides the definition.
 use borrow.Author.Needs.{needs}
-use Rattle.rules.specs.Generations.{next-last, next-one}
-use Rattle.rules.proofs.Generation.next.Statement.{statement}
-use Rattle.rules.proofs.Generation.next.Tie as tie
+use Rattle.rules_types.specs.Generations.{next-last, next-one}
+use Rattle.rules_types.proofs.Generation.next.Statement.{statement}
+use Rattle.rules_types.proofs.Generation.next.Tie as tie
 
 returns : tie.Need-returns
 returns c = next-last _ (c .if1 .taken)

@@ -1,9 +1,9 @@
 -- `Edition::absent` meets its contract: in each arm the realm is the edition's.
 use mathlib.Core.Path.{sym, ap, _∙_}
 use borrow.Author.Needs.{needs}
-use Rattle.rules.specs.Holds.{port, defaultOf}
-use Rattle.rules.proofs.Edition.absent.Statement.{statement}
-use Rattle.rules.proofs.Edition.absent.Tie as tie
+use Rattle.rules_types.specs.Kinds.{port, defaultOf}
+use Rattle.rules_types.proofs.Edition.absent.Statement.{statement}
+use Rattle.rules_types.proofs.Edition.absent.Tie as tie
 
 enum-told : tie.Need-enum-told
 enum-told c = search needs

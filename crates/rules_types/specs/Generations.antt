@@ -4,8 +4,8 @@ use mathlib.Core.Path.{_≡_}
 use mathlib.Core.Logic.{_≢_}
 use lib.Dec.{eqb}
 use borrow.Author.Tests.{eq-eqb, ne-eqb}
-use Rattle.rules.specs.Basics.{pick, last}
-use Rattle.rules.specs.declared.Generation.{Generation}
+use Rattle.rules_basics.specs.Basics.{pick, last}
+use Rattle.rules_types.specs.declared.Generation.{Generation}
 
 abbrev pub generationOf : ℕ → Generation
 generationOf n = record { 0 = n }
