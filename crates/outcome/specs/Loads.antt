@@ -13,11 +13,13 @@ use Rattle.ports_given.proofs as ports_given
 use Rattle.registry_claims.proofs as registry_claims
 use Rattle.registry_joins.proofs as registry_joins
 use Rattle.registry_cycles.proofs as registry_cycles
+use Rattle.text_read_number.proofs as text_read_number
 use Rattle.text_read.proofs as text_read
 use Rattle.text_read_block.proofs as text_read_block
 use Rattle.registry_load.proofs as registry_load
 use Rattle.console_load.proofs as console_load
-use Rattle.text_read.specs.Answers.{number-one, phase-one, mark-one, option-one, pair-one, provision-one, root-one, edition-one}
+use Rattle.text_read_number.specs.Answers.{place-one, number-one}
+use Rattle.text_read.specs.Answers.{phase-one, mark-one, option-one, pair-one, provision-one, root-one, edition-one}
 use Rattle.text_read_block.specs.Blocks.{Lent, block-one}
 use Rattle.outcome.specs.Answers.{parent-exact}
 use Rattle.outcome.specs.Records.{ends-one}
@@ -71,6 +73,15 @@ registry-cycles-served κs a r s ms ns p q = by-equation p q
 
 pub registry-cycles-acyclic : One registry_cycles.acyclic.ended registry_cycles.acyclic.Reads.Learnt
 registry-cycles-acyclic κs a r s ms ns p q = by-equation p q
+
+pub text-read-number-literal : One text_read_number.literal.ended text_read_number.literal.Reads.Learnt
+text-read-number-literal κs a r s ms ns p q = place-one p q
+
+pub text-read-number-number : One text_read_number.number.ended text_read_number.number.Reads.Learnt
+text-read-number-number κs a r s ms ns p q = number-one p q
+
+pub text-read-number-comma : One text_read_number.comma.ended text_read_number.comma.Reads.Learnt
+text-read-number-comma κs a r s ms ns p q = number-one p q
 
 pub text-read-number-line : One text_read.«number_line».ended text_read.«number_line».Reads.Learnt
 text-read-number-line κs a r s ms ns p q = number-one p q

@@ -23,7 +23,7 @@ use Rattle.memory.specs.View.{view, parentOf, decoded}
 use Rattle.memory.specs.declared.Life.{Life}
 use Rattle.memory_entry.specs.declared.Entry.{Entry}
 use Rattle.memory_load.specs.Loading.{loadedPlace, loadedPlugin}
-use Rattle.text_read.specs.declared.Next.the-variants.{At, Torn}
+use Rattle.text_read_number.specs.declared.Next.the-variants.{At, Torn}
 use Rattle.text_read_block.specs.declared.Block.{Block}
 use Rattle.text_read_block.specs.Blocks.{Lent, BlockRead, blockOf, listsOf, block-torn, block-whole}
 use Rattle.text_read_block.specs.Blocks.{realms-front, dependencies-front, claims-front, values-front, mask-whole}

@@ -26,9 +26,9 @@ use Rattle.memory.specs.Writes.{openedWith}
 use Rattle.memory_load.specs.Loading.{loadedPlugin, zeros}
 use Rattle.memory_load.specs.SoFar.{SoFar, so-far-start, so-far-next}
 use Rattle.text_form.specs.Forms.{Read, found, torn, andThen, torn-found, readMany, many-exact}
-use Rattle.text_read.specs.declared.Next.{Next}
-use Rattle.text_read.specs.declared.Next.the-variants.{At, Torn}
-use Rattle.text_read.specs.Reads.{readFrom, read-at, Reads}
+use Rattle.text_read_number.specs.declared.Next.{Next}
+use Rattle.text_read_number.specs.declared.Next.the-variants.{At, Torn}
+use Rattle.text_read_number.specs.Reads.{readFrom, read-at, Reads}
 use Rattle.text_read.specs.Lists.{many-none, many-more, many-torn, many-left}
 use Rattle.registry_load.specs.declared.Joined.{Joined}
 use Rattle.registry_load.specs.Joined.{fits, fits-passes, unfit-refused}

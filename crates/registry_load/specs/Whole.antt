@@ -27,9 +27,9 @@ use Rattle.memory_load.specs.Loading.{wordsOf}
 use Rattle.memory_load.specs.SoFar.{so-far-words}
 use Rattle.text_form.specs.Forms.{Read, found, torn, andThen, torn-found, readMany, alone, _then_}
 use Rattle.text_form.specs.Lines.{line, number}
-use Rattle.text_read.specs.declared.Next.{Next}
-use Rattle.text_read.specs.declared.Next.the-variants.{At, Torn}
-use Rattle.text_read.specs.Reads.{readFrom, read-at, Reads, reads-none, from-then, read-on}
+use Rattle.text_read_number.specs.declared.Next.{Next}
+use Rattle.text_read_number.specs.declared.Next.the-variants.{At, Torn}
+use Rattle.text_read_number.specs.Reads.{readFrom, read-at, Reads, reads-none, from-then, read-on}
 use Rattle.text_read.specs.Lists.{counted-next}
 use Rattle.text_read.specs.Ways.{then-next, like-next, whole-all, whole-part, whole-torn}
 use Rattle.registry_load.specs.declared.Header.{Header}

@@ -24,12 +24,12 @@ use rules::Done;
 use rules::Edition;
 use rules::limits;
 use rules::refusal;
-use text_read::Next;
 use text_read_block::Block;
 use text_read_block::CLAIM_WORDS;
 use text_read_block::DEPENDENCY_WORDS;
 use text_read_block::REALM_WORDS;
 use text_read_block::VALUE_WORDS;
+use text_read_number::Next;
 
 // The place behind a block whose plugin joined, the rows in use then, and the lowest id that may follow; Torn where it did not join.
 struct Joined {

@@ -6,7 +6,7 @@ use lib.Dec.{ltb, leb}
 pub use Rattle.rules_types.specs.Kinds.{phaseNumber}
 use Rattle.rules.specs.Basics.{pick, yesNo, one}
 use Rattle.rules.specs.Holds.{Plugin, Registry, plugins, count, rowsInUse}
-use Rattle.rules.specs.Holds.{Phase, Idle, Loading, Active, Unloading, Root, Unissued, Queued, Spent, editionNumber, defaultOf}
+use Rattle.rules.specs.Holds.{Root, Unissued, Queued, Spent, editionNumber, defaultOf}
 use Rattle.rules.specs.Outcomes.{Outcome, answers, known}
 use Rattle.rules.specs.Ports.{flat}
 

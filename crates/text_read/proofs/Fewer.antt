@@ -16,11 +16,12 @@ use Rattle.memory.specs.View.{phaseOf}
 use Rattle.text_form.specs.Digits.{decimalOf, digitsIn}
 use Rattle.text_form.specs.Lines.{line, number}
 use Rattle.text_form.specs.Forms.{Read, found, torn, torn-found, Form}
-use Rattle.text_read.specs.declared.Next.{Next}
-use Rattle.text_read.specs.declared.Next.the-variants.{At, Torn}
-use Rattle.text_read.specs.declared.Number.{Number}
-use Rattle.text_read.specs.Answers.{Told, numberSaid, NumberRead, PhaseRead, MarkRead}
-use Rattle.text_read.specs.Reads.{Reads}
+use Rattle.text_read_number.specs.declared.Next.{Next}
+use Rattle.text_read_number.specs.declared.Next.the-variants.{At, Torn}
+use Rattle.text_read_number.specs.declared.Number.{Number}
+use Rattle.text_read_number.specs.Answers.{Told, numberSaid, NumberRead}
+use Rattle.text_read.specs.Answers.{PhaseRead, MarkRead}
+use Rattle.text_read_number.specs.Reads.{Reads}
 
 module _ {A B : Type 0} (f : Form A) (g : Form B) (code : A → B)
     (same : (a : A) → f .write a ≡ g .write (code a)) (fit : (a : A) → f .Fits a × g .Fits (code a)) where

@@ -14,11 +14,11 @@ use Rattle.text_form.specs.Bytes.{bytes}
 use Rattle.text_form.specs.Forms.{expect, nothing, literal, _then_, either}
 use Rattle.text_form.specs.Numbers.{readNumber}
 use Rattle.text_form.specs.Lines.{number, comma, numberOrNone, toOption, none-apart}
-use Rattle.text_read.specs.declared.Next.{Next}
-use Rattle.text_read.specs.declared.Next.the-variants.{At, Torn}
+use Rattle.text_read_number.specs.declared.Next.{Next}
+use Rattle.text_read_number.specs.declared.Next.the-variants.{At, Torn}
 use Rattle.text_read.specs.declared.NumberOrNone.{NumberOrNone}
 use Rattle.text_read.specs.declared.Rooted.{Rooted}
-use Rattle.text_read.specs.Reads.{Reads, reads-at, torn-any, ends}
+use Rattle.text_read_number.specs.Reads.{Reads, reads-at, torn-any, ends}
 use Rattle.text_read.specs.Ways.{expect-next, behind-next, then-next, like-next, either-first, either-second}
 use Rattle.text_read.specs.Answers.{optionSaid, OptionRead, provisionSaid, rootSaid, RootRead}
 

@@ -4,9 +4,9 @@ use native.Mathlib.Omega.{arith}
 use mathlib.Core.Path.{_≡_, refl, sym, ap, _∙_, subst}
 use mathlib.Core.List.{List, [], _∷_, _++_}
 use Rattle.text_form.specs.Forms.{Read, found, torn, andThen, Form, readMany, counted}
-use Rattle.text_read.specs.declared.Next.{Next}
-use Rattle.text_read.specs.declared.Next.the-variants.{Torn}
-use Rattle.text_read.specs.Reads.{within, readFrom, Reads, reads-none, go-on, ends, reads-as, from-as, from-then, read-on}
+use Rattle.text_read_number.specs.declared.Next.{Next}
+use Rattle.text_read_number.specs.declared.Next.the-variants.{Torn}
+use Rattle.text_read_number.specs.Reads.{within, readFrom, Reads, reads-none, go-on, ends, reads-as, from-as, from-then, read-on}
 
 module _ {A : Type 0} (f : Form A) where
   -- So many lines behind some that were read.

@@ -11,9 +11,9 @@ use lib.ListN.{length, drop, length-drop, drop-of-length-le}
 use Rattle.rules_basics.specs.Basics.{pick}
 use Rattle.rules_basics.specs.Tests.{by-test}
 use Rattle.text_form.specs.Forms.{Read, found, torn, andThen, orElse, expect, Form, behind, _then_, either, alone, readText}
-use Rattle.text_read.specs.declared.Next.{Next}
-use Rattle.text_read.specs.declared.Next.the-variants.{At, Torn}
-use Rattle.text_read.specs.Reads.{readFrom, Reads, read-at, from-then, go-on, ends, reads-as}
+use Rattle.text_read_number.specs.declared.Next.{Next}
+use Rattle.text_read_number.specs.declared.Next.the-variants.{At, Torn}
+use Rattle.text_read_number.specs.Reads.{readFrom, Reads, read-at, from-then, go-on, ends, reads-as}
 
 -- Certain bytes, in two parts.
 expect-append : (u v s : List ℕ) → andThen (expect u s) (λ x r. expect v r) ≡ expect (u ++ v) s

@@ -1,35 +1,14 @@
 // Reading the registry's text, line by line: a place of the text goes in, and what stands there comes back with the place behind it.
-// Torn goes in and comes out again, so that a whole block is read as one straight line of calls.
 ghost use mathlib.Core.Path.{_≡_};
-ghost use mathlib.Core.Bool.{true};
-ghost use Prim.Native.Nat.{_≤_, _<_, _+_, _*_, _^_};
-ghost use lib.Dec.{leb};
-ghost use lib.ListN.{length};
-ghost use Rattle.text_form.specs.Forms.{expect, behind};
-ghost use Rattle.text_form.specs.Words.{noDigit};
-ghost use Rattle.text_form.specs.Numbers.{readNumber};
+ghost use Rattle.text_form.specs.Forms.{behind};
 ghost use Rattle.text_form.specs.Lines.{line, number, numberOrNone};
 ghost use Rattle.rules.specs.Text.Values.{phase, zeroOrOne, keyRealm, keyRealmValue, rootAndQueued, editionAndDefault};
-ghost use Rattle.text_read.specs.Reads.{Reads};
-ghost use Rattle.text_read.specs.Answers.{NumberRead, PhaseRead, MarkRead, OptionRead, PairRead, ProvisionRead, RootRead, EditionRead, rootedSaid};
-ghost use Rattle.text_read.specs.Numbers.{stopAt, valueTo};
+ghost use Rattle.text_read_number.specs.Answers.{NumberRead};
+ghost use Rattle.text_read.specs.Answers.{PhaseRead, MarkRead, OptionRead, PairRead, ProvisionRead, RootRead, EditionRead, rootedSaid};
+use text_read_number::Next;
+use text_read_number::Number;
 
-// A place of a text, or that what was to be read before it does not stand there.
-pub enum Next {
-    At(usize),
-    Torn,
-}
-
-// (2^64 − 1) / 10
-const LAST_TENTH: u64 = 1844674407370955161;
-
-// The numbers of an answer are 0 where it is torn.
-pub struct Number {
-    pub value: u64,
-    pub next: Next,
-}
-
-// Tag 0 is none.
+// Tag 0 is none. The numbers of an answer are 0 where it is torn.
 pub struct NumberOrNone {
     pub tag: u64,
     pub value: u64,
@@ -65,136 +44,12 @@ pub struct Editioned {
     pub next: Next,
 }
 
-// These bytes stand at the place. Where fewer are left, none is looked at.
-fn literal(text: &[u8], at: Next, name: &[u8]) -> Next
-    ensures { λ r. ⌜ Reads (expect (now (name .entry))) (now (text .entry)) at tt r ⌝ }
-{
-    let Next::At(first) = at else {
-        return Next::Torn;
-    };
-    if text.len() < first {
-        return Next::Torn;
-    }
-    if text.len() - first < name.len() {
-        return Next::Torn;
-    }
-    let mut i: usize = 0;
-    while i < name.len() {
-        if text[first + i] != name[i] {
-            return Next::Torn;
-        }
-        i += 1;
-    }
-    Next::At(first + i)
-}
-
-// The byte that ends a number.
-fn ended(text: &[u8], at: usize, stop: u8, value: u64) -> Number
-    requires { ⌜ at ≤ length (now text) ⌝ }
-    ensures { λ r. ⌜ NumberRead (stopAt stop value) (now (text .entry)) (Next.At at) r ⌝ }
-{
-    if at == text.len() {
-        return Number {
-            value: 0,
-            next: Next::Torn,
-        };
-    }
-    if text[at] != stop {
-        return Number {
-            value: 0,
-            next: Next::Torn,
-        };
-    }
-    Number {
-        value,
-        next: Next::At(at + 1),
-    }
-}
-
-// Whether a digit more makes a number past 2^64 − 1: behind a tenth of that none fits from 6 on.
-fn is_past(n: u64, digit: u64) -> bool
-    requires { ⌜ digit < 10 ⌝ }
-    ensures { λ r. ⌜ r ≡ leb (2 ^ 64) (n * 10 + digit) ⌝ }
-{
-    if n < LAST_TENTH {
-        return false;
-    }
-    LAST_TENTH - digit / 6 < n
-}
-
-// The digits behind a number, up to the byte that ends it: one pass.
-fn digits(text: &[u8], from: usize, stop: u8, value: u64) -> Number
-    requires { ⌜ from ≤ length (now text) ⌝ ∗ ⌜ noDigit stop ≡ true ⌝ }
-    ensures { λ r. ⌜ NumberRead (valueTo stop value) (now (text .entry)) (Next.At from) r ⌝ }
-{
-    let mut n = value;
-    let mut i = from;
-    while i < text.len() {
-        let byte = text[i];
-        if byte < 48 {
-            return ended(text, i, stop, n);
-        }
-        if 57 < byte {
-            return ended(text, i, stop, n);
-        }
-        let digit = (byte - 48) as u64;
-        if is_past(n, digit) {
-            return Number {
-                value: 0,
-                next: Next::Torn,
-            };
-        }
-        n = n * 10 + digit;
-        i += 1;
-    }
-    Number {
-        value: 0,
-        next: Next::Torn,
-    }
-}
-
-// A number with this byte behind it: no leading zero, and no number past 2^64 − 1.
-fn number_to(text: &[u8], at: Next, stop: u8) -> Number
-    requires { ⌜ noDigit stop ≡ true ⌝ }
-    ensures { λ r. ⌜ NumberRead (readNumber stop) (now (text .entry)) at r ⌝ }
-{
-    let Next::At(first) = at else {
-        return Number {
-            value: 0,
-            next: Next::Torn,
-        };
-    };
-    if text.len() <= first {
-        return Number {
-            value: 0,
-            next: Next::Torn,
-        };
-    }
-    let byte = text[first];
-    if byte < 48 {
-        return Number {
-            value: 0,
-            next: Next::Torn,
-        };
-    }
-    if 57 < byte {
-        return Number {
-            value: 0,
-            next: Next::Torn,
-        };
-    }
-    if byte == 48 {
-        return ended(text, first + 1, stop, 0);
-    }
-    digits(text, first + 1, stop, (byte - 48) as u64)
-}
-
 // `name` and a number: `name` has the equals sign.
 pub fn number_line(text: &[u8], at: Next, name: &[u8]) -> Number
     ensures { λ r. ⌜ NumberRead (behind (now (name .entry)) number .read) (now (text .entry)) at r ⌝ }
 {
-    let value = literal(text, at, name);
-    number_to(text, value, 10)
+    let value = text_read_number::literal(text, at, name);
+    text_read_number::number(text, value)
 }
 
 // phase: 0 to 3 in table order.
@@ -229,7 +84,7 @@ pub fn mark_line(text: &[u8], at: Next) -> Number
 fn number_or_none(text: &[u8], at: Next) -> NumberOrNone
     ensures { λ r. ⌜ OptionRead (numberOrNone .read) (now (text .entry)) at r ⌝ }
 {
-    let some = number_to(text, at, 10);
+    let some = text_read_number::number(text, at);
     let end = some.next;
     if let Next::At(next) = end {
         return NumberOrNone {
@@ -238,7 +93,7 @@ fn number_or_none(text: &[u8], at: Next) -> NumberOrNone
             next: Next::At(next),
         };
     }
-    let none = literal(text, at, b"none\n");
+    let none = text_read_number::literal(text, at, b"none\n");
     NumberOrNone {
         tag: 0,
         value: 0,
@@ -250,7 +105,7 @@ fn number_or_none(text: &[u8], at: Next) -> NumberOrNone
 pub fn option_line(text: &[u8], at: Next, name: &[u8]) -> NumberOrNone
     ensures { λ r. ⌜ OptionRead (behind (now (name .entry)) numberOrNone .read) (now (text .entry)) at r ⌝ }
 {
-    let value = literal(text, at, name);
+    let value = text_read_number::literal(text, at, name);
     number_or_none(text, value)
 }
 
@@ -258,10 +113,10 @@ pub fn option_line(text: &[u8], at: Next, name: &[u8]) -> NumberOrNone
 pub fn pair_line(text: &[u8], at: Next, name: &[u8]) -> Pair
     ensures { λ r. ⌜ PairRead (behind (now (name .entry)) keyRealm .read) (now (text .entry)) at r ⌝ }
 {
-    let value = literal(text, at, name);
-    let key = number_to(text, value, 44);
+    let value = text_read_number::literal(text, at, name);
+    let key = text_read_number::comma(text, value);
     let second = key.next;
-    let realm = number_to(text, second, 10);
+    let realm = text_read_number::number(text, second);
     let end = realm.next;
     let Next::At(next) = end else {
         return Pair {
@@ -281,10 +136,10 @@ pub fn pair_line(text: &[u8], at: Next, name: &[u8]) -> Pair
 pub fn provision_line(text: &[u8], at: Next, name: &[u8]) -> Provision
     ensures { λ r. ⌜ ProvisionRead (behind (now (name .entry)) keyRealmValue .read) (now (text .entry)) at r ⌝ }
 {
-    let first = literal(text, at, name);
-    let key = number_to(text, first, 44);
+    let first = text_read_number::literal(text, at, name);
+    let key = text_read_number::comma(text, first);
     let second = key.next;
-    let realm = number_to(text, second, 44);
+    let realm = text_read_number::comma(text, second);
     let third = realm.next;
     let value = number_or_none(text, third);
     let end = value.next;
@@ -330,20 +185,20 @@ fn root_answer(root: u64, revision: u64, argument: u64, next: Next) -> Rooted
 pub fn root_lines(text: &[u8], at: Next) -> Rooted
     ensures { λ r. ⌜ RootRead (rootAndQueued .read) (now (text .entry)) at r ⌝ }
 {
-    let root = literal(text, at, b"root=");
-    let unissued = literal(text, root, b"0\nqueued=none\n");
+    let root = text_read_number::literal(text, at, b"root=");
+    let unissued = text_read_number::literal(text, root, b"0\nqueued=none\n");
     if let Next::At(next) = unissued {
         return root_answer(0, 0, 0, Next::At(next));
     }
-    let queued = literal(text, root, b"1\nqueued=");
-    let revision = number_to(text, queued, 44);
+    let queued = text_read_number::literal(text, root, b"1\nqueued=");
+    let revision = text_read_number::comma(text, queued);
     let second = revision.next;
-    let argument = number_to(text, second, 10);
+    let argument = text_read_number::number(text, second);
     let end = argument.next;
     if let Next::At(next) = end {
         return root_answer(1, revision.value, argument.value, Next::At(next));
     }
-    let spent = literal(text, root, b"2\nqueued=none\n");
+    let spent = text_read_number::literal(text, root, b"2\nqueued=none\n");
     root_answer(2, 0, 0, spent)
 }
 
@@ -351,8 +206,8 @@ pub fn root_lines(text: &[u8], at: Next) -> Rooted
 pub fn edition_lines(text: &[u8], at: Next) -> Editioned
     ensures { λ r. ⌜ EditionRead (editionAndDefault .read) (now (text .entry)) at r ⌝ }
 {
-    let edition = literal(text, at, b"edition=");
-    let first = literal(text, edition, b"1\ndefault=0\n");
+    let edition = text_read_number::literal(text, at, b"edition=");
+    let first = text_read_number::literal(text, edition, b"1\ndefault=0\n");
     if let Next::At(next) = first {
         return Editioned {
             edition: 1,
@@ -360,8 +215,8 @@ pub fn edition_lines(text: &[u8], at: Next) -> Editioned
             next: Next::At(next),
         };
     }
-    let second = literal(text, edition, b"2\ndefault=");
-    let default = number_to(text, second, 10);
+    let second = text_read_number::literal(text, edition, b"2\ndefault=");
+    let default = text_read_number::number(text, second);
     let end = default.next;
     let Next::At(next) = end else {
         return Editioned {

@@ -14,15 +14,16 @@ use Rattle.rules.specs.Text.Values.{keyRealm, keyRealmValue, rootAndQueued, zer
 use Rattle.text_form.specs.Forms.{_then_}
 use Rattle.text_form.specs.Lines.{line, list, number, numberOrNone}
 use Rattle.memory.specs.View.{parentOf, phaseOf, rootOf}
-use Rattle.text_read.specs.declared.Next.{Next}
-use Rattle.text_read.specs.declared.Next.the-variants.{At, Torn}
-use Rattle.text_read.specs.declared.Number.{Number}
+use Rattle.text_read_number.specs.declared.Next.{Next}
+use Rattle.text_read_number.specs.declared.Next.the-variants.{At, Torn}
+use Rattle.text_read_number.specs.declared.Number.{Number}
 use Rattle.text_read.specs.declared.NumberOrNone.{NumberOrNone}
 use Rattle.text_read.specs.declared.Pair.{Pair}
 use Rattle.text_read.specs.declared.Rooted.{Rooted}
-use Rattle.text_read.specs.Reads.{Reads, reads-at, came}
+use Rattle.text_read_number.specs.Reads.{Reads, reads-at, came}
 use Rattle.text_read.specs.Ways.{then-next, like-next}
-use Rattle.text_read.specs.Answers.{NumberRead, PhaseRead, MarkRead, OptionRead, PairRead, RootRead, phaseSaid, markSaid, optionSaid, rootSaid}
+use Rattle.text_read_number.specs.Answers.{NumberRead}
+use Rattle.text_read.specs.Answers.{PhaseRead, MarkRead, OptionRead, PairRead, RootRead, phaseSaid, markSaid, optionSaid, rootSaid}
 use Rattle.text_read_block.specs.declared.Head.{Head}
 use Rattle.text_read_block.specs.declared.Lists.{Lists}
 use Rattle.text_read_block.specs.declared.Block.{Block}

@@ -11,15 +11,16 @@ use Rattle.rules.specs.Text.Values.{keyRealm, editionAndDefault}
 use Rattle.text_form.specs.Bytes.{bytes}
 use Rattle.text_form.specs.Forms.{Form, behind, _then_, readMany}
 use Rattle.text_form.specs.Lines.{list, number}
-use Rattle.text_read.specs.declared.Next.{Next}
-use Rattle.text_read.specs.declared.Next.the-variants.{At, Torn}
-use Rattle.text_read.specs.declared.Number.{Number}
+use Rattle.text_read_number.specs.declared.Next.{Next}
+use Rattle.text_read_number.specs.declared.Next.the-variants.{At, Torn}
+use Rattle.text_read_number.specs.declared.Number.{Number}
 use Rattle.text_read.specs.declared.Pair.{Pair}
 use Rattle.text_read.specs.declared.Editioned.{Editioned}
-use Rattle.text_read.specs.Reads.{Reads, reads-at, reads-none, came}
+use Rattle.text_read_number.specs.Reads.{Reads, reads-at, reads-none, came}
 use Rattle.text_read.specs.Ways.{then-next, like-next}
 use Rattle.text_read.specs.Lists.{many-none, many-more, many-torn, counted-next}
-use Rattle.text_read.specs.Answers.{NumberRead, PairRead, EditionRead, editionSaid}
+use Rattle.text_read_number.specs.Answers.{NumberRead}
+use Rattle.text_read.specs.Answers.{PairRead, EditionRead, editionSaid}
 use Rattle.text_read_block.specs.declared.Listed.{Listed}
 use Rattle.text_read_block.specs.Lists.{PortsRead, RealmsRead}
 use Rattle.text_read_block.specs.Rows.{rowPut, rowsPut, rows-snoc}

@@ -18,13 +18,14 @@ use Rattle.rules.specs.Text.Values.{keyRealmValue}
 use Rattle.rules_laws.specs.Laws.Tests.{by-test}
 use Rattle.text_form.specs.Forms.{Form, readMany}
 use Rattle.text_form.specs.Lines.{line, number}
-use Rattle.text_read.specs.declared.Next.{Next}
-use Rattle.text_read.specs.declared.Next.the-variants.{At, Torn}
-use Rattle.text_read.specs.declared.Number.{Number}
+use Rattle.text_read_number.specs.declared.Next.{Next}
+use Rattle.text_read_number.specs.declared.Next.the-variants.{At, Torn}
+use Rattle.text_read_number.specs.declared.Number.{Number}
 use Rattle.text_read.specs.declared.Provision.{Provision}
-use Rattle.text_read.specs.Reads.{Reads, reads-at, reads-none}
+use Rattle.text_read_number.specs.Reads.{Reads, reads-at, reads-none}
 use Rattle.text_read.specs.Lists.{many-none, many-more, many-torn, counted-next}
-use Rattle.text_read.specs.Answers.{NumberRead, ProvisionRead, provisionIn, provisionSaid}
+use Rattle.text_read_number.specs.Answers.{NumberRead}
+use Rattle.text_read.specs.Answers.{ProvisionRead, provisionIn, provisionSaid}
 use Rattle.memory_values.specs.Values.{maskOf, valuesOf}
 use Rattle.memory_values.specs.Given.{mask-below, mask-none, mask-some, values-more}
 use Rattle.text_read_block.specs.Lists.{ProvisionsRead, maskWith, portsOf}

@@ -21,9 +21,9 @@ use Rattle.text_form.specs.Bytes.{bytes}
 use Rattle.text_form.specs.Lines.{line, number, numberOrNone}
 use Rattle.memory.specs.Writes.{rootTag, rootRevision}
 use Rattle.memory_values.specs.Values.{maskOf, valuesOf}
-use Rattle.text_read.specs.declared.Next.{Next}
-use Rattle.text_read.specs.declared.Next.the-variants.{At, Torn}
-use Rattle.text_read.specs.Reads.{Reads, next-one, value-one}
+use Rattle.text_read_number.specs.declared.Next.{Next}
+use Rattle.text_read_number.specs.declared.Next.the-variants.{At, Torn}
+use Rattle.text_read_number.specs.Reads.{Reads, next-one, value-one}
 use Rattle.text_read_block.specs.declared.Head.{Head}
 use Rattle.text_read_block.specs.declared.Lists.{Lists}
 use Rattle.text_read_block.specs.declared.Block.{Block}

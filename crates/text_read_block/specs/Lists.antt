@@ -12,9 +12,9 @@ use Rattle.rules.specs.Text.{realms}
 use Rattle.rules.specs.Text.Values.{keyRealm, keyRealmValue}
 use Rattle.text_form.specs.Forms.{Form, behind, counted}
 use Rattle.text_form.specs.Lines.{list, number}
-use Rattle.text_read.specs.declared.Next.{Next}
-use Rattle.text_read.specs.declared.Next.the-variants.{At}
-use Rattle.text_read.specs.Reads.{Reads}
+use Rattle.text_read_number.specs.declared.Next.{Next}
+use Rattle.text_read_number.specs.declared.Next.the-variants.{At}
+use Rattle.text_read_number.specs.Reads.{Reads}
 use Rattle.memory_values.specs.Values.{maskOf, valuesOf}
 use Rattle.text_read_block.specs.declared.Listed.{Listed}
 use Rattle.text_read_block.specs.declared.Provided.{Provided}

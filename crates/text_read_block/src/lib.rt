@@ -5,7 +5,7 @@ ghost use Prim.Native.Nat.{_<_, _≤_, _^_};
 ghost use Rattle.text_read_block.specs.Lists.{PortsRead, RealmsRead, ProvisionsRead, maskWith};
 ghost use Rattle.text_read_block.specs.Blocks.{HeadRead, ListsRead, BlockRead, blank, empty};
 use rules::limits;
-use text_read::Next;
+use text_read_number::Next;
 
 // The most words of a plugin's realm list, led by edition and default, of its dependencies, of its claims, led by the anchor, and of its values.
 pub const REALM_WORDS: usize = limits::REALM_ROWS * 2 + 2;

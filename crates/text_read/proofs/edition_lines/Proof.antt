@@ -1,7 +1,7 @@
 -- The two editions in their order: the second is tried where the first is torn.
 use mathlib.Core.Path.{refl}
 use Rattle.rules_types.specs.declared.Edition.the-variants.{First}
-use Rattle.text_read.specs.Reads.{reads-at, torn-any}
+use Rattle.text_read_number.specs.Reads.{reads-at, torn-any}
 use Rattle.text_read.proofs.Values.{edition-first, edition-second}
 use borrow.Author.Needs.{needs}
 use Rattle.text_read.proofs.edition_lines.Statement.{statement}
@@ -37,8 +37,8 @@ slice-aggregate-literal-3 c = search needs
 literal-requires-3 : tie.Need-literal-requires-3
 literal-requires-3 c κs = search needs
 
-number-to-requires : tie.Need-number-to-requires
-number-to-requires c κs = search needs
+number-requires : tie.Need-number-requires
+number-requires c κs = search needs
 
 enum-known-end : tie.Need-enum-known-end
 enum-known-end c = search needs
@@ -55,7 +55,7 @@ returns-2 c =
     let name = first .before .before in
     let lines =
     edition-second (name .literal .ensures) (first .literal2 .ensures) (not .enum-told .given .1) (second .literal3 .ensures)
-    (number .number-to .ensures .reads) in
+    (number .number .ensures .reads) in
     record { reads = torn-any (reads-at lines (c .enum-told2 .given .1)) First; one = refl }
 
 returns-3 : tie.Need-returns-3
@@ -67,7 +67,7 @@ returns-3 c =
     let name = first .before .before in
     let lines =
     edition-second (name .literal .ensures) (first .literal2 .ensures) (not .enum-told .given .1) (second .literal3 .ensures)
-    (number .number-to .ensures .reads) in
+    (number .number .ensures .reads) in
     record { reads = reads-at lines (c .before .end .given .1); one = refl }
 
 pub edition-lines-spec : {M : Type 1} → statement M
@@ -83,7 +83,7 @@ edition-lines-spec =
     enum-told
     slice-aggregate-literal-3
     literal-requires-3
-    number-to-requires
+    number-requires
     enum-known-end
     enum-told-2
     returns-2

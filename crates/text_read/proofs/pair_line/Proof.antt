@@ -2,7 +2,7 @@
 use mathlib.Core.Path.{refl}
 use Rattle.rules.specs.Holds.{port}
 use Rattle.rules.specs.Text.Values.{keyRealm}
-use Rattle.text_read.specs.Reads.{reads-at, torn-any}
+use Rattle.text_read_number.specs.Reads.{reads-at, torn-any}
 use Rattle.text_read.specs.Ways.{behind-next}
 use Rattle.text_read.proofs.Values.{key-realm}
 use borrow.Author.Needs.{needs}
@@ -12,11 +12,11 @@ use Rattle.text_read.proofs.pair_line.Tie as tie
 literal-requires : tie.Need-literal-requires
 literal-requires c κs = search needs
 
-number-to-requires : tie.Need-number-to-requires
-number-to-requires c κs = search needs
+comma-requires : tie.Need-comma-requires
+comma-requires c κs = search needs
 
-number-to-requires-2 : tie.Need-number-to-requires-2
-number-to-requires-2 c κs = search needs
+number-requires : tie.Need-number-requires
+number-requires c κs = search needs
 
 enum-known-end : tie.Need-enum-known-end
 enum-known-end c = search needs
@@ -29,7 +29,7 @@ returns c =
     let two = c .before .before in
     let one = two .before in
     let st = one .before .before .before .before in
-    let pair = key-realm (one .number-to .ensures .reads) (two .number-to2 .ensures .reads) in
+    let pair = key-realm (one .comma .ensures .reads) (two .number .ensures .reads) in
     let line = behind-next (st .args .name .now) keyRealm (one .before .literal .ensures) pair in
     record { reads = torn-any (reads-at line (c .enum-told .given .1)) (port 0 0); one = refl }
 
@@ -38,7 +38,7 @@ returns-2 c =
     let two = c .before .before .before in
     let one = two .before in
     let st = one .before .before .before .before in
-    let pair = key-realm (one .number-to .ensures .reads) (two .number-to2 .ensures .reads) in
+    let pair = key-realm (one .comma .ensures .reads) (two .number .ensures .reads) in
     let line = behind-next (st .args .name .now) keyRealm (one .before .literal .ensures) pair in
     record { reads = reads-at line (c .before .end .given .1); one = refl }
 
@@ -47,8 +47,8 @@ pair-line-spec =
     tie.close
     (tie.spec
     literal-requires
-    number-to-requires
-    number-to-requires-2
+    comma-requires
+    number-requires
     enum-known-end
     enum-told
     returns

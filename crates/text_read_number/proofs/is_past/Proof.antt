@@ -6,8 +6,8 @@ use lib.Dec.{leb}
 use borrow.Author.Needs.{needs}
 use borrow.Author.Tests.{leb-true, leb-false, lt-leb, lt-ltb, le-ltb}
 use Rattle.rules_basics.specs.Tests.{by-test}
-use Rattle.text_read.proofs.is_past.Statement.{statement}
-use Rattle.text_read.proofs.is_past.Tie as tie
+use Rattle.text_read_number.proofs.is_past.Statement.{statement}
+use Rattle.text_read_number.proofs.is_past.Tie as tie
 
 returns : tie.Need-returns
 returns c = let a = c .before .args in sym (lt-leb (2 ^ 64) (a .n * 10 + a .digit) (omega (arith, c .before .pre, c .if1 .taken)))

@@ -2,14 +2,14 @@
 use Prim.Native.Nat.{_-_, _≤_}
 use mathlib.Core.Path.{_≡_, refl, _∙_}
 use lib.ListN.{length, drop, getD}
-use Rattle.text_read.specs.declared.Next.the-variants.{At}
-use Rattle.text_read.specs.Numbers.{stopAt, valueTo}
-use Rattle.text_read.specs.Reads.{reads-torn}
-use Rattle.text_read.proofs.Laws.{value-end, value-low, value-high, value-over, value-next, past, not-past, number-from}
+use Rattle.text_read_number.specs.declared.Next.the-variants.{At}
+use Rattle.text_read_number.specs.Numbers.{stopAt, valueTo}
+use Rattle.text_read_number.specs.Reads.{reads-torn}
+use Rattle.text_read_number.proofs.Laws.{value-end, value-low, value-high, value-over, value-next, past, not-past, number-from}
 use native.Mathlib.Omega.{arith}
 use borrow.Author.Needs.{needs}
-use Rattle.text_read.proofs.digits.Statement.{statement}
-use Rattle.text_read.proofs.digits.Tie as tie
+use Rattle.text_read_number.proofs.digits.Statement.{statement}
+use Rattle.text_read_number.proofs.digits.Tie as tie
 
 abbrev Inv-loop : tie.InvT-loop
 Inv-loop text from stop value n₀ i₀ n i = (i ≤ length text) × (valueTo stop value (drop from text) ≡ valueTo stop n (drop i text))

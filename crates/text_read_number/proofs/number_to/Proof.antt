@@ -1,14 +1,14 @@
 -- The first byte says how the number goes on.
 use Prim.Native.Nat.{_+_, _-_}
 use Rattle.text_form.specs.Numbers.{readNumber}
-use Rattle.text_read.specs.Numbers.{stopAt, valueTo}
-use Rattle.text_read.specs.Reads.{reads-empty, reads-torn}
-use Rattle.text_read.proofs.Laws.{number-none, number-low, number-high, number-zero, number-digit, number-from}
+use Rattle.text_read_number.specs.Numbers.{stopAt, valueTo}
+use Rattle.text_read_number.specs.Reads.{reads-empty, reads-torn}
+use Rattle.text_read_number.proofs.Laws.{number-none, number-low, number-high, number-zero, number-digit, number-from}
 use mathlib.Core.Path.{refl}
 use native.Mathlib.Omega.{arith}
 use borrow.Author.Needs.{needs}
-use Rattle.text_read.proofs.number_to.Statement.{statement}
-use Rattle.text_read.proofs.number_to.Tie as tie
+use Rattle.text_read_number.proofs.number_to.Statement.{statement}
+use Rattle.text_read_number.proofs.number_to.Tie as tie
 
 enum-known-at : tie.Need-enum-known-at
 enum-known-at c = search needs

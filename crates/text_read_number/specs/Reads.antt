@@ -10,8 +10,8 @@ use borrow.Author.Tests.{lt-ltb, le-ltb}
 use Rattle.rules_basics.specs.Basics.{pick}
 use Rattle.rules_basics.specs.Tests.{by-test}
 use Rattle.text_form.specs.Forms.{Read, found, torn, andThen, torn-found}
-use Rattle.text_read.specs.declared.Next.{Next}
-use Rattle.text_read.specs.declared.Next.the-variants.{At, Torn}
+use Rattle.text_read_number.specs.declared.Next.{Next}
+use Rattle.text_read_number.specs.declared.Next.the-variants.{At, Torn}
 
 -- A value and the place behind it, as what is read.
 abbrev pub inText : {A : Type 0} → List ℕ → A → Next → Read A

@@ -15,12 +15,12 @@ use Rattle.rules_basics.specs.Tests.{by-test}
 use Rattle.text_form.specs.Forms.{Read, found, torn, andThen, expect}
 use Rattle.text_form.specs.Words.{noDigit, with, valueFrom, numberOf}
 use Rattle.text_form.specs.Numbers.{upTo, orTorn, readNumber}
-use Rattle.text_read.specs.declared.Next.{Next}
-use Rattle.text_read.specs.declared.Next.the-variants.{At}
-use Rattle.text_read.specs.declared.Number.{Number}
-use Rattle.text_read.specs.Reads.{read-at}
-use Rattle.text_read.specs.Answers.{NumberRead}
-use Rattle.text_read.specs.Numbers.{stopAt, valueTo}
+use Rattle.text_read_number.specs.declared.Next.{Next}
+use Rattle.text_read_number.specs.declared.Next.the-variants.{At}
+use Rattle.text_read_number.specs.declared.Number.{Number}
+use Rattle.text_read_number.specs.Reads.{read-at}
+use Rattle.text_read_number.specs.Answers.{NumberRead}
+use Rattle.text_read_number.specs.Numbers.{stopAt, valueTo}
 
 -- Certain bytes do not stand in fewer.
 expect-long : (w t : List ℕ) → length t < length w → expect w t ≡ torn

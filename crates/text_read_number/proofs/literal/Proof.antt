@@ -3,12 +3,12 @@ use Prim.Native.Nat.{_+_, _-_, _≤_}
 use mathlib.Core.Path.{_≡_, _∙_}
 use lib.ListN.{length, drop}
 use Rattle.text_form.specs.Forms.{expect}
-use Rattle.text_read.specs.Reads.{reads-none, reads-past, reads-torn, reads-found}
-use Rattle.text_read.proofs.Laws.{expect-few, expect-end, expect-other, expect-more}
+use Rattle.text_read_number.specs.Reads.{reads-none, reads-past, reads-torn, reads-found}
+use Rattle.text_read_number.proofs.Laws.{expect-few, expect-end, expect-other, expect-more}
 use native.Mathlib.Omega.{arith}
 use borrow.Author.Needs.{needs}
-use Rattle.text_read.proofs.literal.Statement.{statement}
-use Rattle.text_read.proofs.literal.Tie as tie
+use Rattle.text_read_number.proofs.literal.Statement.{statement}
+use Rattle.text_read_number.proofs.literal.Tie as tie
 
 abbrev Inv-loop : tie.InvT-loop
 Inv-loop text name first i₀ i =

@@ -1,13 +1,13 @@
 -- The text's end, another byte, and the byte.
 use mathlib.Core.Path.{refl}
-use Rattle.text_read.specs.declared.Next.the-variants.{At}
-use Rattle.text_read.specs.Numbers.{stopAt}
-use Rattle.text_read.specs.Reads.{reads-torn, reads-found}
-use Rattle.text_read.proofs.Laws.{stop-end, stop-other, stop-here}
+use Rattle.text_read_number.specs.declared.Next.the-variants.{At}
+use Rattle.text_read_number.specs.Numbers.{stopAt}
+use Rattle.text_read_number.specs.Reads.{reads-torn, reads-found}
+use Rattle.text_read_number.proofs.Laws.{stop-end, stop-other, stop-here}
 use native.Mathlib.Omega.{arith}
 use borrow.Author.Needs.{needs}
-use Rattle.text_read.proofs.ended.Statement.{statement}
-use Rattle.text_read.proofs.ended.Tie as tie
+use Rattle.text_read_number.proofs.ended.Statement.{statement}
+use Rattle.text_read_number.proofs.ended.Tie as tie
 
 returns : tie.Need-returns
 returns c =
