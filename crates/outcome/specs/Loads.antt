@@ -16,6 +16,7 @@ use Rattle.registry_cycles.proofs as registry_cycles
 use Rattle.text_read_number.proofs as text_read_number
 use Rattle.text_read.proofs as text_read
 use Rattle.text_read_block.proofs as text_read_block
+use Rattle.registry_block.proofs as registry_block
 use Rattle.registry_load.proofs as registry_load
 use Rattle.console_load.proofs as console_load
 use Rattle.text_read_number.specs.Answers.{place-one, number-one}
@@ -24,7 +25,7 @@ use Rattle.text_read_block.specs.Blocks.{Lent, block-one}
 use Rattle.outcome.specs.Answers.{parent-exact}
 use Rattle.outcome.specs.Records.{ends-one}
 use Rattle.outcome.specs.One.{One, OneSeen}
-use Rattle.outcome.specs.Equations.{by-equation, memory-alone, one-outcome, one-with-memory}
+use Rattle.outcome.specs.Equations.{by-equation, by-two, memory-alone, one-outcome, one-with-memory}
 
 pub memory-open-words : One memory.«open_words».ended memory.«open_words».Reads.Learnt
 memory-open-words κs a r s ms ns p q = memory-alone p q
@@ -77,11 +78,11 @@ registry-cycles-acyclic κs a r s ms ns p q = by-equation p q
 pub text-read-number-literal : One text_read_number.literal.ended text_read_number.literal.Reads.Learnt
 text-read-number-literal κs a r s ms ns p q = place-one p q
 
-pub text-read-number-number : One text_read_number.number.ended text_read_number.number.Reads.Learnt
-text-read-number-number κs a r s ms ns p q = number-one p q
+pub text-read-number-to-end : One text_read_number.«to_end».ended text_read_number.«to_end».Reads.Learnt
+text-read-number-to-end κs a r s ms ns p q = number-one p q
 
-pub text-read-number-comma : One text_read_number.comma.ended text_read_number.comma.Reads.Learnt
-text-read-number-comma κs a r s ms ns p q = number-one p q
+pub text-read-number-to-comma : One text_read_number.«to_comma».ended text_read_number.«to_comma».Reads.Learnt
+text-read-number-to-comma κs a r s ms ns p q = number-one p q
 
 pub text-read-number-line : One text_read.«number_line».ended text_read.«number_line».Reads.Learnt
 text-read-number-line κs a r s ms ns p q = number-one p q
@@ -112,6 +113,9 @@ text-read-block-read-block κs a r s ms ns p q =
     let e = block-one p q in
     let same : (f : Lent → List ℕ) → f _ ≡ f _ = λ f. ap f (e .1) in
     (e .0, (same (λ l. l .realms), (same (λ l. l .dependencies), (same (λ l. l .claims), same (λ l. l .values)))))
+
+pub registry-block-join : One registry_block.join.ended registry_block.join.Reads.Learnt
+registry-block-join κs a r s ms ns p q = by-two (p .answer, p .memory) (q .answer, q .memory)
 
 pub registry-load-load : One registry_load.load.ended registry_load.load.Reads.Learnt
 registry-load-load κs a r s ms ns p q = one-with-memory done-exact p q

@@ -20,7 +20,7 @@ use Rattle.rules_load.specs.Laws.Lists.{every-true, chained-true}
 use Rattle.rules_load.specs.Laws.Joining.{rises-behind}
 use Rattle.rules_load.specs.Laws.Sorting.{rises-end}
 use Rattle.memory.specs.View.{view}
-use Rattle.registry_load.specs.Lives.{countsFit}
+use Rattle.registry_block.specs.Lives.{countsFit}
 
 -- Its numbers, its life, and its ports beside those of the words.
 unfoldable pub fits : List ℕ → (from next rows : ℕ) → Plugin → Bool

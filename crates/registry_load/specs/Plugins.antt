@@ -30,7 +30,7 @@ use Rattle.text_read_number.specs.declared.Next.{Next}
 use Rattle.text_read_number.specs.declared.Next.the-variants.{At, Torn}
 use Rattle.text_read_number.specs.Reads.{readFrom, read-at, Reads}
 use Rattle.text_read.specs.Lists.{many-none, many-more, many-torn, many-left}
-use Rattle.registry_load.specs.declared.Joined.{Joined}
+use Rattle.registry_block.specs.declared.Joined.{Joined}
 use Rattle.registry_load.specs.Joined.{fits, fits-passes, unfit-refused}
 
 -- A block that does not join: torn, or its plugin does not fit.

@@ -1,42 +1,29 @@
 // Document 02 [4]: the text read back. It is read into words of the function's own, and nothing is written to the registry before
 // the last check has passed.
 ghost use mathlib.Core.Path.{_≡_};
-ghost use Prim.Native.Nat.{_≤_, _<_, _%_};
+ghost use Prim.Native.Nat.{_≤_, _<_};
 ghost use lib.ListN.{length};
-ghost use Rattle.rules.specs.Limits.{maxPlugins, maxRows};
+ghost use Rattle.rules.specs.Limits.{maxPlugins};
 ghost use Rattle.rules.specs.Load.{load};
 ghost use Rattle.rules.specs.Answers.{doneAnswer};
 ghost use Rattle.memory.specs.Layout.{places};
-ghost use Rattle.memory.specs.View.{view, decoded};
+ghost use Rattle.memory.specs.View.{view};
 ghost use Rattle.memory.specs.Writes.{openedWith};
 ghost use Rattle.memory_load.specs.Loading.{zeros};
-ghost use Rattle.registry_load.specs.Blocks.{unqueuedTag, loadedLife, entryOf};
-ghost use Rattle.registry_load.specs.Lives.{lifeBy, countsBy, Within};
-ghost use Rattle.registry_load.specs.Join.{Rooms, blockFits, blockPut, joinedBy};
+ghost use Rattle.registry_load.specs.Join.{Rooms};
 ghost use Rattle.registry_load.specs.Plugins.{JoinRead, PluginsRead};
 ghost use Rattle.registry_load.specs.Whole.{HeaderRead, allHold, TextRead};
 ghost use Rattle.registry_load.specs.Words.{Opens};
-use memory::Life;
 use memory::WORDS;
-use memory::Words;
-use memory_entry::Entry;
+use registry_block::Joined;
 use rules::Done;
-use rules::Edition;
 use rules::limits;
 use rules::refusal;
-use text_read_block::Block;
 use text_read_block::CLAIM_WORDS;
 use text_read_block::DEPENDENCY_WORDS;
 use text_read_block::REALM_WORDS;
 use text_read_block::VALUE_WORDS;
 use text_read_number::Next;
-
-// The place behind a block whose plugin joined, the rows in use then, and the lowest id that may follow; Torn where it did not join.
-struct Joined {
-    next: Next,
-    rows: usize,
-    from: u64,
-}
 
 // What the lines before the plugins say, and the place behind them.
 struct Header {
@@ -51,106 +38,6 @@ struct Header {
 enum Text {
     Of(u64),
     Bad,
-}
-
-// Idle has root Unissued and no values; the others need generation 1 or more; Active has root Spent and every value; a queued
-// revision is not above the revision.
-fn life_fits(b: Block) -> bool
-    ensures { λ r. ⌜ r ≡ lifeBy b ⌝ }
-{
-    if b.phase == 0 {
-        if b.root == 0 {
-            return b.valued == 0;
-        }
-        return false;
-    }
-    if b.generation == 0 {
-        return false;
-    }
-    if b.phase == 2 {
-        if b.root == 2 {
-            return b.valued == b.provisions;
-        }
-        return false;
-    }
-    if b.root == 1 {
-        return b.queued <= b.revision;
-    }
-    true
-}
-
-// An issued id that is not below the lowest, and lists and rows within their limits.
-fn counts_fit(b: Block, from: u64, next: u64, rows: usize) -> bool
-    requires { ⌜ rows ≤ maxRows ⌝ }
-    ensures { λ r. ⌜ r ≡ countsBy b from next rows ⌝ }
-{
-    if b.id < from {
-        return false;
-    }
-    if next <= b.id {
-        return false;
-    }
-    if (limits::REALM_ROWS as u64) < b.realms {
-        return false;
-    }
-    if (limits::DEPENDENCIES as u64) < b.dependencies {
-        return false;
-    }
-    if (limits::PROVISION_KEYS as u64) < b.provisions {
-        return false;
-    }
-    rows + (b.dependencies as usize) + (b.provisions as usize) < limits::ROWS
-}
-
-fn refused() -> Joined
-    ensures { λ r. ⌜ r ≡ record { next = Next.Torn; rows = 0; from = 0 } ⌝ }
-{
-    Joined {
-        next: Next::Torn,
-        rows: 0,
-        from: 0,
-    }
-}
-
-// The root's number, with a Queued root Unissued.
-fn unqueued(root: u64) -> u64
-    ensures { λ r. ⌜ r ≡ unqueuedTag root ⌝ }
-{
-    if root == 2 { 2 } else { 0 }
-}
-
-// What is written of a block's plugin beside its life and lists.
-fn entry(b: Block, edition: Edition, rows: usize, next: u64) -> Entry
-    ensures { λ r. ⌜ r ≡ entryOf b edition rows next ⌝ }
-{
-    Entry {
-        id: b.id,
-        tag: b.tag,
-        parent: b.parent,
-        payload: b.payload,
-        start: rows as u64,
-        dependencies: b.dependencies,
-        provisions: b.provisions,
-        realms: b.realms,
-        edition: edition.number(),
-        default: edition.default(),
-        next,
-    }
-}
-
-fn life(b: Block) -> Life
-    ensures { λ r. ⌜ r ≡ decoded (loadedLife b) ⌝ }
-{
-    memory_life::decode(Words {
-        revision: b.revision,
-        payload: b.payload,
-        phase: b.phase,
-        retired: b.retired,
-        generation: b.generation,
-        root: unqueued(b.root),
-        root_revision: 0,
-        root_argument: 0,
-    })
 }
 
 fn count(words: &[u64]) -> usize
@@ -179,73 +66,6 @@ fn rooms(
     let v = count(values);
 }
 
-// Whether a block's plugin fits beside those before it: its numbers, its life and its ports.
-fn fits(
-    w: &[u64; WORDS],
-    b: Block,
-    realms: &[u64; REALM_WORDS],
-    dependencies: &[u64; DEPENDENCY_WORDS],
-    claims: &[u64; CLAIM_WORDS],
-    from: u64,
-    next: u64,
-    rows: usize,
-) -> bool
-    requires { ⌜ rows ≤ maxRows ⌝ }
-    ensures { λ r. ⌜ r ≡ blockFits (view (now (w .entry))) b (now (realms .entry)) (now (dependencies .entry)) (now (claims .entry)) from next rows ⌝ }
-{
-    if !counts_fit(b, from, next, rows) {
-        return false;
-    }
-    if !life_fits(b) {
-        return false;
-    }
-    let claimed = memory_lists::some_words(claims, 0, (b.provisions as usize) * 2 + 2);
-    registry_joins::ports_fit(
-        w,
-        memory::parent_from(b.tag, b.parent),
-        ports::port_at(claimed, 0),
-        memory_lists::some_words(realms, 0, (b.realms as usize) * 2 + 2),
-        memory_lists::some_words(claimed, 2, claimed.len()),
-        memory_lists::some_words(dependencies, 0, (b.dependencies as usize) * 2),
-    )
-}
-
-// The plugin of a block that fits, written to a place.
-fn put(
-    w: &mut [u64; WORDS],
-    b: Block,
-    realms: &[u64; REALM_WORDS],
-    dependencies: &[u64; DEPENDENCY_WORDS],
-    claims: &[u64; CLAIM_WORDS],
-    values: &[u64; VALUE_WORDS],
-    place: usize,
-    rows: usize,
-    next: u64,
-) -> Joined
-    requires { ⌜ Within b next rows ⌝ }
-    ensures { λ r. ⌜ (r ≡ joinedBy b rows) × (now (w .exit) ≡ blockPut (now (w .entry)) b (now (realms .entry)) (now (dependencies .entry))
-        (now (claims .entry)) (now (values .entry)) (place % places) rows next) ⌝ }
-{
-    let listed = memory_lists::some_words(realms, 0, (b.realms as usize) * 2 + 2);
-    memory_load::load_place(
-        w,
-        place,
-        entry(b, ports_realms::edition(listed), rows, next),
-        life(b),
-        ports_realms::rows(listed),
-        memory_lists::some_words(dependencies, 0, (b.dependencies as usize) * 2),
-        memory_lists::some_words(claims, 0, (b.provisions as usize) * 2 + 2),
-        b.mask,
-        memory_lists::some_words(values, 0, b.provisions as usize),
-    );
-    let behind = b.next;
-    Joined {
-        next: behind,
-        rows: rows + (b.dependencies as usize) + (b.provisions as usize) + 1,
-        from: b.id + 1,
-    }
-}
-
 // The block at a place: its lists go to lent words, and its plugin to the next place, if it fits beside those before it.
 fn join(
     w: &mut [u64; WORDS],
@@ -260,19 +80,12 @@ fn join(
     from: u64,
     next: u64,
 ) -> Joined
-    requires { ⌜ place < places ⌝ ∗ ⌜ rows ≤ maxRows ⌝ }
+    requires { ⌜ place < places ⌝ }
     ensures { λ r. ⌜ JoinRead (now (text .entry)) at (now (w .entry)) place from next rows r (now (w .exit)) ⌝ }
 {
     rooms(realms, dependencies, claims, values);
     let b = text_read_block::read_block(text, Next::At(at), realms, dependencies, claims, values);
-    let end = b.next;
-    if let Next::Torn = end {
-        return refused();
-    }
-    if !fits(w, b, realms, dependencies, claims, from, next, rows) {
-        return refused();
-    }
-    put(
+    registry_block::join(
         w,
         b,
         realms,
@@ -281,6 +94,7 @@ fn join(
         values,
         place,
         rows,
+        from,
         next,
     )
 }

@@ -49,7 +49,7 @@ pub fn number_line(text: &[u8], at: Next, name: &[u8]) -> Number
     ensures { λ r. ⌜ NumberRead (behind (now (name .entry)) number .read) (now (text .entry)) at r ⌝ }
 {
     let value = text_read_number::literal(text, at, name);
-    text_read_number::number(text, value)
+    text_read_number::to_end(text, value)
 }
 
 // phase: 0 to 3 in table order.
@@ -84,7 +84,7 @@ pub fn mark_line(text: &[u8], at: Next) -> Number
 fn number_or_none(text: &[u8], at: Next) -> NumberOrNone
     ensures { λ r. ⌜ OptionRead (numberOrNone .read) (now (text .entry)) at r ⌝ }
 {
-    let some = text_read_number::number(text, at);
+    let some = text_read_number::to_end(text, at);
     let end = some.next;
     if let Next::At(next) = end {
         return NumberOrNone {
@@ -114,9 +114,9 @@ pub fn pair_line(text: &[u8], at: Next, name: &[u8]) -> Pair
     ensures { λ r. ⌜ PairRead (behind (now (name .entry)) keyRealm .read) (now (text .entry)) at r ⌝ }
 {
     let value = text_read_number::literal(text, at, name);
-    let key = text_read_number::comma(text, value);
+    let key = text_read_number::to_comma(text, value);
     let second = key.next;
-    let realm = text_read_number::number(text, second);
+    let realm = text_read_number::to_end(text, second);
     let end = realm.next;
     let Next::At(next) = end else {
         return Pair {
@@ -137,9 +137,9 @@ pub fn provision_line(text: &[u8], at: Next, name: &[u8]) -> Provision
     ensures { λ r. ⌜ ProvisionRead (behind (now (name .entry)) keyRealmValue .read) (now (text .entry)) at r ⌝ }
 {
     let first = text_read_number::literal(text, at, name);
-    let key = text_read_number::comma(text, first);
+    let key = text_read_number::to_comma(text, first);
     let second = key.next;
-    let realm = text_read_number::comma(text, second);
+    let realm = text_read_number::to_comma(text, second);
     let third = realm.next;
     let value = number_or_none(text, third);
     let end = value.next;
@@ -191,9 +191,9 @@ pub fn root_lines(text: &[u8], at: Next) -> Rooted
         return root_answer(0, 0, 0, Next::At(next));
     }
     let queued = text_read_number::literal(text, root, b"1\nqueued=");
-    let revision = text_read_number::comma(text, queued);
+    let revision = text_read_number::to_comma(text, queued);
     let second = revision.next;
-    let argument = text_read_number::number(text, second);
+    let argument = text_read_number::to_end(text, second);
     let end = argument.next;
     if let Next::At(next) = end {
         return root_answer(1, revision.value, argument.value, Next::At(next));
@@ -216,7 +216,7 @@ pub fn edition_lines(text: &[u8], at: Next) -> Editioned
         };
     }
     let second = text_read_number::literal(text, edition, b"2\ndefault=");
-    let default = text_read_number::number(text, second);
+    let default = text_read_number::to_end(text, second);
     let end = default.next;
     let Next::At(next) = end else {
         return Editioned {

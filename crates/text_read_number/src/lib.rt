@@ -153,14 +153,14 @@ fn number_to(text: &[u8], at: Next, stop: u8) -> Number
 }
 
 // A number that ends its line.
-pub fn number(text: &[u8], at: Next) -> Number
+pub fn to_end(text: &[u8], at: Next) -> Number
     ensures { λ r. ⌜ NumberRead (number .read) (now (text .entry)) at r ⌝ }
 {
     number_to(text, at, 10)
 }
 
 // A number with a comma behind it.
-pub fn comma(text: &[u8], at: Next) -> Number
+pub fn to_comma(text: &[u8], at: Next) -> Number
     ensures { λ r. ⌜ NumberRead (comma .read) (now (text .entry)) at r ⌝ }
 {
     number_to(text, at, 44)

@@ -28,7 +28,7 @@ join-requires : tie.Need-join-requires Inv-loop μ-loop
 join-requires c κs =
     let l = c .before .before .before .before .before in
     let at = l .before in
-    (omega (arith, at .loop .inv .1, l .loop-test .taken, at .before .before .pre .1 .1), at .loop .inv .0 .room)
+    omega (arith, at .loop .inv .1, l .loop-test .taken, at .before .before .pre .1 .1)
 
 enum-known-end : tie.Need-enum-known-end Inv-loop μ-loop
 enum-known-end c = search needs

@@ -37,8 +37,8 @@ slice-aggregate-literal-3 c = search needs
 literal-requires-3 : tie.Need-literal-requires-3
 literal-requires-3 c κs = search needs
 
-number-requires : tie.Need-number-requires
-number-requires c κs = search needs
+to-end-requires : tie.Need-to-end-requires
+to-end-requires c κs = search needs
 
 enum-known-end : tie.Need-enum-known-end
 enum-known-end c = search needs
@@ -55,7 +55,7 @@ returns-2 c =
     let name = first .before .before in
     let lines =
     edition-second (name .literal .ensures) (first .literal2 .ensures) (not .enum-told .given .1) (second .literal3 .ensures)
-    (number .number .ensures .reads) in
+    (number .to-end .ensures .reads) in
     record { reads = torn-any (reads-at lines (c .enum-told2 .given .1)) First; one = refl }
 
 returns-3 : tie.Need-returns-3
@@ -67,7 +67,7 @@ returns-3 c =
     let name = first .before .before in
     let lines =
     edition-second (name .literal .ensures) (first .literal2 .ensures) (not .enum-told .given .1) (second .literal3 .ensures)
-    (number .number .ensures .reads) in
+    (number .to-end .ensures .reads) in
     record { reads = reads-at lines (c .before .end .given .1); one = refl }
 
 pub edition-lines-spec : {M : Type 1} → statement M
@@ -83,7 +83,7 @@ edition-lines-spec =
     enum-told
     slice-aggregate-literal-3
     literal-requires-3
-    number-requires
+    to-end-requires
     enum-known-end
     enum-told-2
     returns-2

@@ -12,11 +12,11 @@ use Rattle.text_read.proofs.pair_line.Tie as tie
 literal-requires : tie.Need-literal-requires
 literal-requires c κs = search needs
 
-comma-requires : tie.Need-comma-requires
-comma-requires c κs = search needs
+to-comma-requires : tie.Need-to-comma-requires
+to-comma-requires c κs = search needs
 
-number-requires : tie.Need-number-requires
-number-requires c κs = search needs
+to-end-requires : tie.Need-to-end-requires
+to-end-requires c κs = search needs
 
 enum-known-end : tie.Need-enum-known-end
 enum-known-end c = search needs
@@ -29,7 +29,7 @@ returns c =
     let two = c .before .before in
     let one = two .before in
     let st = one .before .before .before .before in
-    let pair = key-realm (one .comma .ensures .reads) (two .number .ensures .reads) in
+    let pair = key-realm (one .to-comma .ensures .reads) (two .to-end .ensures .reads) in
     let line = behind-next (st .args .name .now) keyRealm (one .before .literal .ensures) pair in
     record { reads = torn-any (reads-at line (c .enum-told .given .1)) (port 0 0); one = refl }
 
@@ -38,7 +38,7 @@ returns-2 c =
     let two = c .before .before .before in
     let one = two .before in
     let st = one .before .before .before .before in
-    let pair = key-realm (one .comma .ensures .reads) (two .number .ensures .reads) in
+    let pair = key-realm (one .to-comma .ensures .reads) (two .to-end .ensures .reads) in
     let line = behind-next (st .args .name .now) keyRealm (one .before .literal .ensures) pair in
     record { reads = reads-at line (c .before .end .given .1); one = refl }
 
@@ -47,8 +47,8 @@ pair-line-spec =
     tie.close
     (tie.spec
     literal-requires
-    comma-requires
-    number-requires
+    to-comma-requires
+    to-end-requires
     enum-known-end
     enum-told
     returns

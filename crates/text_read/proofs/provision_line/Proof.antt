@@ -13,11 +13,11 @@ use Rattle.text_read.proofs.provision_line.Tie as tie
 literal-requires : tie.Need-literal-requires
 literal-requires c κs = search needs
 
-comma-requires : tie.Need-comma-requires
-comma-requires c κs = search needs
+to-comma-requires : tie.Need-to-comma-requires
+to-comma-requires c κs = search needs
 
-comma-requires-2 : tie.Need-comma-requires-2
-comma-requires-2 c κs = search needs
+to-comma-requires-2 : tie.Need-to-comma-requires-2
+to-comma-requires-2 c κs = search needs
 
 number-or-none-requires : tie.Need-number-or-none-requires
 number-or-none-requires c κs = search needs
@@ -36,7 +36,7 @@ returns c =
     let st = one .before .before .before .before in
     let line =
     behind-next (st .args .name .now) keyRealmValue (one .before .literal .ensures)
-    (key-realm-value (one .comma .ensures .reads) (two .comma2 .ensures .reads) (three .number-or-none .ensures .reads)) in
+    (key-realm-value (one .to-comma .ensures .reads) (two .to-comma2 .ensures .reads) (three .number-or-none .ensures .reads)) in
     record { reads = torn-any (reads-at line (c .enum-told .given .1)) (record { port = port 0 0; value = none }); one = refl }
 
 returns-2 : tie.Need-returns-2
@@ -47,7 +47,7 @@ returns-2 c =
     let st = one .before .before .before .before in
     let line =
     behind-next (st .args .name .now) keyRealmValue (one .before .literal .ensures)
-    (key-realm-value (one .comma .ensures .reads) (two .comma2 .ensures .reads) (three .number-or-none .ensures .reads)) in
+    (key-realm-value (one .to-comma .ensures .reads) (two .to-comma2 .ensures .reads) (three .number-or-none .ensures .reads)) in
     record { reads = reads-at line (c .before .end .given .1); one = provision-said _ _ (three .number-or-none .ensures .one) (c .before .end .given .1) _ _ }
 
 pub provision-line-spec : {M : Type 1} → statement M
@@ -55,8 +55,8 @@ provision-line-spec =
     tie.close
     (tie.spec
     literal-requires
-    comma-requires
-    comma-requires-2
+    to-comma-requires
+    to-comma-requires-2
     number-or-none-requires
     enum-known-end
     enum-told

@@ -39,11 +39,11 @@ slice-aggregate-literal-3 c = search needs
 literal-requires-3 : tie.Need-literal-requires-3
 literal-requires-3 c κs = search needs
 
-comma-requires : tie.Need-comma-requires
-comma-requires c κs = search needs
+to-comma-requires : tie.Need-to-comma-requires
+to-comma-requires c κs = search needs
 
-number-requires : tie.Need-number-requires
-number-requires c κs = search needs
+to-end-requires : tie.Need-to-end-requires
+to-end-requires c κs = search needs
 
 enum-known-end : tie.Need-enum-known-end
 enum-known-end c = search needs
@@ -61,7 +61,7 @@ returns-2 c =
     let name = zero .before .before in
     let lines =
     root-queued (name .literal .ensures) (zero .literal2 .ensures) (not .enum-told .given .1) (one .literal3 .ensures)
-    (two .comma .ensures .reads) (three .number .ensures .reads) _ (c .before .before .end .given .1) in
+    (two .to-comma .ensures .reads) (three .to-end .ensures .reads) _ (c .before .before .end .given .1) in
     root-told (Queued _ _) _ _ lines (c .root-answer2 .ensures)
 
 enum-told-2 : tie.Need-enum-told-2
@@ -88,7 +88,7 @@ returns-3 c =
     let name = zero .before .before in
     let lines =
     root-spent (name .literal .ensures) (zero .literal2 .ensures) (not .enum-told .given .1) (one .literal3 .ensures)
-    (two .comma .ensures .reads) (three .number .ensures .reads) _ (again .enum-told2 .given .1) (last .literal4 .ensures) in
+    (two .to-comma .ensures .reads) (three .to-end .ensures .reads) _ (again .enum-told2 .given .1) (last .literal4 .ensures) in
     root-told Spent _ _ lines (c .root-answer3 .ensures)
 
 pub root-lines-spec : {M : Type 1} → statement M
@@ -105,8 +105,8 @@ root-lines-spec =
     enum-told
     slice-aggregate-literal-3
     literal-requires-3
-    comma-requires
-    number-requires
+    to-comma-requires
+    to-end-requires
     enum-known-end
     root-answer-requires-2
     returns-2

@@ -1,11 +1,12 @@
 -- Each way out is one of the definition's, by the tests on the way.
+use Prim.Native.Nat.{_+_}
 use native.Mathlib.Omega.{arith}
 use borrow.Author.Needs.{needs}
 use borrow.Author.Tests.{lt-ltb, le-ltb, le-leb, lt-leb}
-use Rattle.rules.specs.Limits.{maxRealmRows, maxDependencies, maxProvisionKeys}
-use Rattle.registry_load.specs.Lives.{countsBy}
-use Rattle.registry_load.proofs.counts_fit.Statement.{statement}
-use Rattle.registry_load.proofs.counts_fit.Tie as tie
+use Rattle.rules.specs.Limits.{maxRows, maxRealmRows, maxDependencies, maxProvisionKeys}
+use Rattle.registry_block.specs.Lives.{countsBy}
+use Rattle.registry_block.proofs.counts_fit.Statement.{statement}
+use Rattle.registry_block.proofs.counts_fit.Tie as tie
 
 returns : tie.Need-returns
 unfolding countsBy
@@ -53,16 +54,30 @@ returns-5 c =
       lt-ltb maxProvisionKeys (b .provisions) (omega arith),
     )
 
+returns-6 : tie.Need-returns-6
+unfolding countsBy
+returns-6 c =
+    let a = c .before .before .before .before .before .before .before .before .before .before .before .args in
+    let b = a .b in
+    rw (
+      le-ltb (b .id) (a .from) (omega arith),
+      lt-leb (a .next) (b .id) (omega arith),
+      le-ltb maxRealmRows (b .realms) (omega arith),
+      le-ltb maxDependencies (b .dependencies) (omega arith),
+      le-ltb maxProvisionKeys (b .provisions) (omega arith),
+      le-ltb (a .rows + b .dependencies + b .provisions) maxRows (omega arith),
+    )
+
 add-result : tie.Need-add-result
 add-result c = search needs
 
 add-result-2 : tie.Need-add-result-2
 add-result-2 c = search needs
 
-returns-6 : tie.Need-returns-6
+returns-7 : tie.Need-returns-7
 unfolding countsBy
-returns-6 c =
-    let a = c .before .before .before .before .before .before .before .before .before .before .args in
+returns-7 c =
+    let a = c .before .before .before .before .before .before .before .before .before .before .before .args in
     let b = a .b in
     rw (
       le-ltb (b .id) (a .from) (omega arith),
@@ -73,4 +88,4 @@ returns-6 c =
     )
 
 pub counts-fit-spec : {M : Type 1} → statement M
-counts-fit-spec = tie.close (tie.spec returns returns-2 returns-3 returns-4 returns-5 add-result add-result-2 returns-6)
+counts-fit-spec = tie.close (tie.spec returns returns-2 returns-3 returns-4 returns-5 returns-6 add-result add-result-2 returns-7)

@@ -4,10 +4,10 @@ use mathlib.Core.Path.{sym, _∙_}
 use borrow.Author.Needs.{needs}
 use borrow.Author.Tests.{not-true, not-false}
 use Rattle.memory.specs.View.{view}
-use Rattle.registry_load.specs.Lives.{counts-within}
-use Rattle.registry_load.specs.Join.{fits-counts, fits-life, fits-ports}
-use Rattle.registry_load.proofs.fits.Statement.{statement}
-use Rattle.registry_load.proofs.fits.Tie as tie
+use Rattle.registry_block.specs.Lives.{counts-within}
+use Rattle.registry_block.specs.Joins.{fits-counts, fits-life, fits-ports}
+use Rattle.registry_block.proofs.fits.Statement.{statement}
+use Rattle.registry_block.proofs.fits.Tie as tie
 
 counts-fit-requires : tie.Need-counts-fit-requires
 counts-fit-requires c κs = search needs

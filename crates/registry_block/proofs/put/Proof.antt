@@ -4,9 +4,9 @@ use native.Mathlib.Omega.{arith}
 use mathlib.Core.Path.{refl}
 use borrow.Author.Needs.{needs}
 use Rattle.memory.specs.Layout.{places}
-use Rattle.registry_load.specs.Join.{put-by}
-use Rattle.registry_load.proofs.put.Statement.{statement}
-use Rattle.registry_load.proofs.put.Tie as tie
+use Rattle.registry_block.specs.Joins.{put-by}
+use Rattle.registry_block.proofs.put.Statement.{statement}
+use Rattle.registry_block.proofs.put.Tie as tie
 
 mul-some-words : tie.Need-mul-some-words
 mul-some-words c = search needs

@@ -1,7 +1,7 @@
 -- `entry` meets its contract: the block's numbers, and the edition's.
 use borrow.Author.Needs.{needs}
-use Rattle.registry_load.proofs.entry.Statement.{statement}
-use Rattle.registry_load.proofs.entry.Tie as tie
+use Rattle.registry_block.proofs.entry.Statement.{statement}
+use Rattle.registry_block.proofs.entry.Tie as tie
 
 number-requires : tie.Need-number-requires
 number-requires c κs = search needs

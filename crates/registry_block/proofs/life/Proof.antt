@@ -1,6 +1,6 @@
 use borrow.Author.Needs.{needs}
-use Rattle.registry_load.proofs.life.Statement.{statement}
-use Rattle.registry_load.proofs.life.Tie as tie
+use Rattle.registry_block.proofs.life.Statement.{statement}
+use Rattle.registry_block.proofs.life.Tie as tie
 
 -- src/lib.rt:148:15
 unqueued-requires : tie.Need-unqueued-requires

@@ -1,8 +1,8 @@
 -- Each way out is one of the definition's, by the tests on the way.
 use borrow.Author.Tests.{eq-eqb, ne-eqb}
-use Rattle.registry_load.specs.Lives.{lifeBy}
-use Rattle.registry_load.proofs.life_fits.Statement.{statement}
-use Rattle.registry_load.proofs.life_fits.Tie as tie
+use Rattle.registry_block.specs.Lives.{lifeBy}
+use Rattle.registry_block.proofs.life_fits.Statement.{statement}
+use Rattle.registry_block.proofs.life_fits.Tie as tie
 
 returns : tie.Need-returns
 unfolding lifeBy

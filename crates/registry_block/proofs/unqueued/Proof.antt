@@ -1,8 +1,8 @@
 -- The one number that stays.
 use borrow.Author.Tests.{eq-eqb, ne-eqb}
-use Rattle.registry_load.specs.Blocks.{unqueuedTag}
-use Rattle.registry_load.proofs.unqueued.Statement.{statement}
-use Rattle.registry_load.proofs.unqueued.Tie as tie
+use Rattle.registry_block.specs.Blocks.{unqueuedTag}
+use Rattle.registry_block.proofs.unqueued.Statement.{statement}
+use Rattle.registry_block.proofs.unqueued.Tie as tie
 
 returns : tie.Need-returns
 unfolding unqueuedTag

@@ -1,0 +1,3 @@
+pub mod Lives
+pub mod Blocks
+pub mod Joins
