@@ -12,7 +12,7 @@ use Rattle.host_answers.specs.Told.{statusOf}
 use Rattle.host.specs.Tells.{answer}
 
 -- a status is a refusal's number, or 0
-status-within : (u : Outcome) → statusOf (answerOf u) ≤ 26
+status-within : (u : Outcome) → statusOf (answerOf u) ≤ 27
 unfolding statusOf
 status-within (tells (refusing x vs)) = number-within x .1
 status-within (tells (accepting vs)) = omega arith

@@ -18,6 +18,7 @@ pub mod Queries
 pub mod Text
 pub mod Conditions
 pub mod Load
+pub mod Orders
 pub mod Questions
 pub mod Steps
 pub mod Examples
@@ -25,4 +26,5 @@ pub mod TextExamples
 pub mod ConditionExamples
 pub mod LoadExamples
 pub mod EditionExamples
+pub mod OrderExamples
 pub mod Reached

@@ -12,6 +12,7 @@ use Rattle.rules.specs.Values.{read, visible, own, missing, matching, de
 use Rattle.rules.specs.Lists.{Which, list}
 use Rattle.rules.specs.Text.{writeText}
 use Rattle.rules.specs.Queries.{Field, Total, askPlugin, askRegistry, idFrom}
+use Rattle.rules.specs.Orders.{checkOrder, planOrder}
 
 -- A question is a line here: its arguments, its number, and what it comes to in a registry r. Of that step tells the reply alone, so
 -- that it changes nothing.
@@ -30,16 +31,19 @@ pub data Question : ℕ → (Registry → Outcome) → Type 0 where
   AskPlugin : (f : Field) (id : ℕ) → Question 11 λ r. askPlugin r f id
   AskRegistry : (t : Total) → Question 12 λ r. askRegistry r t
   IdFrom : (number : ℕ) → Question 13 λ r. idFrom r number
+  CheckOrder : (set order : List ℕ) → Question 14 λ r. checkOrder r set order
 
 -- how many there are
 abbrev pub questionCount : ℕ
-questionCount = 14
+questionCount = 15
 
 -- What is written to a lent buffer.
 pub data Writing : Type 0 where
   Listed : Which → (id place : ℕ) → Writing
   Text : Writing
+  Order : (set : List ℕ) → Writing
 
 abbrev pub writing : Registry → Writing → (buffer : List ℕ) → Outcome
 writing r (Listed w id place) buffer = list r w id place buffer
 writing r Text buffer = writeText r buffer
+writing r (Order set) buffer = planOrder r set buffer

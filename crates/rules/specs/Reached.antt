@@ -1,10 +1,11 @@
 -- No rule refuses everything or nothing: in these transcripts every operation is accepted, every refusal is given, and for each two
 -- checks that stand next to each other a line that both would refuse gets the earlier one's number. No such line can be for 1 where
 -- the rest is asked of the plugin found; for a parent's 1 and 2, since an unknown parent has no mark; and for 20 and 21 of an offer,
--- since a port with a value is declared.
+-- since a port with a value is declared; nor for 27 and 1 of an id, since one that repeats was registered where it stood first.
 pub mod Transcripts
 pub mod Registrations
 pub mod Lives
+pub mod Orders
 use Prim.Native.Nat.{ℕ, _+_, _^_, _-_}
 use mathlib.Core.Path.{_≡_, refl}
 use mathlib.Core.Bool.{Bool, true, false, _&&_}
@@ -26,18 +27,21 @@ use Rattle.rules.specs.Lists.{listing, list}
 use Rattle.rules.specs.Queries.{askPlugin, idFrom}
 use Rattle.text_form.specs.Digits.{decimalOf, digitsIn}
 use Rattle.rules.specs.Text.{insert, byId, textOf, writeText}
+use Rattle.rules.specs.Orders.{supplied, passes, planBehind, checkOrder, planOrder}
 use Rattle.rules.specs.Steps.{Op, Register, Begin, Ready, Fail, Unload, Finish, Replace, Admit, Call, Ask, Retire, RetireChild, Remove, Offer, Write}
-use Rattle.rules.specs.Questions.{questionCount, Writing, Listed, Text}
+use Rattle.rules.specs.Questions.{questionCount, Writing, Listed, Text, Order}
 use Rattle.rules.specs.Examples.{fresh, worn, holding}
 use Rattle.rules.specs.Reached.Transcripts.{Line, Holds, keys}
 use Rattle.rules.specs.Reached.Registrations.{registrations, lastId, fullAndLast, crowd, fullAndLong}
 use Rattle.rules.specs.Reached.Lives.{life, family, questions, exhausted, exhaustedLoading, unissued}
+use Rattle.rules.specs.Reached.Orders.{pier, orders}
 
 -- the operations, numbered in their order: what changes the registry from 0 on, questions from 100 on, what is written to a lent
 -- buffer from 200 on
 abbrev pub writingKind : Writing → ℕ
 writingKind (Listed w id place) = 0
 writingKind Text = 1
+writingKind (Order set) = 2
 
 abbrev pub kind : Op → ℕ
 kind (Register d) = 0
@@ -61,7 +65,7 @@ isRefusal n (Refused m vs) = eqb m n
 isRefusal n (Accepted vs) = false
 
 abbrev pub everyLine : List Line
-everyLine = registrations ++ lastId ++ life ++ family ++ questions ++ exhausted ++ crowd ++ fullAndLong
+everyLine = registrations ++ lastId ++ life ++ family ++ questions ++ exhausted ++ crowd ++ fullAndLong ++ pier ++ orders
 
 -- Every operation is accepted in one of them, and every refusal given.
 abbrev pub acceptedSomewhere : ℕ → Bool
@@ -89,11 +93,12 @@ pub record Reached : Type 0 where
   pub fullAndLast : Holds (opened 7 (2 ^ 64 - 33)) fullAndLast
   pub crowd : Holds fresh crowd
   pub fullAndLong : Holds fresh fullAndLong
-  pub every-operation : all acceptedSomewhere (keys 13 0 ++ keys questionCount 100 ++ keys 2 200) ≡ true
-  pub every-refusal : all givenSomewhere (keys 23 1 ++ 26 ∷ []) ≡ true
+  pub orders : Holds fresh (pier ++ orders)
+  pub every-operation : all acceptedSomewhere (keys 13 0 ++ keys questionCount 100 ++ keys 3 200) ≡ true
+  pub every-refusal : all givenSomewhere (keys 23 1 ++ 26 ∷ 27 ∷ []) ≡ true
 
 pub reached : Reached
-unfolding after lentAfter checked found handingBack lookup count provider rowsInUse badRealms resolve realmList badEdition resolveKey dependencyList dependencyPort dependenciesOf newPlugin register begin ready fail unload finish replace fits admit admits isLive call retire retireChild childIdentity remove offer read visible own missing matching declares listing list askPlugin idFrom writeText textOf insert byId decimalOf digitsIn
+unfolding after lentAfter checked found handingBack lookup count provider rowsInUse badRealms resolve realmList badEdition resolveKey dependencyList dependencyPort dependenciesOf newPlugin register begin ready fail unload finish replace fits admit admits isLive call retire retireChild childIdentity remove offer read visible own missing matching declares listing list askPlugin idFrom writeText textOf insert byId decimalOf digitsIn supplied passes planBehind checkOrder planOrder
 reached = record {
   registrations = refl;
   lastId = refl;
@@ -106,6 +111,7 @@ reached = record {
   fullAndLast = refl;
   crowd = refl;
   fullAndLong = refl;
+  orders = refl;
   every-operation = refl;
   every-refusal = refl;
 }

@@ -5,7 +5,7 @@ use native.Mathlib.Omega.{arith}
 pub data Refusal : Type 0 where
   Unknown Retired InvalidState BadRealms TooManyKeys DuplicateDependency DuplicateProvision Taken : Refusal
   NoId Full TooLong NoRows Stale Unavailable InUse Exhausted : Refusal
-  NotRun HasChildren Closed Undeclared Duplicate Missing ShortBuffer BadText SameDomain BadEdition : Refusal
+  NotRun HasChildren Closed Undeclared Duplicate Missing ShortBuffer BadText SameDomain BadEdition Repeated : Refusal
 
 abbrev pub number : Refusal → ℕ
 -- id not registered; in child retirement, never issued
@@ -60,9 +60,11 @@ number BadText = 24
 number SameDomain = 25
 -- another edition of the realm rule than 1 and 2
 number BadEdition = 26
+-- an id stands earlier in the set
+number Repeated = 27
 
--- The numbers are from 1 to 26.
-pub number-within : (x : Refusal) → (1 ≤ number x) × (number x ≤ 26)
+-- The numbers are from 1 to 27.
+pub number-within : (x : Refusal) → (1 ≤ number x) × (number x ≤ 27)
 number-within Unknown = (omega arith, omega arith)
 number-within Retired = (omega arith, omega arith)
 number-within InvalidState = (omega arith, omega arith)
@@ -89,3 +91,4 @@ number-within ShortBuffer = (omega arith, omega arith)
 number-within BadText = (omega arith, omega arith)
 number-within SameDomain = (omega arith, omega arith)
 number-within BadEdition = (omega arith, omega arith)
+number-within Repeated = (omega arith, omega arith)

@@ -50,3 +50,5 @@ pub const BAD_TEXT: u64 = 24;
 pub const SAME_DOMAIN: u64 = 25;
 
 pub const BAD_EDITION: u64 = 26;
+
+pub const REPEATED: u64 = 27;

@@ -12,7 +12,7 @@ use Rattle.rules.specs.Queries.{Parent, Anchor, EditionOf, PhaseOf, Reti
 use Rattle.rules.specs.Queries.{Domain, FirstId}
 use Rattle.rules.specs.Steps.{Begin, Ready, Fail, Unload, Finish, Replace, Admit, Call, Ask, Retire, RetireChild, Remove, Offer, Write}
 use Rattle.rules.specs.Questions.{ResolveKey, DependencyPort, Fits, Admits, ChildIdentity, Read, Visible, Own, FirstMissing, Matching, Declares, Listed}
-use Rattle.rules.specs.Questions.{AskPlugin, AskRegistry, IdFrom, Text}
+use Rattle.rules.specs.Questions.{AskPlugin, AskRegistry, IdFrom, CheckOrder, Text, Order}
 use Rattle.rules.specs.Examples.{inFirst, registers, plain, ticket, invocation}
 use Rattle.rules.specs.Reached.Transcripts.{Line, _↝_, ok, refused, child, keys}
 
@@ -189,6 +189,7 @@ exhausted =
     Replace 1 41 ↝ Refused (number Exhausted) (41 ∷ [])
     ∷ Ask (Fits 1 0) ↝ ok (1 ∷ [])
     ∷ Begin 1 ↝ refused Exhausted
+    ∷ Write (Order (1 ∷ [])) [] ↝ refused Exhausted
     ∷ []
 
 -- The same, Loading; it also depends on its own anchor, so it is in use.
@@ -196,6 +197,7 @@ abbrev pub exhaustedLoading : List Line
 exhaustedLoading =
     Begin 1 ↝ refused InvalidState
     ∷ Unload 1 ↝ refused InvalidState
+    ∷ Ask (CheckOrder (1 ∷ []) []) ↝ refused InvalidState
     ∷ []
 
 -- A registered id that was never issued, and has no parent.

@@ -1,0 +1,4 @@
+pub mod Ids
+pub mod Follows
+pub mod Planned
+pub mod Sets
