@@ -85,6 +85,12 @@ static void hold_listed(const char *call, uint64_t status, size_t place, const u
     hold(call, status, 0, NOTHING, &pairs, 1);
 }
 
+static void hold_planned(const char *call, uint64_t status, size_t place, const uint64_t *ids, size_t count) {
+    const uint64_t planned = count;
+    memcpy(was.buffer + place, ids, count * sizeof *ids);
+    hold(call, status, 0, NOTHING, &planned, 1);
+}
+
 static void hold_written(const char *call, uint64_t status, size_t place, const char *lines) {
     const uint64_t length = strlen(lines);
     memcpy(was.text + place, lines, length);
@@ -107,6 +113,8 @@ static const uint64_t none[1];
 #define NUMBER(call, number) CALL(call, number, NOTHING, NULL, 0)
 // Pairs are listed from a place in the buffer.
 #define LISTED(call, place, ...) do { before(); uint64_t s_ = (call); hold_listed(#call, s_, place, __VA_ARGS__); } while (0)
+// Ids are planned from a place in the buffer.
+#define PLANNED(call, place, ...) do { before(); uint64_t s_ = (call); hold_planned(#call, s_, place, __VA_ARGS__); } while (0)
 // Lines are written from a place in the text.
 #define WRITTEN(call, place, lines) do { before(); uint64_t s_ = (call); hold_written(#call, s_, place, lines); } while (0)
 // The slot afterwards.
@@ -119,6 +127,8 @@ static const uint64_t none[1];
 
 // Any numbers as a realm list, with their count.
 #define REALMS(...) (const vaskelbi_realms *)IS(__VA_ARGS__)
+// A set or an order, with its count.
+#define IDS(...) IS(__VA_ARGS__)
 
 // Realm lists without rows, 2 numbers, and with E1's rows, 6 numbers, in both editions.
 static const vaskelbi_realms plain = {.edition = VASKELBI_FIRST_EDITION};
@@ -485,6 +495,18 @@ static void full(void) {
     REFUSED(vaskelbi_register(m, 1000, 77, 0, &plain, 2, none, 0, none, 0, out), 8);
     REFUSED(vaskelbi_register(m, 999, 77, 0, &plain, 2, none, 0, none, 0, out), 10);
     REFUSED(vaskelbi_register_child(m, 5, 999, 77, 0, &plain, 2, none, 0, none, 0, out), 10);
+
+    // The longest order, from a set that falls; one id more is unknown or repeated.
+    uint64_t falling[33], rising[32];
+    for (uint64_t n = 0; n < 32; n++) falling[n] = 31 - n, rising[n] = n;
+    PLANNED(vaskelbi_plan_order(m, falling, 32, buffer, 32, out), 0, rising, 32);
+    ASKED(vaskelbi_check_order(m, falling, 32, falling, 32, out), IS(1));
+    falling[32] = 32;
+    REFUSED(vaskelbi_plan_order(m, falling, 33, buffer, 96, out), 1);
+    falling[32] = 5;
+    REFUSED(vaskelbi_plan_order(m, falling, 33, buffer, 96, out), 27);
+    ASKED(vaskelbi_check_order(m, falling, 32, falling, 33, out), IS(0));
+
     DONE(vaskelbi_retire(m, 5));
     DONE(vaskelbi_remove(m, 5));
     TOLD(vaskelbi_register(m, 1005, 77, 0, &plain, 2, none, 0, none, 0, out), IS(32));
@@ -591,8 +613,163 @@ static void exhausted(void) {
     DONE(vaskelbi_finish(m, id));
     *generation = LAST;
     REFUSED(vaskelbi_begin(m, id, out), 16);
+    REFUSED(vaskelbi_plan_order(m, IDS(id), buffer, 0, out), 16);
+    REFUSED(vaskelbi_plan_order(m, IDS(id, id), buffer, 96, out), 16);
+    REFUSED(vaskelbi_check_order(m, IDS(id), IDS(id), out), 16);
     *generation = LAST - 1;
+    PLANNED(vaskelbi_plan_order(m, IDS(id), buffer, 1, out), 0, IS(id));
+    ASKED(vaskelbi_check_order(m, IDS(id), IDS(id), out), IS(1));
     TOLD(vaskelbi_begin(m, id, out), IS(7, id, LAST, 1));
+    REFUSED(vaskelbi_plan_order(m, IDS(id), buffer, 96, out), 3); // by phase, before 16
+    REFUSED(vaskelbi_check_order(m, IDS(id), IDS(id), out), 3);
+    writing();
+    DONE(vaskelbi_fail(m, id));
+    DONE(vaskelbi_finish(m, id));
+    DONE(vaskelbi_retire(m, id));
+    REFUSED(vaskelbi_plan_order(m, IDS(id), buffer, 96, out), 2); // before 16
+}
+
+// A pier. Pointing (50) needs both axes and the clock; each drive (51, 52) needs its encoder (53, 54); the clock (55) is Active; the
+// dome (56) needs pointing, by its anchor. Nobody provides what 57 needs, 58 and 59 need each other, and 60 needs itself.
+enum { CLOCK = 10, ENCODER = 21, AXIS = 31, POINTING = 50, RING = 61, OWN = 63 };
+static void pier(void) {
+    OPENED(vaskelbi_open(m, 7, 50));
+    TOLD(vaskelbi_register(m, 150, 0, 1, &plain, 2, IDS(AXIS, AXIS + 1, CLOCK), IDS(POINTING), out), IS(50));
+    TOLD(vaskelbi_register(m, 151, 0, 1, &plain, 2, IDS(ENCODER), IDS(AXIS), out), IS(51));
+    TOLD(vaskelbi_register(m, 152, 0, 1, &plain, 2, IDS(ENCODER + 1), IDS(AXIS + 1), out), IS(52));
+    TOLD(vaskelbi_register(m, 153, 0, 1, &plain, 2, none, 0, IDS(ENCODER), out), IS(53));
+    TOLD(vaskelbi_register(m, 154, 0, 1, &plain, 2, none, 0, IDS(ENCODER + 1), out), IS(54));
+    TOLD(vaskelbi_register(m, 155, 0, 1, &plain, 2, none, 0, IDS(CLOCK), out), IS(55));
+    TOLD(vaskelbi_register(m, 156, 0, 1, &plain, 2, IDS(150), none, 0, out), IS(56));
+    TOLD(vaskelbi_register(m, 157, 0, 1, &plain, 2, IDS(99), none, 0, out), IS(57));
+    TOLD(vaskelbi_register(m, 158, 0, 1, &plain, 2, IDS(RING), IDS(RING + 1), out), IS(58));
+    TOLD(vaskelbi_register(m, 159, 0, 1, &plain, 2, IDS(RING + 1), IDS(RING), out), IS(59));
+    TOLD(vaskelbi_register(m, 160, 0, 1, &plain, 2, IDS(OWN), IDS(OWN), out), IS(60));
+}
+
+// From Idle to Active, with a value for each provision; every step is accepted.
+static void start(uint64_t id, uint64_t generation) {
+    TOLD(vaskelbi_begin(m, id, out), IS(7, id, generation, 1));
+    TOLD(vaskelbi_admit(m, 7, id, generation, 1, 6, out), IS(7, id, generation, 0, 6));
+    TOLD(vaskelbi_call(m, 7, id, generation, 0, 6, out), IS(7, id, generation, 0, 1, 6));
+    while (expect(vaskelbi_missing(m, id, out) == 0, "refused", "start"), out->count) {
+        const vaskelbi_port port = out->port;
+        DONE(vaskelbi_offer(m, id, port.key, port.realm, 700 + port.key));
+    }
+    DONE(vaskelbi_ready(m, id));
+}
+
+static void planning(void) {
+    pier();
+    // Without the clock pointing can't come, and with it in the set it can.
+    ASKED(vaskelbi_plan_order(m, IDS(50, 51, 52, 53, 54), buffer, 96, out), NONE);
+    PLANNED(vaskelbi_plan_order(m, IDS(50, 51, 52, 53, 54, 55), buffer, 96, out), 0, IS(53, 51, 54, 52, 55, 50));
+    start(55, 1);
+
+    // The order does not depend on how the set is listed, and leaves the rest of the buffer.
+    PLANNED(vaskelbi_plan_order(m, IDS(50, 51, 52, 53, 54, 56), buffer, 96, out), 0, IS(53, 51, 54, 52, 50, 56));
+    PLANNED(vaskelbi_plan_order(m, IDS(56, 52, 54, 50, 51, 53), buffer, 6, out), 0, IS(53, 51, 54, 52, 50, 56));
+    PLANNED(vaskelbi_plan_order(m, IDS(56, 54, 53, 52, 51, 50), buffer + 90, 6, out), 90, IS(53, 51, 54, 52, 50, 56));
+    PLANNED(vaskelbi_plan_order(m, IDS(51, 53), buffer + 7, 3, out), 7, IS(53, 51));
+    PLANNED(vaskelbi_plan_order(m, IDS(54), buffer, 1, out), 0, IS(54));
+    PLANNED(vaskelbi_plan_order(m, none, 0, buffer, 96, out), 0, NONE); // the count 0, which is a number
+    PLANNED(vaskelbi_plan_order(m, none, 0, buffer, 0, out), 0, NONE);
+
+    // No order passes: a provider is missing, is not in the set, or does not come in time.
+    ASKED(vaskelbi_plan_order(m, IDS(57), buffer, 96, out), NONE);
+    ASKED(vaskelbi_plan_order(m, IDS(53, 57, 54), buffer, 96, out), NONE);
+    ASKED(vaskelbi_plan_order(m, IDS(51, 54), buffer, 96, out), NONE);
+    ASKED(vaskelbi_plan_order(m, IDS(58, 59), buffer, 96, out), NONE);
+    ASKED(vaskelbi_plan_order(m, IDS(60), buffer, 96, out), NONE);
+
+    // Room comes after the ids, and before none.
+    REFUSED(vaskelbi_plan_order(m, IDS(50, 51, 52, 53, 54, 56), buffer, 5, out), 23);
+    REFUSED(vaskelbi_plan_order(m, IDS(54), buffer, 0, out), 23);
+    REFUSED(vaskelbi_plan_order(m, IDS(58, 59), buffer, 1, out), 23);
+    REFUSED(vaskelbi_plan_order(m, IDS(57), buffer, 0, out), 23);
+    REFUSED(vaskelbi_plan_order(m, IDS(53, 99), buffer, 0, out), 1);
+    REFUSED(vaskelbi_plan_order(m, IDS(53, 53), buffer, 0, out), 27);
+}
+
+// The ids of a set one by one, in list order; the checker refuses as the planner does.
+static void refusing_sets(void) {
+    REFUSED(vaskelbi_plan_order(m, IDS(53, 54, 53), buffer, 96, out), 27);
+    REFUSED(vaskelbi_plan_order(m, IDS(53, 53, 99), buffer, 96, out), 27);
+    REFUSED(vaskelbi_plan_order(m, IDS(53, 99, 53), buffer, 96, out), 1);
+    REFUSED(vaskelbi_plan_order(m, IDS(99, 99), buffer, 96, out), 1); // the first is not repeated
+    REFUSED(vaskelbi_plan_order(m, IDS(LAST), buffer, 96, out), 1);
+    REFUSED(vaskelbi_plan_order(m, IDS(53, 55), buffer, 96, out), 3); // Active
+    REFUSED(vaskelbi_plan_order(m, IDS(55, 99), buffer, 96, out), 3);
+    REFUSED(vaskelbi_plan_order(m, IDS(99, 55), buffer, 96, out), 1);
+    REFUSED(vaskelbi_plan_order(m, IDS(53, 53, 55), buffer, 96, out), 27);
+    REFUSED(vaskelbi_check_order(m, IDS(53, 54, 53), IDS(53, 54, 53), out), 27);
+    REFUSED(vaskelbi_check_order(m, IDS(53, 99, 53), IDS(53), out), 1);
+    REFUSED(vaskelbi_check_order(m, IDS(55), IDS(55), out), 3);
+
+    TOLD(vaskelbi_begin(m, 54, out), IS(7, 54, 1, 1));
+    REFUSED(vaskelbi_plan_order(m, IDS(53, 54), buffer, 96, out), 3); // Loading
+    DONE(vaskelbi_retire(m, 54));
+    REFUSED(vaskelbi_plan_order(m, IDS(53, 54), buffer, 96, out), 2); // before 3
+    DONE(vaskelbi_fail(m, 54));
+    DONE(vaskelbi_finish(m, 54));
+    REFUSED(vaskelbi_plan_order(m, IDS(54, 54), buffer, 0, out), 2); // Idle
+    REFUSED(vaskelbi_check_order(m, IDS(54), none, 0, out), 2);
+    TOLD(vaskelbi_begin(m, 53, out), IS(7, 53, 1, 1));
+    DONE(vaskelbi_fail(m, 53));
+    REFUSED(vaskelbi_plan_order(m, IDS(53), buffer, 96, out), 3); // Unloading
+    REFUSED(vaskelbi_check_order(m, IDS(53), IDS(53), out), 3);
+}
+
+static void checking(void) {
+    pier();
+    start(55, 1);
+    ASKED(vaskelbi_check_order(m, IDS(50, 51, 52, 53, 54), IDS(53, 51, 54, 52, 50), out), IS(1));
+    ASKED(vaskelbi_check_order(m, IDS(50, 51, 52, 53, 54), IDS(54, 53, 52, 51, 50), out), IS(1)); // not the lowest
+    ASKED(vaskelbi_check_order(m, IDS(50, 51, 52, 53, 54), IDS(51, 53, 54, 52, 50), out), IS(0)); // a provider later
+    ASKED(vaskelbi_check_order(m, IDS(50, 51, 52, 53, 54), IDS(50, 53, 51, 54, 52), out), IS(0));
+    ASKED(vaskelbi_check_order(m, IDS(50, 51, 52, 53, 54), IDS(53, 51, 54, 52), out), IS(0)); // one left out
+    ASKED(vaskelbi_check_order(m, IDS(53, 54), IDS(53, 53), out), IS(0)); // one repeated
+    ASKED(vaskelbi_check_order(m, IDS(53, 54), IDS(53, 54, 53), out), IS(0));
+    ASKED(vaskelbi_check_order(m, IDS(53, 54), IDS(53, 55), out), IS(0)); // one of another set
+    ASKED(vaskelbi_check_order(m, IDS(53, 54), IDS(53, 54, 55), out), IS(0));
+    ASKED(vaskelbi_check_order(m, IDS(53), IDS(54), out), IS(0));
+    ASKED(vaskelbi_check_order(m, IDS(53, 54), IDS(53, 99), out), IS(0)); // of none
+    ASKED(vaskelbi_check_order(m, IDS(53), IDS(LAST), out), IS(0));
+    ASKED(vaskelbi_check_order(m, IDS(53), none, 0, out), IS(0));
+    ASKED(vaskelbi_check_order(m, none, 0, none, 0, out), IS(1));
+    ASKED(vaskelbi_check_order(m, none, 0, IDS(53), out), IS(0));
+    ASKED(vaskelbi_check_order(m, IDS(57), IDS(57), out), IS(0));
+    ASKED(vaskelbi_check_order(m, IDS(58, 59), IDS(58, 59), out), IS(0));
+    ASKED(vaskelbi_check_order(m, IDS(58, 59), IDS(59, 58), out), IS(0));
+    ASKED(vaskelbi_check_order(m, IDS(60), IDS(60), out), IS(0));
+
+    // A provider counts while it is Active, retired or not.
+    DONE(vaskelbi_retire(m, 55));
+    PLANNED(vaskelbi_plan_order(m, IDS(50, 51, 52, 53, 54), buffer, 96, out), 0, IS(53, 51, 54, 52, 50));
+    ASKED(vaskelbi_check_order(m, IDS(50, 51, 52, 53, 54), IDS(53, 51, 54, 52, 50), out), IS(1));
+    DONE(vaskelbi_unload(m, 55));
+    ASKED(vaskelbi_plan_order(m, IDS(50, 51, 52, 53, 54), buffer, 96, out), NONE);
+    ASKED(vaskelbi_check_order(m, IDS(50, 51, 52, 53, 54), IDS(53, 51, 54, 52, 50), out), IS(0));
+    TOLD(vaskelbi_begin(m, 53, out), IS(7, 53, 1, 1));
+    ASKED(vaskelbi_plan_order(m, IDS(51), buffer, 96, out), NONE);
+    ASKED(vaskelbi_check_order(m, IDS(51), IDS(51), out), IS(0));
+}
+
+// A night: the pier is planned and begun in that order, and every step is accepted.
+static void starting(void) {
+    const uint64_t set[] = {50, 51, 52, 53, 54, 56};
+    uint64_t order[6];
+    pier();
+    start(55, 1);
+    expect(vaskelbi_plan_order(m, set, 6, order, 6, out) == 0 && out->count == 1 && out->number[0] == 6, "no order", "starting");
+    ASKED(vaskelbi_check_order(m, set, 6, order, 6, out), IS(1));
+    REFUSED(vaskelbi_begin(m, 50, out), 14);
+    for (int i = 0; i < 6; i++) {
+        start(order[i], 1);
+        // What has begun is no longer to begin, and the rest is planned as before.
+        REFUSED(vaskelbi_plan_order(m, set, 6, buffer, 96, out), 3);
+        PLANNED(vaskelbi_plan_order(m, order + i + 1, 5 - i, buffer, 96, out), 0, order + i + 1, 5 - i);
+    }
     writing();
 }
 
@@ -783,6 +960,10 @@ int main(void) {
     own_anchor();
     long_lists();
     exhausted();
+    planning();
+    refusing_sets();
+    checking();
+    starting();
     editions();
     example();
     loading();

@@ -64,7 +64,8 @@ enum vaskelbi_refusal {
     VASKELBI_SHORT_BUFFER = 23,        /* lent room too small */
     VASKELBI_BAD_TEXT = 24,            /* no text of the form, or one that breaks a condition */
     VASKELBI_SAME_DOMAIN = 25,         /* the domain that the text has */
-    VASKELBI_BAD_EDITION = 26          /* another edition of the realm rule than 1 and 2, or a list without edition and default */
+    VASKELBI_BAD_EDITION = 26,         /* another edition of the realm rule than 1 and 2, or a list without edition and default */
+    VASKELBI_REPEATED = 27             /* an id stands twice in a set */
 };
 
 enum { VASKELBI_IDLE = 0, VASKELBI_LOADING = 1, VASKELBI_ACTIVE = 2, VASKELBI_UNLOADING = 3 };   /* phases */
@@ -263,6 +264,22 @@ uint64_t vaskelbi_write_text(const vaskelbi_registry *registry, uint8_t *text, s
  * are Unissued then, and everything else is as the text says; a text may be any bytes. Refuses 24 if it is no text of a registry, 25
  * if the domain is the text's. A load counts as an opening, and works on 40 KB of stack. */
 uint64_t vaskelbi_load(vaskelbi_registry *registry, uint64_t domain, const uint8_t *text, size_t text_len);
+
+/* Start orders. A set is a list of ids of Idle plugins that are to begin one after another, each Active before the next begins. An
+ * order passes if it names the set's ids, each once, and every dependency of each is provided by a plugin that is Active now or by
+ * one earlier in the order. The set's ids are checked one by one in list order: 27 if the id stands earlier in the list, 1, 2, 3
+ * unless Idle, 16 if its generation is 2^64 - 1. */
+
+/* Plans the passing order that has the lowest id at the first place where two differ. It fills the front of the lent buffer, and
+ * every number behind it stays; none writes nothing. Refuses by the set's checks, then 23 if the buffer has fewer numbers than the
+ * set; VASKELBI_PLUGINS are enough for any. Answers the count of ids, or none if no order passes. The empty set has the count 0,
+ * which is a number and not none. */
+uint64_t vaskelbi_plan_order(const vaskelbi_registry *registry, const uint64_t *set, size_t set_len, uint64_t *buffer,
+                             size_t buffer_len, vaskelbi_answer *out);
+
+/* Whether an order passes; any ids may stand in it. Refuses by the set's checks. Answers yes or no. */
+uint64_t vaskelbi_check_order(const vaskelbi_registry *registry, const uint64_t *set, size_t set_len, const uint64_t *order,
+                              size_t order_len, vaskelbi_answer *out);
 
 /* What a plugin holds. Each refuses 1. */
 

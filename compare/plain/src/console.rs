@@ -11,7 +11,7 @@ pub use parse::{Operation, parse, text_length};
 use crate::admission::Root;
 use crate::ports::{Edition, Port, resolve};
 use crate::refusal::Refusal;
-use crate::registry::{Registry, Shown};
+use crate::registry::{MAX_PLUGINS, Registry, Shown};
 use crate::retirement::Child;
 use crate::slot::{ChildSlot, Decision};
 
@@ -144,6 +144,19 @@ impl Console {
                 out.ok_numbers(&port_numbers(resolve(key, realms)?));
             }
             Operation::Edition(id) => out.ok_numbers(&edition_numbers(registry.edition(id)?)),
+            Operation::Plan { size, set } => {
+                // No order is longer than that.
+                let mut order = [0; MAX_PLUGINS];
+                let lent = &mut order[..size.min(MAX_PLUGINS as u64) as usize];
+                match registry.plan_order(set, lent)? {
+                    Some(count) => out.ok_numbers(&order[..count]),
+                    None => {
+                        out.ok();
+                        out.word("none");
+                    }
+                }
+            }
+            Operation::Check { set, order } => out.ok_yes_no(registry.check_order(set, order)?),
             Operation::Deps { id, place } => {
                 out.ok_numbers(&[registry.deps(id, &mut self.buffer, place)?]);
             }

@@ -10,6 +10,7 @@ mod checks;
 mod conditions;
 mod expected;
 mod forms;
+mod orders;
 mod report;
 mod told;
 
@@ -20,11 +21,12 @@ use crate::plugin::Plugin;
 use crate::ports::Edition;
 use crate::registry::Registry;
 
-use boundaries::{BOUNDARIES, Loads};
+use boundaries::Loads;
+use checks::LATER_ID;
 use told::Told;
 
 pub use checks::{Check, holding, refusals};
-pub use expected::{EXPECTED, Expected, ORDERS};
+pub use expected::{EXPECTED, Expected, ID_ORDERS, ORDERS};
 
 /// What became of one operation's lines.
 #[derive(Default)]
@@ -152,14 +154,21 @@ impl Coverage {
             let checks = checks.iter().filter(|check| !refused.contains_key(check));
             gaps.extend(checks.map(|check| format!("{operation} refused {check}")));
         }
-        for (operation, first, later) in ORDERS {
+        let orders = ORDERS.iter().map(|order| (order, false));
+        let orders = orders.chain(ID_ORDERS.iter().map(|order| (order, true)));
+        for ((operation, first, later), of_later_id) in orders {
             let tally = self.tallies.get(operation).unwrap_or(&nothing);
-            if !tally.order.keys().any(|(a, b)| (a.number, b.number) == (*first, *later)) {
-                gaps.push(format!("{operation} refused {first} before {later}"));
+            let seen = |(a, b): &(Check, Check)| {
+                let numbers = (a.number, b.number) == (*first, *later);
+                numbers && of_later_id == (b.reason == LATER_ID)
+            };
+            if !tally.order.keys().any(seen) {
+                let of = if of_later_id { " of a later id" } else { "" };
+                gaps.push(format!("{operation} refused {first} before {later}{of}"));
             }
         }
-        let boundaries = BOUNDARIES.iter().filter(|name| !self.boundaries.contains_key(*name));
-        gaps.extend(boundaries.map(|name| name.to_string()));
+        let boundaries = boundaries::all().filter(|name| !self.boundaries.contains_key(name));
+        gaps.extend(boundaries.map(str::to_string));
         gaps
     }
 
@@ -228,6 +237,7 @@ fn accepted_kind(registry: &Registry, asked: &Operation<'_>) -> Option<&'static 
             Ok(Edition::Second { .. }) => "edition 2",
             _ => "edition 1",
         }),
+        Operation::Plan { set: [], .. } => Some("empty set"),
         Operation::RetireChild(child) => Some(match registry.plugin(child.id) {
             Ok(_) => "registered",
             Err(_) => "removed before",
@@ -283,6 +293,8 @@ pub fn name(operation: &Operation<'_>) -> &'static str {
         Operation::Lookup { .. } => "lookup",
         Operation::Resolve { .. } => "resolve",
         Operation::Edition(_) => "edition",
+        Operation::Plan { .. } => "plan",
+        Operation::Check { .. } => "check",
         Operation::Deps { .. } => "deps",
         Operation::Provs { .. } => "provs",
         Operation::Realms { .. } => "realms",

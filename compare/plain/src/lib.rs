@@ -15,6 +15,7 @@ mod admission;
 mod dependencies;
 mod lists;
 mod load;
+mod orders;
 mod phases;
 mod plugin;
 mod providers;

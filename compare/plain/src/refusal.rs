@@ -30,6 +30,7 @@ pub enum Refusal {
     BadText = 24,
     SameDomain = 25,
     BadEdition = 26,
+    Repeated = 27,
 }
 
 impl Refusal {

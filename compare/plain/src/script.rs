@@ -8,6 +8,7 @@ mod carry;
 mod draft;
 mod lives;
 mod malformed;
+mod orders;
 mod probes;
 
 use std::collections::VecDeque;

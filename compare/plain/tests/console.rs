@@ -86,6 +86,20 @@ fn every_form_of_answer() {
         ("edition 0", "ok 1 0"),
         ("edition 1", "ok 1 0"),
         ("edition 2", "no 1"),
+        ("plan 0", "ok"),
+        ("plan 18446744073709551615", "ok"),
+        ("plan 0 1", "no 23"),
+        ("plan 1 1", "ok none"),
+        ("plan 0 0", "no 3"),
+        ("plan 0 2", "no 1"),
+        ("plan 0 1 1", "no 27"),
+        ("check set order", "ok yes"),
+        ("check set order 1", "ok no"),
+        ("check set 1 order 1", "ok no"),
+        ("check set 1 order", "ok no"),
+        ("check set 1 1 order", "no 27"),
+        ("check set 2 2 order 2", "no 1"),
+        ("check set 0 order 0", "no 3"),
         ("realms 0 97", "ok 1"),
         ("buffer 96 99", "ok 0 2 5"),
         ("buffer 98 18446744073709551615", "ok 5 0"),
@@ -173,6 +187,29 @@ fn bad_lines() {
         "edition",
         "edition none",
         "edition 0 0",
+        "plan",
+        "plan none",
+        "plan 00",
+        "plan 1 none",
+        "plan 1 01",
+        "plan 18446744073709551616",
+        "Plan 1",
+        "plans 1",
+        "check",
+        "check set",
+        "check set 1",
+        "check order",
+        "check order set",
+        "check 1 order 1",
+        "check sets order",
+        "check set orders",
+        "check set order order",
+        "check set set order",
+        "check set 1 order 1 set",
+        "check set 1 order none",
+        "check set none order",
+        "Check set order",
+        "checks set order",
         "write",
         "write none",
         "write 01",
@@ -205,6 +242,52 @@ fn a_line_has_4096_bytes_at_most() {
         assert_eq!(answer(line(4097)).len(), if end.len() > 1 { 2 } else { 1 });
     }
     assert_eq!(answer(format!(" #{}", "x".repeat(5000))), ["bad"]);
+}
+
+/// Two that need nobody, and one that needs both.
+#[test]
+fn orders() {
+    let start = "register none 1 0 0 1 0 realms deps 2 3 provs\nregister none 2 0 0 1 0 realms deps provs\nregister none 3 0 0 1 0 realms deps provs\n";
+    for (line, wanted) in [
+        ("plan 3 0 1 2", "ok 1 2 0"),
+        ("plan 3 2 1 0", "ok 1 2 0"),
+        ("plan 32 2 0 1", "ok 1 2 0"),
+        ("plan 33 2 0 1", "ok 1 2 0"),
+        ("plan 18446744073709551615 2 0 1", "ok 1 2 0"),
+        ("plan 2 0 1 2", "no 23"),
+        ("plan 2 2 1", "ok 1 2"),
+        ("plan 2 0 1", "ok none"),
+        ("plan 1 0 1", "no 23"),
+        ("plan 0 0 1 1", "no 27"),
+        ("check set 0 1 2 order 1 2 0", "ok yes"),
+        ("check set 0 1 2 order 2 1 0", "ok yes"),
+        ("  check  set 0   1 2 order  2 1 0  ", "ok yes"),
+        ("check set 0 1 2 order 1 0 2", "ok no"),
+        ("check set 0 1 order 1 2 0", "ok no"),
+        ("check set 0 1 2 order 1 2 0 0", "ok no"),
+        ("check set 1 order 18446744073709551615", "ok no"),
+        ("check set 1 3 order 1 3", "no 1"),
+    ] {
+        let answers = answers(format!("{start}{line}\nrows\n").as_bytes());
+        assert_eq!(answers[3..], [wanted, "ok 5"], "{line}");
+    }
+}
+
+/// As many ids as a line can have.
+#[test]
+fn long_sets_and_orders() {
+    let start = "register none 1 0 0 1 0 realms deps provs\n";
+    let ids = |count: usize| " 0".repeat(count);
+    for (line, wanted) in [
+        (format!("plan 9{}", ids(2045)), "no 27"),
+        (format!("plan 9{}", ids(2046)), "bad"),
+        (format!("check set{} order", ids(2040)), "no 27"),
+        (format!("check set 0 order{}", ids(2039)), "ok no"),
+        (format!("check set 0 order{}", ids(2040)), "bad"),
+    ] {
+        let answers = answers(format!("{start}{line}\n").as_bytes());
+        assert_eq!(answers[1..], [wanted], "{} bytes", line.len());
+    }
 }
 
 const EXAMPLE: &str = "domain=7\nfirst=0\nnext=1\nplugins=1\nid=0\nparent=none\nphase=0\nretired=0\ngeneration=0\nrevision=0\npayload=40\nroot=0\nqueued=none\nanchor=9,0\nedition=1\ndefault=0\nrealms=1\nrealm=2,5\ndeps=0\nprovs=1\nprov=2,5,none\n";

@@ -16,7 +16,7 @@ const LINES: u64 = 50_000;
 const BEFORE: Out = [u64::MAX - 9, 11, 12, 13, 14, 15, 16];
 
 /// The functions that have refusals.
-const REFUSING: [&str; 40] = [
+const REFUSING: [&str; 42] = [
     "register",
     "register_child",
     "begin",
@@ -44,6 +44,8 @@ const REFUSING: [&str; 40] = [
     "list_realms",
     "write_text",
     "load",
+    "plan_order",
+    "check_order",
     "parent",
     "anchor",
     "edition",
@@ -338,6 +340,18 @@ impl Desk {
                 }
             }
             Operation::Edition(id) => ask!(self, edition(id) -> out),
+            Operation::Plan { size, set } => {
+                // What stands there of earlier lists shows what is left alone.
+                let size = size.min(BUFFER as u64) as usize;
+                self.ask("plan_order", |side, m, buffer, out| unsafe {
+                    (side.plan_order)(m, set.as_ptr(), set.len(), buffer.as_mut_ptr(), size, out)
+                });
+            }
+            Operation::Check { set, order } => {
+                ask!(self, check_order(
+                    set.as_ptr(), set.len(), order.as_ptr(), order.len()
+                ) -> out);
+            }
             Operation::Deps { id, place } => ask!(self, list_dependencies(id, place) -> buffer),
             Operation::Provs { id, place } => ask!(self, list_provisions(id, place) -> buffer),
             Operation::Realms { id, place } => ask!(self, list_realms(id, place) -> buffer),

@@ -104,6 +104,16 @@ unsafe fn load(side: &Side, m: *mut u64, length: u64, room: &Room<'_>) -> u64 {
     unsafe { (side.load)(m, DOMAIN + 1, room.text[..length as usize].as_ptr(), length as usize) }
 }
 
+unsafe fn plan(side: &Side, m: *mut u64, set: &[u64], room: &mut Room<'_>) -> u64 {
+    let (buffer, count) = (room.buffer.as_mut_ptr(), room.buffer.len());
+    unsafe { (side.plan_order)(m, set.as_ptr(), set.len(), buffer, count, &mut room.out) }
+}
+
+unsafe fn check(side: &Side, m: *mut u64, set: &[u64], order: &[u64], room: &mut Room<'_>) -> u64 {
+    let (first, count) = (order.as_ptr(), order.len());
+    unsafe { (side.check_order)(m, set.as_ptr(), set.len(), first, count, &mut room.out) }
+}
+
 /// The slots of a world, not in order.
 unsafe fn slots(m: *mut u64) -> impl Iterator<Item = *mut u64> {
     (0..SLOTS).map(move |n| unsafe { m.add(SLOT * ((13 * n + 5) % SLOTS)) })
@@ -306,6 +316,24 @@ cases! {
     "load refused: a line too many at the end of a full text", strangers, 1 => 24
             => FULL_TEXT + LINE.len() as u64, of full, LINE;
         |s, m, room| (0..1).map(|_| load(s, m, FULL_TEXT + LINE.len() as u64, room));
+    "plan 32 in a chain, given in reverse", chain, 1 => 0;
+        |s, m, room| (0..1).map(|_| plan(s, m, &ROW_DOWN, room));
+    "plan 32 in a chain, the highest id first", chain_down, 1 => 0;
+        |s, m, room| (0..1).map(|_| plan(s, m, &ROW, room));
+    "plan 32 without dependencies", idle, 1 => 0;
+        |s, m, room| (0..1).map(|_| plan(s, m, &ROW_DOWN, room));
+    "plan a pier of 12", pier, 4 => 0;
+        |s, m, room| (0..4).map(|_| plan(s, m, &PIER_SET, room));
+    "plan: none in a ring of 32", ring, 1 => 0;
+        |s, m, room| (0..1).map(|_| plan(s, m, &ROW, room));
+    "plan refused: the last of 32 repeated", idle, 4 => 27;
+        |s, m, room| (0..4).map(|_| plan(s, m, &LAST_REPEATED, room));
+    "check the order of 32 in a chain", chain, 1 => 0;
+        |s, m, room| (0..1).map(|_| check(s, m, &ROW_DOWN, &ROW, room));
+    "check the order of a pier of 12", pier, 4 => 0;
+        |s, m, room| (0..4).map(|_| check(s, m, &PIER_SET, &PIER_ORDER, room));
+    "check: no, two of 32 in a chain swapped", chain, 1 => 0;
+        |s, m, room| (0..1).map(|_| check(s, m, &ROW_DOWN, &LAST_SWAPPED, room));
     "parent", family, 32 => 0;
         |s, m, room| ids().map(|id| (s.parent)(m, id, &mut room.out));
     "anchor", strangers, 32 => 0;
@@ -382,6 +410,25 @@ static OTHER_EDITION: Stranger = {
     let mut other = Stranger::numbered(31);
     other.realms[0] = 3;
     other
+};
+
+/// All ids of a row, and the last once more.
+static LAST_REPEATED: [u64; 33] = {
+    let mut ids = [ROW[31]; 33];
+    let mut n = 0;
+    while n < 32 {
+        ids[n] = ROW[n];
+        n += 1;
+    }
+    ids
+};
+
+/// The last two of a row in each other's place.
+static LAST_SWAPPED: [u64; 32] = {
+    let mut ids = ROW;
+    ids[30] = ROW[31];
+    ids[31] = ROW[30];
+    ids
 };
 
 /// The plugins of a supplied world that need the others.

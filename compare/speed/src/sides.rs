@@ -181,6 +181,14 @@ sides! {
     ) -> u64;
     fn write_text(m: *mut u64, text: *mut u8, length: usize, out: &mut Out) -> u64;
     fn load(m: *mut u64, domain: u64, text: *const u8, length: usize) -> u64;
+    fn plan_order(
+        m: *mut u64, set: *const u64, set_count: usize, buffer: *mut u64, count: usize,
+        out: &mut Out
+    ) -> u64;
+    fn check_order(
+        m: *mut u64, set: *const u64, set_count: usize, order: *const u64, order_count: usize,
+        out: &mut Out
+    ) -> u64;
     fn parent(m: *mut u64, id: u64, out: &mut Out) -> u64;
     fn anchor(m: *mut u64, id: u64, out: &mut Out) -> u64;
     fn edition(m: *mut u64, id: u64, out: &mut Out) -> u64;

@@ -653,6 +653,109 @@ pub fn orphanage(world: &mut World) {
     world.retire(FIRST);
 }
 
+/// The key that plugin n of a row of them provides.
+const fn in_row(n: u64) -> u64 {
+    n + 1
+}
+
+/// A row of 32 Idle plugins, of which each depends on what a rule says.
+fn row(world: &mut World, needs: impl Fn(u64) -> Option<u64>) {
+    for n in 0..32 {
+        let dependency = needs(n).map(in_row);
+        world.register(Lists {
+            dependencies: dependency.as_slice(),
+            provisions: &[in_row(n)],
+            ..Lists::default()
+        });
+    }
+}
+
+/// Each needs the one before it.
+pub fn chain(world: &mut World) {
+    row(world, |n| n.checked_sub(1));
+}
+
+/// Each needs the one after it, so that they begin from the highest id down.
+pub fn chain_down(world: &mut World) {
+    row(world, |n| (n < 31).then_some(n + 1));
+}
+
+/// Each needs the one after it, and the last the first.
+pub fn ring(world: &mut World) {
+    row(world, |n| Some((n + 1) % 32));
+}
+
+/// All ids of a row, from the lowest and from the highest.
+pub const ROW: [u64; 32] = run(FIRST);
+pub const ROW_DOWN: [u64; 32] = {
+    let mut ids = ROW;
+    let mut n = 0;
+    while n < 32 {
+        ids[n] = ROW[31 - n];
+        n += 1;
+    }
+    ids
+};
+
+/// What a pier's plugins provide.
+const HOUR_ENCODER: u64 = 1;
+const DECLINATION_ENCODER: u64 = 2;
+const HOUR_DRIVE: u64 = 3;
+const DECLINATION_DRIVE: u64 = 4;
+const CLOCK: u64 = 5;
+const HOUR_ANGLE: u64 = 6;
+const POINTING: u64 = 7;
+const THERMOMETER: u64 = 8;
+const FOCUS_MOTOR: u64 = 9;
+const FOCUSER: u64 = 10;
+const DOME: u64 = 11;
+const GUIDER: u64 = 12;
+
+/// Twelve Idle plugins as they stand on a pier, in the order of their registration: what
+/// each provides, and what it needs.
+const PIER: [(u64, &[u64]); 12] = [
+    (DOME, &[HOUR_ANGLE, POINTING]),
+    (HOUR_ENCODER, &[]),
+    (HOUR_DRIVE, &[HOUR_ENCODER]),
+    (POINTING, &[HOUR_ANGLE, DECLINATION_ENCODER, HOUR_DRIVE, DECLINATION_DRIVE]),
+    (DECLINATION_ENCODER, &[]),
+    (DECLINATION_DRIVE, &[DECLINATION_ENCODER]),
+    (HOUR_ANGLE, &[HOUR_ENCODER, CLOCK]),
+    (CLOCK, &[]),
+    (FOCUSER, &[FOCUS_MOTOR, THERMOMETER]),
+    (GUIDER, &[POINTING, FOCUSER]),
+    (FOCUS_MOTOR, &[]),
+    (THERMOMETER, &[]),
+];
+
+pub fn pier(world: &mut World) {
+    for (provision, dependencies) in PIER {
+        world.register(Lists { dependencies, provisions: &[provision], ..Lists::default() });
+    }
+}
+
+/// Its ids, not in order.
+pub const PIER_SET: [u64; 12] = {
+    let mut ids = [0; 12];
+    let mut n = 0;
+    while n < 12 {
+        ids[n] = FIRST + (5 * n as u64 + 3) % 12;
+        n += 1;
+    }
+    ids
+};
+
+/// The order in which they can begin that is planned.
+pub const PIER_ORDER: [u64; 12] = {
+    let mut ids = [1, 2, 4, 5, 7, 6, 3, 0, 10, 11, 8, 9];
+    let mut n = 0;
+    while n < 12 {
+        ids[n] += FIRST;
+        n += 1;
+    }
+    ids
+};
+
 /// The slots of a world that has them.
 pub const SLOTS: usize = 32;
 

@@ -6,3 +6,4 @@ pub mod Demand3
 pub mod Stays
 pub mod Texts
 pub mod Loads
+pub mod Orders

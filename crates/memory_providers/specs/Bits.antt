@@ -15,10 +15,10 @@ withBit w n = bitOr w ((1 * 2 ^ (n % 64)) % 2 ^ 64)
 abbrev pub hasBit : ℕ → ℕ → Bool
 hasBit w n = eqb (w / 2 ^ (n % 64) % 2) 1
 
-abbrev bit : ℕ → ℕ → ℕ
+abbrev pub bit : ℕ → ℕ → ℕ
 bit w j = w / 2 ^ j % 2
 
-bit-or : (w x j : ℕ) → bit (bitOr w x) j ≡ max (bit w j) (bit x j)
+pub bit-or : (w x j : ℕ) → bit (bitOr w x) j ≡ max (bit w j) (bit x j)
 bit-or w x j =
     let u : bitOr w x / 2 ^ j ≡ bitOr (w / 2 ^ j) (x / 2 ^ j) = or-shr w x j in
     let s = or-step (w / 2 ^ j) (x / 2 ^ j) in

@@ -1,7 +1,9 @@
 // Document 01, "Ports and realms": lists of ports, lent as key, realm, key, realm. Every function takes any list.
 ghost use mathlib.Core.Path.{_≡_};
 ghost use mathlib.Core.Bool.{not, _&&_};
+ghost use lib.Dec.{eqb};
 ghost use lib.ListN.{getD};
+ghost use Rattle.rules.specs.Basics.{any};
 ghost use Rattle.rules.specs.Holds.{port, isIn};
 ghost use Rattle.rules.specs.Ports.{pairs, oddLength, samePorts};
 ghost use Rattle.rules.specs.Registration.{repeats};
@@ -26,6 +28,20 @@ pub fn has_port(ports: &[u64], key: u64, realm: u64) -> bool
             }
         }
         row += 1;
+    }
+    false
+}
+
+// Whether a number is among these: a key, or an id.
+pub fn has_number(numbers: &[u64], n: u64) -> bool
+    ensures { λ r. ⌜ r ≡ any (eqb n) (now (numbers .entry)) ⌝ }
+{
+    let mut i: usize = 0;
+    while i < numbers.len() {
+        if numbers[i] == n {
+            return true;
+        }
+        i += 1;
     }
     false
 }

@@ -1,9 +1,8 @@
 // Document 02 [4], of a text's ports: realms that keys resolve to, and dependency lists that document 01's rule gives.
 ghost use mathlib.Core.Path.{_≡_};
 ghost use Prim.Native.Nat.{_≤_};
-ghost use lib.Dec.{eqb};
 ghost use lib.ListN.{length, take};
-ghost use Rattle.rules.specs.Basics.{any, all};
+ghost use Rattle.rules.specs.Basics.{all};
 ghost use Rattle.rules.specs.Holds.{port};
 ghost use Rattle.rules.specs.Ports.{pairs, samePorts};
 ghost use Rattle.rules.specs.Dependencies.{dependencyList};
@@ -44,20 +43,6 @@ pub fn resolved(other: u64, rows: &[u64], ports: &[u64]) -> bool
     true
 }
 
-// Whether a key is among these.
-fn has_key(keys: &[u64], key: u64) -> bool
-    ensures { λ r. ⌜ r ≡ any (eqb key) (now (keys .entry)) ⌝ }
-{
-    let mut i: usize = 0;
-    while i < keys.len() {
-        if keys[i] == key {
-            return true;
-        }
-        i += 1;
-    }
-    false
-}
-
 // So many words from the first on, or all that there are.
 fn first_words(words: &[u64], most: usize) -> &[u64]
     ensures { λ r. ⌜ now r ≡ take most (now (words .entry)) ⌝ }
@@ -82,7 +67,7 @@ fn keys_in_front(other: u64, rows: &[u64], list: &[u64]) -> FrontKeys
         if !is_resolved(other, rows, key, list[n * 2 + 1]) {
             return FrontKeys { count: n, keys };
         }
-        if has_key(first_words(&keys, n), key) {
+        if ports::has_number(first_words(&keys, n), key) {
             return FrontKeys { count: n, keys };
         }
         keys[n] = key;

@@ -1,15 +1,17 @@
 -- The steps of both searches, at a list that starts with q.
 use Prim.Native.Nat.{ℕ, _%_, _<_}
 use native.Mathlib.Nat.{mod-eq-of-lt}
-use mathlib.Core.Path.{_≡_, sym, ap, _∙_}
-use mathlib.Core.Bool.{Bool, true, false, _||_}
-use mathlib.Core.List.{List, _∷_}
-use Rattle.rules.specs.Basics.{all}
-use Rattle.rules.specs.Holds.{isActive, isLoading}
+use mathlib.Core.Path.{_≡_, refl, sym, ap, _∙_}
+use mathlib.Core.Bool.{Bool, true, false, _||_, or-false}
+use mathlib.Core.List.{List, [], _∷_}
+use mathlib.Core.Option.{Option, none, some}
+use Rattle.rules.specs.Basics.{all, holds}
+use Rattle.rules.specs.Holds.{Plugin, Registry, provider, isActive, isLoading}
 use Rattle.rules_types.specs.declared.Port.{Port}
+use Rattle.rules.specs.Orders.{named, inTime}
 use Rattle.rules.specs.Phases.{available}
 use Rattle.rules.specs.Ports.{pairs}
-use Rattle.memory.specs.Layout.{depPart, places}
+use Rattle.memory.specs.Layout.{idAt, depPart, places}
 use Rattle.memory.specs.View.{lifeAt, pluginAt, view}
 use Rattle.memory.specs.declared.Life.{Life}
 use Rattle.memory.specs.declared.Place.{Place}
@@ -25,16 +27,39 @@ module _ (f : Port → Bool) {l ps : List Port} {q : Port} (s : l ≡ q ∷ ps) 
   pub all-miss : f q ≡ false → all f l ≡ false
   all-miss t = rw (s, t)
 
--- a provider's phase decides
-module _ (m : List ℕ) (q : Port) (x : Place) (e : x ≡ providerAt m q) where
-  pub no-provider : x ≡ None → false ≡ available (view m) q
-  no-provider f = rw (provider-view m q, sym e ∙ f)
+-- a provider's phase decides, or its id
+module _ (m before : List ℕ) (q : Port) (x : Place) (e : x ≡ providerAt m q) where
+  pub in-time-none : x ≡ None → false ≡ inTime (view m) before q
+  in-time-none f = rw (provider-view m q, sym e ∙ f)
 
-  pub has-provider : (i : ℕ) → x ≡ At i → (l : Life) → l ≡ lifeAt m (i % places) → (b : Bool) → b ≡ isActive (l .phase) → b ≡ available (view m) q
-  unfolding pluginAt
-  has-provider i f l g b h =
-      let k : l ≡ lifeAt m i = g ∙ ap (lifeAt m) (mod-eq-of-lt (provider-below m q i (sym e ∙ f))) in
-      h ∙ rw (provider-view m q, sym e ∙ f) (ap (λ (y : Life). isActive (y .phase)) k)
+  module _ (i : ℕ) (f : x ≡ At i) (l : Life) (g : l ≡ lifeAt m (i % places)) (b : Bool) (h : b ≡ isActive (l .phase)) where
+    place : i % places ≡ i
+    place = mod-eq-of-lt (provider-below m q i (sym e ∙ f))
+
+    active : isActive (pluginAt m i .phase) ≡ b
+    unfolding pluginAt
+    active = sym (h ∙ ap (λ (y : Life). isActive (y .phase)) (g ∙ ap (lifeAt m) place))
+
+    pub in-time-active : b ≡ true → true ≡ inTime (view m) before q
+    in-time-active t = rw (provider-view m q, sym e ∙ f) (rw (active ∙ t))
+
+    pub in-time-named : b ≡ false → (id : ℕ) → id ≡ idAt m (i % places) → (d : Bool) → d ≡ named id before → d ≡ inTime (view m) before q
+    unfolding pluginAt
+    in-time-named n id k d j =
+        let s : id ≡ idAt m i = k ∙ ap (idAt m) place in
+        rw (provider-view m q, sym e ∙ f) (rw (active ∙ n) (j ∙ ap (λ z. named z before) s))
+
+-- a port is available exactly if it is provided in time with none before
+available-in-time : (r : Registry) (q : Port) → inTime r [] q ≡ available r q
+available-in-time r q = go (provider r q)
+  where
+    go : (u : Option Plugin) → holds (λ (p : Plugin). isActive (p .phase) || false) u ≡ holds (λ (p : Plugin). isActive (p .phase)) u
+    go none = refl
+    go (some p) = or-false (isActive (p .phase))
+
+pub all-available : (r : Registry) (qs : List Port) → all (inTime r []) qs ≡ all (available r) qs
+all-available r [] = refl
+all-available r (q ∷ qs) = rw (available-in-time r q, all-available r qs)
 
 -- a plugin that runs, and one that does not
 module _ (m : List ℕ) (u p : ℕ) (l : Life) (e : l ≡ lifeAt m u) (b : Bool) (f : b ≡ (isLoading (l .phase) || isActive (l .phase))) where

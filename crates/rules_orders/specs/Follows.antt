@@ -128,6 +128,15 @@ module _ (r : Registry) where
         let h = f .follows in
         rw (eq-eqb _ _ (f .whole), follow-members [] order h, follow-once [] order h, follow-supplied [] order h)
 
+    -- the same as two equations
+    pub passes-other : (order : List ℕ) → (length order ≡ length set → ⊥) → passes r set order ≡ false
+    passes-other order n = by-test (passes r set order) (λ t. absurd (n (passes-follow order t .whole))) (λ f. f)
+
+    pub passes-same : (order : List ℕ) → length order ≡ length set → passes r set order ≡ follow [] order
+    passes-same order e = by-test (follow [] order)
+        (λ t. follow-passes order (record { whole = e; follows = t }) ∙ sym t)
+        (λ f. by-test (passes r set order) (λ t. absurd (true≢false (sym (passes-follow order t .follows) ∙ f))) (λ g. g ∙ sym f))
+
     -- What passing means, in [6]'s words: none stands twice, the ids are the set's, and each is supplied by those before it.
     pub record Ordered (order : List ℕ) : Type 0 where
       pub once : twice order ≡ false

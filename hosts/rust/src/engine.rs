@@ -197,6 +197,23 @@ unsafe extern "C" {
         text_len: usize,
     ) -> u64;
 
+    pub unsafe fn vaskelbi_plan_order(
+        m: &[u64; WORDS],
+        set: *const u64,
+        set_len: usize,
+        buffer: *mut u64,
+        buffer_len: usize,
+        out: &mut [u64; ANSWER],
+    ) -> u64;
+    pub unsafe fn vaskelbi_check_order(
+        m: &[u64; WORDS],
+        set: *const u64,
+        set_len: usize,
+        order: *const u64,
+        order_len: usize,
+        out: &mut [u64; ANSWER],
+    ) -> u64;
+
     pub safe fn vaskelbi_parent(m: &[u64; WORDS], id: u64, out: &mut [u64; ANSWER]) -> u64;
     pub safe fn vaskelbi_anchor(m: &[u64; WORDS], id: u64, out: &mut [u64; ANSWER]) -> u64;
     pub safe fn vaskelbi_edition(m: &[u64; WORDS], id: u64, out: &mut [u64; ANSWER]) -> u64;

@@ -59,11 +59,13 @@ pub enum Refusal {
     SameDomain = 25,
     /// Another edition of the realm rule than 1 and 2, or a realm list without edition and default.
     BadEdition = 26,
+    /// An id stands twice in a set.
+    Repeated = 27,
 }
 
 impl Refusal {
     /// Every refusal, by rising number.
-    pub const ALL: [Self; 26] = [
+    pub const ALL: [Self; 27] = [
         Self::Unknown,
         Self::Retired,
         Self::InvalidState,
@@ -90,9 +92,10 @@ impl Refusal {
         Self::BadText,
         Self::SameDomain,
         Self::BadEdition,
+        Self::Repeated,
     ];
 
-    /// The number, 1 to 26: document 01's, and 24 to 26 of document 02.
+    /// The number, 1 to 27: document 01's, and 24 to 27 of document 02.
     pub const fn number(self) -> u8 {
         self as u8
     }
@@ -100,7 +103,7 @@ impl Refusal {
     /// The refusal of a number.
     pub const fn from_number(number: u64) -> Option<Self> {
         match number {
-            1..=26 => Some(Self::ALL[number as usize - 1]),
+            1..=27 => Some(Self::ALL[number as usize - 1]),
             _ => None,
         }
     }
@@ -139,6 +142,7 @@ impl Refusal {
             Self::BadEdition => {
                 "another edition of the realm rule than 1 and 2, or a list without one"
             }
+            Self::Repeated => "an id stands twice in a set",
         }
     }
 }

@@ -461,6 +461,79 @@ impl Registry {
     }
 }
 
+/// Start orders: in which order the Idle plugins of a set begin, each Active before the next begins.
+///
+/// An order passes if it names the set's ids, each once, and every dependency of each is provided by a plugin that is Active now
+/// or by one earlier in the order. The set's ids are checked one by one in list order: 27 if the id stands earlier in the list, 1,
+/// 2, 3 unless Idle, 16 if its generation is 2^64 − 1.
+impl Registry {
+    /// Plans the passing order that has the lowest id at the first place where two differ, at the front of the lent buffer, whose
+    /// rest stays. Answers the count of ids, or none, which writes nothing, if no order passes. Refuses by the set's checks, then
+    /// 23 if the buffer has fewer numbers than the set.
+    pub fn plan_order(&self, set: &[u64], buffer: &mut [u64]) -> Result<Option<usize>, Refusal> {
+        answer(|out| {
+            // SAFETY: each pointer and length are one slice's, and the buffer is borrowed here alone.
+            unsafe {
+                engine::vaskelbi_plan_order(
+                    &self.words,
+                    set.as_ptr(),
+                    set.len(),
+                    buffer.as_mut_ptr(),
+                    buffer.len(),
+                    out,
+                )
+            }
+        })
+        .map(|found| perhaps(found, number).map(|count| count as usize))
+    }
+
+    /// Plans the same order to the front of the lent buffer and answers it. Refuses as [`plan_order`](Self::plan_order).
+    ///
+    /// ```
+    /// use vaskelbi::{Definition, Port, Refusal, Registry};
+    ///
+    /// let mut registry = Registry::open(7, 100);
+    /// let anchor = Port::in_default_realm;
+    /// let drive = Definition { dependencies: &[21], ..Definition::new(anchor(30), 12) };
+    /// let drive = registry.register(&drive)?;
+    /// let encoder = Definition { provisions: &[21], ..Definition::new(anchor(20), 500) };
+    /// let encoder = registry.register(&encoder)?;
+    ///
+    /// let mut buffer = [0; 32];
+    /// let order = registry.start_order(&[drive, encoder], &mut buffer)?;
+    /// assert_eq!(order, Some(&[encoder, drive][..]));
+    /// assert_eq!(registry.start_order(&[drive], &mut buffer), Ok(None));
+    /// assert_eq!(registry.start_order(&[drive, drive], &mut buffer), Err(Refusal::Repeated));
+    /// # Ok::<(), Refusal>(())
+    /// ```
+    pub fn start_order<'b>(
+        &self,
+        set: &[u64],
+        buffer: &'b mut [u64],
+    ) -> Result<Option<&'b [u64]>, Refusal> {
+        let count = self.plan_order(set, buffer)?;
+        Ok(count.map(|count| &buffer[..count]))
+    }
+
+    /// Whether an order passes; any ids may stand in it. Refuses by the set's checks.
+    pub fn check_order(&self, set: &[u64], order: &[u64]) -> Result<bool, Refusal> {
+        answer(|out| {
+            // SAFETY: each pointer and length are one borrowed slice's.
+            unsafe {
+                engine::vaskelbi_check_order(
+                    &self.words,
+                    set.as_ptr(),
+                    set.len(),
+                    order.as_ptr(),
+                    order.len(),
+                    out,
+                )
+            }
+        })
+        .map(yes)
+    }
+}
+
 /// What a plugin holds. Each refuses 1.
 impl Registry {
     /// Its parent's id.

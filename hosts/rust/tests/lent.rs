@@ -2,8 +2,8 @@
 
 mod common;
 
-use common::{activate, bare, heirs, refused};
-use vaskelbi::{Definition, Port, RealmList, Refusal, Registry};
+use common::{activate, bare, dependencies, heirs, refused};
+use vaskelbi::{Definition, Phase, Port, RealmList, Refusal, Registry};
 
 #[test]
 fn lists_at_a_buffer_s_edges() {
@@ -74,7 +74,36 @@ impl Guarded {
     }
 }
 
-/// Fills every place and every row, lets all live and go, and lists what there is, three times over.
+/// Plans all that needs nothing and all that is Idle, which has no order, into parts of the buffer, whose rest stays.
+fn orders(registry: &Registry, buffer: &mut [u64; 96]) {
+    let mut idle: Vec<u64> = registry.ids().collect();
+    idle.retain(|&id| registry.phase(id) == Ok(Phase::Idle));
+    let mut free = idle.clone();
+    free.retain(|&id| dependencies(registry, id).is_empty());
+    assert!(!free.is_empty() && free.len() < idle.len());
+    for set in [&free, &idle] {
+        let count = set.len();
+        for (from, to) in [(0, count), (0, 96), (96 - count, 96), (17, 17 + count), (33, 70)] {
+            buffer.fill(CANARY);
+            let mut expected = *buffer;
+            let planned = registry.plan_order(set, &mut buffer[from..to]);
+            if *set == free {
+                expected[from..from + count].copy_from_slice(&free);
+                assert_eq!(planned, Ok(Some(count)));
+            } else {
+                assert_eq!(planned, Ok(None));
+            }
+            assert_eq!(*buffer, expected);
+            assert_eq!(registry.check_order(set, &buffer[from..from + count]), Ok(*set == free));
+            assert_eq!(*buffer, expected);
+        }
+        buffer.fill(CANARY);
+        let short = registry.plan_order(set, &mut buffer[17..16 + count]);
+        assert_eq!((short, *buffer), (Err(Refusal::ShortBuffer), [CANARY; 96]));
+    }
+}
+
+/// Fills every place and every row, lets all live and go, lists what there is and plans it, three times over.
 #[test]
 fn nothing_beside_is_written() {
     let mut all = Guarded::new();
@@ -106,6 +135,9 @@ fn nothing_beside_is_written() {
             assert_eq!(registry.list_provisions(id, 96 - 2 * count, buffer), Ok(count));
             registry.list_realms(id, 64, buffer).unwrap();
         }
+        all.check();
+        let Guarded { registry, buffer, .. } = &mut *all;
+        orders(registry, buffer);
         all.check();
         let registry = &mut all.registry;
         registry.unload(provider).unwrap();

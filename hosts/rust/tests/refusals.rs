@@ -1,4 +1,4 @@
-//! Every refusal is reached, and leaves every word as it was.
+//! All 27 refusals are reached, and leave every word as it was.
 
 mod common;
 
@@ -31,7 +31,7 @@ fn registering(registry: &mut Registry, new: Definition<'_>) -> Refusal {
 }
 
 /// One way to each refusal, in the order of the numbers.
-const WAYS: [fn() -> Refusal; 26] = [
+const WAYS: [fn() -> Refusal; 27] = [
     || refused(&mut family(), |r| r.begin(3)),
     || {
         let mut registry = family();
@@ -131,6 +131,7 @@ const WAYS: [fn() -> Refusal; 26] = [
         let realms = RealmList::from_numbers(&[3, 0]);
         registering(&mut family(), Definition { realms, ..bare(1) })
     },
+    || refused(&mut family(), |r| r.plan_order(&[2, 2], &mut [0; 2])),
 ];
 
 #[test]
@@ -148,7 +149,7 @@ fn names_and_numbers() {
         assert!(!refusal.to_string().is_empty());
     }
     assert_eq!(Refusal::from_number(0), None);
-    assert_eq!(Refusal::from_number(27), None);
+    assert_eq!(Refusal::from_number(28), None);
     assert_eq!(Refusal::from_number(u64::MAX), None);
     assert_eq!(Refusal::Stale.to_string(), "ticket or invocation is not the live one");
     let refused = Refused { refusal: Refusal::Unknown, payload: 9 };
@@ -190,6 +191,8 @@ fn nobody_is_known_by_another_id() {
     assert_eq!(r.list_dependencies(3, 0, &mut buffer), Err(Refusal::Unknown));
     assert_eq!(r.list_provisions(3, 0, &mut buffer), Err(Refusal::Unknown));
     assert_eq!(r.list_realms(3, 0, &mut buffer), Err(Refusal::Unknown));
+    assert_eq!(r.plan_order(&[3], &mut buffer), Err(Refusal::Unknown));
+    assert_eq!(r.check_order(&[3], &[3]), Err(Refusal::Unknown));
     assert_eq!(buffer, [9; 4]);
     assert_eq!(r.parent(3), Err(Refusal::Unknown));
     assert_eq!(r.anchor(3), Err(Refusal::Unknown));

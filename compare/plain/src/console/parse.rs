@@ -33,6 +33,8 @@ pub enum Operation<'a> {
     Lookup { id: u64, key: u64 },
     Resolve { key: u64, realms: RealmList<'a> },
     Edition(u64),
+    Plan { size: u64, set: &'a [u64] },
+    Check { set: &'a [u64], order: &'a [u64] },
     Deps { id: u64, place: u64 },
     Provs { id: u64, place: u64 },
     Realms { id: u64, place: u64 },
@@ -120,6 +122,19 @@ pub fn parse<'a>(line: Line<'a>, numbers: &'a mut Vec<u64>) -> Option<Operation<
             Operation::Resolve { key, realms: RealmList { edition, default, rows } }
         }
         b"edition" => Operation::Edition(words.one()?),
+        b"plan" => {
+            let size = words.number()?;
+            Operation::Plan { size, set: words.all(numbers)? }
+        }
+        b"check" => {
+            if words.next()? != b"set" {
+                return None;
+            }
+            words.until(b"order", numbers)?;
+            let set_end = numbers.len();
+            let (set, order) = words.all(numbers)?.split_at(set_end);
+            Operation::Check { set, order }
+        }
         b"deps" => {
             let [id, place] = words.exactly()?;
             Operation::Deps { id, place }

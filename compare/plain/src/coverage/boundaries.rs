@@ -13,6 +13,8 @@ use crate::registration::{
 use crate::registry::{MAX_PLUGINS, Registry};
 use crate::sheet::{Leaf, Sheet};
 
+use super::orders;
+
 const KEYS_16: &str = "registered with 16 dependency keys";
 const KEYS_15: &str = "registered with 15 provision keys";
 const REALMS_16: &str = "registered with 16 realm rows";
@@ -85,7 +87,7 @@ const LOAD_AGAIN: &str = "loaded, a key again by default";
 const LOAD_BACK: &str = "loaded back into the domain of before";
 const TICKET_AGAIN: &str = "admitted by a ticket of before a load";
 
-pub(super) const BOUNDARIES: [&str; 67] = [
+const BOUNDARIES: [&str; 67] = [
     KEYS_16,
     KEYS_15,
     REALMS_16,
@@ -154,6 +156,11 @@ pub(super) const BOUNDARIES: [&str; 67] = [
     LOAD_BACK,
     TICKET_AGAIN,
 ];
+
+/// All of them.
+pub(super) fn all() -> impl Iterator<Item = &'static str> {
+    BOUNDARIES.into_iter().chain(orders::BOUNDARIES)
+}
 
 /// The loads since an opening, as far as later lines depend on them.
 pub(super) struct Loads {
@@ -258,6 +265,12 @@ pub(super) fn reached(
             reached(loads.is_back(domain), LOAD_BACK);
             loads.domains.push(domain);
             load(&Sheet::read(text).expect("it was loaded"), reached);
+        }
+        Operation::Plan { size, set } => {
+            orders::planned(&Sheet::of(registry), size, set, reached);
+        }
+        Operation::Check { set, order } => {
+            orders::checked(&Sheet::of(registry), set, order, reached);
         }
         _ => {}
     }

@@ -16,7 +16,7 @@ use crate::sheet::Sheet;
 use crate::slot::Decision;
 
 use super::conditions::{CONDITIONS, DOMAIN};
-use super::forms;
+use super::{forms, orders};
 
 /// A refusal number and, where it has several, the reason.
 #[derive(Clone, Copy, Debug, PartialEq, Eq, PartialOrd, Ord)]
@@ -33,6 +33,9 @@ impl fmt::Display for Check {
         }
     }
 }
+
+/// The reason of a check that an id after the refused one breaks.
+pub(super) const LATER_ID: &str = "a later id";
 
 pub(super) const fn check(number: u8, reason: &'static str) -> Check {
     Check { number, reason }
@@ -189,6 +192,14 @@ fn look(console: &Console, asked: &Operation<'_>, found: &mut Found) -> Option<(
             found.when(value.is_none(), 22, "");
         }
         Operation::Resolve { realms: list, .. } => realms(list, found),
+        Operation::Plan { size, set } => {
+            set_of_ids(registry, set, found);
+            let sound = found.0.is_empty();
+            let none = sound && orders::plan(&Sheet::of(registry), set).is_none();
+            let reason = if none { "no order" } else { "" };
+            found.when(size < set.len() as u64, 23, reason);
+        }
+        Operation::Check { set, .. } => set_of_ids(registry, set, found),
         Operation::Deps { id, place } => {
             room(found.plugin(registry, id)?.dependencies(), place, found);
         }
@@ -237,6 +248,25 @@ fn realms(list: RealmList<'_>, found: &mut Found) {
     let keys: Vec<u64> = list.rows.iter().copied().step_by(2).collect();
     found.when(keys.windows(2).any(|pair| pair[0] == pair[1]), 4, "equal keys");
     found.when(keys.windows(2).any(|pair| pair[0] > pair[1]), 4, "falling keys");
+}
+
+/// The checks of a set, one id after the other. From the second id that is refused on,
+/// their reason says that they come too late.
+fn set_of_ids(registry: &Registry, set: &[u64], found: &mut Found) {
+    for (n, id) in set.iter().enumerate() {
+        let before = found.0.len();
+        found.when(set[..n].contains(id), 27, "");
+        if let Some(plugin) = found.plugin(registry, *id) {
+            found.when(plugin.retired(), 2, "");
+            found.when(plugin.phase() == Phase::Loading, 3, "Loading");
+            found.when(plugin.phase() == Phase::Active, 3, "Active");
+            found.when(plugin.phase() == Phase::Unloading, 3, "Unloading");
+            found.when(plugin.generation() == u64::MAX, 16, "");
+        }
+        if before > 0 {
+            found.0[before..].iter_mut().for_each(|check| check.reason = LATER_ID);
+        }
+    }
 }
 
 fn room(ports: &[Port], place: u64, found: &mut Found) {

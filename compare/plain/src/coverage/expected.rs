@@ -22,6 +22,28 @@ const REALMS: &[Check] = &[
     check(4, "falling keys"),
 ];
 
+const SET: [Check; 7] = [
+    check(27, ""),
+    check(1, ""),
+    check(2, ""),
+    check(3, "Loading"),
+    check(3, "Active"),
+    check(3, "Unloading"),
+    check(16, ""),
+];
+
+/// A set's checks, and then the room: for an order, and where there is none.
+const PLAN: [Check; SET.len() + 2] = {
+    let mut checks = [check(23, ""); SET.len() + 2];
+    let mut n = 0;
+    while n < SET.len() {
+        checks[n] = SET[n];
+        n += 1;
+    }
+    checks[n] = check(23, "no order");
+    checks
+};
+
 /// The form, the lines of editions in it, each condition, and the domain.
 const LOAD: [Check; EDITIONS.len() + CONDITIONS.len() + 2] = {
     let mut checks = [FORM; EDITIONS.len() + CONDITIONS.len() + 2];
@@ -48,6 +70,34 @@ pub const ORDERS: &[(&str, u8, u8)] = &[
     ("register", 26, 10),
     ("register", 4, 5),
     ("resolve", 26, 4),
+    ("plan", 2, 3),
+    ("plan", 2, 16),
+    ("plan", 3, 16),
+    ("plan", 27, 23),
+    ("plan", 1, 23),
+    ("plan", 2, 23),
+    ("plan", 3, 23),
+    ("plan", 16, 23),
+    ("check", 2, 3),
+    ("check", 2, 16),
+    ("check", 3, 16),
+];
+
+/// The same for the ids of a set, where the later check is of a later id: ids are checked
+/// one by one, so the number may be one that comes first on a single id.
+pub const ID_ORDERS: &[(&str, u8, u8)] = &[
+    ("plan", 27, 1),
+    ("plan", 1, 27),
+    ("plan", 3, 27),
+    ("plan", 2, 1),
+    ("plan", 3, 2),
+    ("plan", 16, 3),
+    ("check", 27, 1),
+    ("check", 1, 27),
+    ("check", 3, 27),
+    ("check", 2, 1),
+    ("check", 3, 2),
+    ("check", 16, 3),
 ];
 
 /// Every operation with all that it can answer on a registry built from an opening
@@ -180,6 +230,8 @@ pub const EXPECTED: &[Expected] = &[
         REALMS,
     ),
     ("edition", &["edition 1", "edition 2"], UNKNOWN),
+    ("plan", &["empty set", "", "none"], &PLAN),
+    ("check", YES_NO, &SET),
     ("deps", PLAIN, LIST),
     ("provs", PLAIN, LIST),
     ("realms", PLAIN, LIST),

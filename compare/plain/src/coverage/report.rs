@@ -3,7 +3,7 @@
 use std::collections::BTreeMap;
 use std::fmt;
 
-use super::{BOUNDARIES, Coverage, EXPECTED, Tally, Texts};
+use super::{Coverage, EXPECTED, Tally, Texts, boundaries};
 
 impl fmt::Display for Coverage {
     fn fmt(&self, f: &mut fmt::Formatter<'_>) -> fmt::Result {
@@ -33,7 +33,7 @@ impl fmt::Display for Coverage {
             }
         }
         writeln!(f, "\nBoundaries")?;
-        for name in BOUNDARIES {
+        for name in boundaries::all() {
             let count = self.boundaries.get(name).unwrap_or(&0);
             writeln!(f, "{name:44} {count:>8}")?;
         }

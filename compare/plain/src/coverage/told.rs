@@ -9,10 +9,11 @@ use crate::registry::Registry;
 use crate::sheet::{Leaf, Sheet};
 
 use super::checks::{finished, resolved, resolved_key};
-use super::first_line;
+use super::{first_line, orders};
 
 /// What the registry told before a line whose whole answer is held to the rules: a text
-/// written or loaded, a plugin registered, a key resolved, an edition asked for.
+/// written or loaded, a plugin registered, a key resolved, an edition asked for, an order
+/// planned or checked.
 pub(super) struct Told(Sheet);
 
 impl Told {
@@ -24,6 +25,8 @@ impl Told {
                 | Operation::Register(_)
                 | Operation::Resolve { .. }
                 | Operation::Edition(_)
+                | Operation::Plan { .. }
+                | Operation::Check { .. }
         );
         held.then(|| Self(Sheet::of(registry)))
     }
@@ -68,6 +71,16 @@ impl Told {
                     _ => (1, 0),
                 };
                 answer == format!("ok {edition} {default}\n").as_bytes() && after == self.0
+            }
+            Operation::Plan { set, .. } if accepted => {
+                let order = orders::plan(&self.0, set).map_or(" none".to_string(), |order| {
+                    order.iter().map(|id| format!(" {id}")).collect()
+                });
+                answer == format!("ok{order}\n").as_bytes() && after == self.0
+            }
+            Operation::Check { set, order } if accepted => {
+                let yes = if orders::passes(&self.0, set, order) { "yes" } else { "no" };
+                answer == format!("ok {yes}\n").as_bytes() && after == self.0
             }
             _ => answer.len() == first_line(answer).len() + 1 && after == self.0,
         }

@@ -48,6 +48,22 @@ impl Draft {
         }
     }
 
+    /// Provides this port, if its key has no other use yet.
+    pub(super) fn provide(&mut self, port: Port) {
+        if !self.names(port.key) {
+            self.aim(port);
+            self.provisions.push(port.key);
+        }
+    }
+
+    /// Depends on this port, if its key has no other use yet.
+    pub(super) fn need(&mut self, port: Port) {
+        if !self.names(port.key) {
+            self.aim(port);
+            self.dependencies.push(port.key);
+        }
+    }
+
     fn names(&self, key: u64) -> bool {
         self.dependencies.contains(&key) || self.provisions.contains(&key)
     }
@@ -124,19 +140,13 @@ impl Script {
         }
         for _ in 0..self.rng.one_of([0, 1, 1, 2, 3]) {
             let active = !self.rng.one_in(4);
-            if let Some(port) = self.provided_port(active)
-                && !draft.names(port.key)
-            {
-                draft.aim(port);
-                draft.dependencies.push(port.key);
+            if let Some(port) = self.provided_port(active) {
+                draft.need(port);
             }
         }
         for _ in 0..self.rng.one_of([0, 1, 1, 2, 3, 5]) {
             let port = self.free_port();
-            if !draft.names(port.key) {
-                draft.aim(port);
-                draft.provisions.push(port.key);
-            }
+            draft.provide(port);
         }
         for _ in 0..self.rng.below(3) {
             let port = self.common_port();
@@ -179,8 +189,7 @@ impl Script {
         if self.rng.one_in(3) {
             (draft.edition, draft.default) = (2, port.realm);
         }
-        draft.aim(port);
-        draft.provisions.push(port.key);
+        draft.provide(port);
         draft
     }
 
@@ -393,10 +402,7 @@ impl Script {
             _ => {
                 for _ in 0..self.rng.below(3) {
                     let port = self.free_port();
-                    if !draft.names(port.key) {
-                        draft.aim(port);
-                        draft.provisions.push(port.key);
-                    }
+                    draft.provide(port);
                 }
             }
         }

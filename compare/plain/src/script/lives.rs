@@ -19,6 +19,8 @@ enum Aim {
     Rows,
     /// Plugins with 48 dependencies, all of them provided.
     Supply,
+    /// Plugins that need each other, to be begun in order.
+    Pier,
 }
 
 /// One registry's time, from its opening.
@@ -64,7 +66,7 @@ impl Script {
         if self.life.left == 0 {
             self.open();
         }
-        match self.rng.below(209) {
+        match self.rng.below(225) {
             0..=69 => self.advance(),
             70..=99 => self.grow(),
             100..=169 => self.probe(),
@@ -77,6 +79,7 @@ impl Script {
             198 => self.long_line(),
             199 => self.register_bare(),
             200..=205 => self.write(),
+            206..=221 => self.order(),
             _ => self.carry(),
         }
     }
@@ -91,13 +94,15 @@ impl Script {
             Aim::Rows,
             Aim::Rows,
             Aim::Supply,
+            Aim::Pier,
+            Aim::Pier,
         ]);
         let (low, high) = match aim {
             Aim::Common => self.rng.one_of([(20, 200), (200, 800), (800, 3000)]),
             _ => (400, 1500),
         };
         let crowd = match aim {
-            Aim::Common | Aim::Supply => self.rng.between(4, 14),
+            Aim::Common | Aim::Supply | Aim::Pier => self.rng.between(4, 14),
             Aim::Crowd | Aim::Rows => MAX_PLUGINS as u64,
         };
         self.life = Life {
@@ -114,6 +119,7 @@ impl Script {
             Aim::Crowd => self.pack(),
             Aim::Rows => self.fill(),
             Aim::Supply => self.supply(),
+            Aim::Pier => self.pier(),
         }
     }
 
@@ -148,14 +154,18 @@ impl Script {
                 let draft = self.tiny_draft();
                 self.register(&draft)
             }
-            _ if self.registry().count() < self.life.crowd || full || self.rng.one_in(4) => {
-                self.register_any()
-            }
+            Aim::Pier if !self.is_crowded() && self.rng.one_in(4) => return self.pier(),
+            _ if !self.is_crowded() || full || self.rng.one_in(4) => self.register_any(),
             _ => return self.advance(),
         };
         if accepted && self.rng.one_in(4) {
             self.look_at_lists();
         }
+    }
+
+    /// Whether there are as many plugins as there should be.
+    pub(super) fn is_crowded(&self) -> bool {
+        self.registry().count() >= self.life.crowd
     }
 
     /// Lists what the last registration has made.
@@ -169,7 +179,7 @@ impl Script {
     }
 
     /// Moves some plugin on by its next step.
-    fn advance(&mut self) {
+    pub(super) fn advance(&mut self) {
         // Plugins with lists are moved more often: the others have a short way.
         let needy = self.id_where(|p| !p.dependencies().is_empty() || !p.provisions().is_empty());
         let Some(id) = needy.filter(|_| self.rng.one_in(2)).or_else(|| self.id_where(|_| true))
@@ -181,6 +191,9 @@ impl Script {
         let plugin = self.plugin(id);
         let down = if plugin.retired() {
             true
+        } else if plugin.generation() == u64::MAX {
+            // It won't begin again.
+            self.rng.one_in(2)
         } else if plugin.phase() == Phase::Active {
             self.rng.one_in(if crowded { 2 } else { 4 })
         } else {
@@ -361,7 +374,7 @@ impl Script {
     }
 
     /// Takes a plugin all the way up, with other lines in between if wished.
-    fn raise(&mut self, id: u64, disturbed: bool) {
+    pub(super) fn raise(&mut self, id: u64, disturbed: bool) {
         while self.registry().plugin(id).is_ok() && self.step_up(id) {
             if disturbed && self.rng.one_in(8) {
                 self.probe();

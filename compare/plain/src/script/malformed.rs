@@ -5,7 +5,7 @@ use super::carry::filler;
 use crate::console::{MAX_LINE, text_length};
 
 /// One good line of every form, to be spoilt.
-const GOOD: [&str; 50] = [
+const GOOD: [&str; 54] = [
     "open 7 0",
     "register none 9 0 40 1 0 realms 2 5 deps provs 2",
     "register 0 9 0 40 2 7 realms 2 5 9 1 deps 4 provs 3",
@@ -35,6 +35,10 @@ const GOOD: [&str; 50] = [
     "resolve 2 2 7 2 5 9 1",
     "edition 0",
     "edition 3",
+    "plan 0",
+    "plan 3 2 0 1",
+    "check set order",
+    "check set 1 0 order 0 1",
     "deps 0 0",
     "provs 0 10",
     "realms 0 20",
@@ -59,7 +63,7 @@ const GOOD: [&str; 50] = [
 ];
 
 /// Words that are no numbers, or only just are.
-const WORDS: [&str; 22] = [
+const WORDS: [&str; 24] = [
     "00",
     "01",
     "007",
@@ -81,11 +85,13 @@ const WORDS: [&str; 22] = [
     "100000000000000000000000000000000000000000",
     "yes",
     "realms",
+    "set",
+    "order",
     "ok",
 ];
 
 /// Lines that are bad as they are, or good against expectation.
-const LINES: [&[u8]; 44] = [
+const LINES: [&[u8]; 58] = [
     b" ",
     b"   ",
     b"\t",
@@ -120,6 +126,20 @@ const LINES: [&[u8]; 44] = [
     b"resolve 2 none 0",
     b"edition",
     b"edition 0 0",
+    b"plan",
+    b"plan none",
+    b"plan none 0",
+    b"plan 3 none",
+    b"check",
+    b"check 0 order 0",
+    b"check set",
+    b"check set 0",
+    b"check order",
+    b"check order 0 set 0",
+    b"check set order order",
+    b"check set set order",
+    b"check set 0 order 0 set",
+    b"check set none order none",
     b"load",
     b"load 7",
     b"load 7 9 9",
@@ -198,7 +218,7 @@ impl Script {
     pub(super) fn long_line(&mut self) {
         let length = MAX_LINE - 1 + self.rng.below(3) as usize;
         let id = self.any_id();
-        let line = match self.rng.below(13) {
+        let line = match self.rng.below(16) {
             0 => padded("rows", b" ", length),
             1 => padded(&format!("show {id}"), b" ", length),
             2 => padded("", b" ", length),
@@ -211,17 +231,22 @@ impl Script {
             9 => padded("register none 1 0 5 2 7 realms deps", b" 4", length - 6),
             10 => padded("register none 1 0 5 1 0 realms deps provs", b" 12", length),
             11 => padded("load 7 0", b" ", length),
+            12 => padded(&format!("plan 3 {id}"), b" 1", length),
+            13 => padded("check set", b" 1", length - 6),
+            14 => padded("check set order", b" 1", length),
             _ => {
                 let mut line = vec![b' '; length - 4];
                 line.extend_from_slice(b"next");
                 line
             }
         };
-        // Two of the forms still lack their last words.
+        // Three of the forms still lack their last words.
         let line = if line.starts_with(b"register none 1 0 5 1 0 realms 4") {
             [&line[..], b" deps provs"].concat()
         } else if line.starts_with(b"register none 1 0 5 2 7 realms deps 4") {
             [&line[..], b" provs"].concat()
+        } else if line.starts_with(b"check set 1") {
+            [&line[..], b" order"].concat()
         } else {
             line
         };

@@ -275,6 +275,32 @@ border! {
         done(m.load(domain, unsafe { list(first, length) }))
     }
 
+    fn plan_order(
+        m: &Registry,
+        set: *const u64,
+        set_count: usize,
+        first: *mut u64,
+        count: usize,
+        out: &mut Out,
+    ) -> u64 {
+        let planned =
+            m.plan_order(unsafe { list(set, set_count) }, unsafe { buffer(first, count) });
+        perhaps(planned.map(|count| count.map(|count| [count as u64])), out)
+    }
+
+    fn check_order(
+        m: &Registry,
+        set: *const u64,
+        set_count: usize,
+        order: *const u64,
+        order_count: usize,
+        out: &mut Out,
+    ) -> u64 {
+        let [set, order] = [(set, set_count), (order, order_count)]
+            .map(|(first, count)| unsafe { list(first, count) });
+        whether(m.check_order(set, order), out)
+    }
+
     fn parent(m: &Registry, id: u64, out: &mut Out) -> u64 {
         perhaps(m.plugin(id).map(|plugin| plugin.parent().map(|parent| [parent])), out)
     }

@@ -67,15 +67,15 @@ slice-aggregate-first-words c = sym (front-size (c .before .before .before .befo
 first-words-requires : tie.Need-first-words-requires Inv-loop μ-loop
 first-words-requires c κs = search needs
 
-has-key-requires : tie.Need-has-key-requires Inv-loop μ-loop
-has-key-requires c κs = search needs
+has-number-requires : tie.Need-has-number-requires Inv-loop μ-loop
+has-number-requires c κs = search needs
 
 returns-3 : tie.Need-returns-3 Inv-loop μ-loop
 returns-3 c =
     let at = c .before .before .before .before .before .before .before .before .before .before in
     let a = at .before .before .before .args in
     let e = ap (any (eqb (getD (a .list .now) (at .loop .n * 2) 0))) (sym (c .before .before .first-words .ensures))
-    ∙ sym (c .before .has-key .ensures) ∙ c .if3 .taken in
+    ∙ sym (c .before .has-number .ensures) ∙ c .if3 .taken in
     record { front = at .loop .inv; end = inr (inr (alike (a .list .now) (at .loop .inv) (omega arith) e)) }
 
 mul-keys : tie.Need-mul-keys Inv-loop μ-loop
@@ -97,7 +97,7 @@ loop-again c =
     let a = at .before .before .before .args in
     let e = sym (h .before .is-resolved .ensures) ∙ not-false _ (h .if2 .left) in
     let d = ap (any (eqb (getD (a .list .now) (at .loop .n * 2) 0))) (sym (c .before .before .first-words .ensures))
-    ∙ sym (c .before .has-key .ensures) ∙ c .if3 .left in
+    ∙ sym (c .before .has-number .ensures) ∙ c .if3 .left in
     front-more (a .list .now) (at .loop .inv) (omega arith) (omega arith) e d
 
 returns-4 : tie.Need-returns-4 Inv-loop μ-loop
@@ -125,7 +125,7 @@ keys-in-front-spec =
     returns-2
     slice-aggregate-first-words
     first-words-requires
-    has-key-requires
+    has-number-requires
     returns-3
     mul-keys
     array-write-keys

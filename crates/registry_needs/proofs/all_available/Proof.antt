@@ -1,91 +1,22 @@
--- Each port before place i - 1 is available.
-use Prim.Native.Nat.{_-_, _≤_}
-use native.Mathlib.Omega.{arith}
-use mathlib.Core.Path.{_≡_, sym, ap, _∙_}
-use mathlib.Core.Bool.{Bool}
-use lib.ListN.{length, drop}
-use Rattle.rules.specs.Basics.{all}
-use Rattle.rules_types.specs.declared.Port.{Port}
-use Rattle.rules.specs.Phases.{available}
+-- `all_available` meets its contract: none is before, so in time is available.
+use mathlib.Core.Path.{_∙_}
 use Rattle.rules.specs.Ports.{pairs}
 use Rattle.memory.specs.View.{view}
-use Rattle.ports.specs.Places.{pairs-behind, pairs-end}
-use Rattle.registry_needs.proofs.Laws.{all-hit, all-miss}
+use Rattle.registry_needs.proofs.Laws.{all-available}
 use borrow.Author.Needs.{needs}
 use Rattle.registry_needs.proofs.all_available.Statement.{statement}
 use Rattle.registry_needs.proofs.all_available.Tie as tie
 
-abbrev Inv-loop : tie.InvT-loop
-Inv-loop m ports i₀ i = (1 ≤ i) × (all (available (view m)) (pairs ports) ≡ all (available (view m)) (pairs (drop (i - 1) ports)))
+slice-aggregate-all-in-time : tie.Need-slice-aggregate-all-in-time
+slice-aggregate-all-in-time c = search needs
 
-abbrev μ-loop : tie.MeasureT-loop
-μ-loop m ports i₀ i = length ports - i
+all-in-time-requires : tie.Need-all-in-time-requires
+all-in-time-requires c κs = search needs
 
-loop-holds : tie.Need-loop-holds Inv-loop μ-loop
-loop-holds c = search needs
-
-sub-is-available : tie.Need-sub-is-available Inv-loop μ-loop
-sub-is-available c = search needs
-
-mul-is-available : tie.Need-mul-is-available Inv-loop μ-loop
-mul-is-available c = search needs
-
-shared-slice-read-is-available : tie.Need-shared-slice-read-is-available Inv-loop μ-loop
-shared-slice-read-is-available c = search needs
-
-mul-is-available-2 : tie.Need-mul-is-available-2 Inv-loop μ-loop
-mul-is-available-2 c = search needs
-
-shared-slice-read-is-available-2 : tie.Need-shared-slice-read-is-available-2 Inv-loop μ-loop
-shared-slice-read-is-available-2 c = search needs
-
-is-available-requires : tie.Need-is-available-requires Inv-loop μ-loop
-is-available-requires c κs = search needs
-
-add-i : tie.Need-add-i Inv-loop μ-loop
-add-i c = search needs
-
-loop-less : tie.Need-loop-less Inv-loop μ-loop
-loop-less c = search needs
-
-loop-again : tie.Need-loop-again Inv-loop μ-loop
-loop-again c =
-    let at = c .before .before .before .before .before in
-    let a = at .before .before .args in
-    let f : Port → Bool = available (view (a .m .now)) in
-    let s = pairs-behind (a .list .now) (at .loop .i) (at .loop .inv .0) (c .before .before .before .before .loop-test .taken) in
-    (omega arith, at .loop .inv .1 ∙ all-hit f s (sym (c .before .is-available .ensures) ∙ c .if1 .taken))
-
-returns : tie.Need-returns Inv-loop μ-loop
+returns : tie.Need-returns
 returns c =
-    let at = c .before .before .before .before .before in
-    let a = at .before .before .args in
-    let f : Port → Bool = available (view (a .m .now)) in
-    let s = pairs-behind (a .list .now) (at .loop .i) (at .loop .inv .0) (c .before .before .before .before .loop-test .taken) in
-    sym (at .loop .inv .1 ∙ all-miss f s (sym (c .before .is-available .ensures) ∙ c .if1 .left))
-
-returns-2 : tie.Need-returns-2 Inv-loop μ-loop
-returns-2 c =
-    let at = c .before in
-    let a = at .before .before .args in
-    let f : Port → Bool = available (view (a .m .now)) in
-    sym (at .loop .inv .1 ∙ ap (all f) (pairs-end (a .list .now) (at .loop .i - 1) (omega arith)))
+    let a = c .before .before .before .args in
+    c .all-in-time .ensures ∙ all-available (view (a .m .now)) (pairs (a .list .now))
 
 pub all-available-spec : {M : Type 1} → statement M
-all-available-spec =
-    tie.close
-    (tie.spec
-    Inv-loop
-    μ-loop
-    loop-holds
-    sub-is-available
-    mul-is-available
-    shared-slice-read-is-available
-    mul-is-available-2
-    shared-slice-read-is-available-2
-    is-available-requires
-    add-i
-    loop-less
-    loop-again
-    returns
-    returns-2)
+all-available-spec = tie.close (tie.spec slice-aggregate-all-in-time all-in-time-requires returns)

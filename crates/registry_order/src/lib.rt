@@ -1,0 +1,125 @@
+// Document 02 [6]: the checks of a set of ids, and the checker of an order. The registry isn't changed.
+ghost use mathlib.Core.Path.{_≡_};
+ghost use mathlib.Core.Bool.{_&&_};
+ghost use Rattle.rules.specs.Answers.{verdict, whetherAnswer};
+ghost use Rattle.rules.specs.Holds.{isIdle};
+ghost use Rattle.rules.specs.Orders.{named, supplied, canCome, idChecks, setChecks, passes, checkOrder};
+ghost use Rattle.rules.specs.Outcomes.{answerOf};
+ghost use Rattle.memory.specs.View.{view};
+ghost use Rattle.registry_order.specs.Checks.{lifeChecks};
+use memory::Life;
+use memory::Place;
+use memory::WORDS;
+use rules::Done;
+use rules::Generation;
+use rules::Phase;
+use rules::Whether;
+use rules::refusal;
+
+fn is_idle(life: Life) -> bool
+    ensures { λ r. ⌜ r ≡ isIdle (life .phase) ⌝ }
+{
+    let phase = life.phase;
+    match phase {
+        Phase::Idle => true,
+        Phase::Loading => false,
+        Phase::Active => false,
+        Phase::Unloading => false,
+    }
+}
+
+// 2, 3, 16, of a found plugin.
+fn life_verdict(life: Life) -> Done
+    ensures { λ r. ⌜ r ≡ verdict (lifeChecks life) ⌝ }
+{
+    if life.retired {
+        return Done::Refused(refusal::RETIRED);
+    }
+    if !is_idle(life) {
+        return Done::Refused(refusal::INVALID_STATE);
+    }
+    if life.generation.0 == Generation::LAST.0 {
+        return Done::Refused(refusal::EXHAUSTED);
+    }
+    Done::Accepted
+}
+
+// 27, 1, then those.
+fn id_verdict(m: &[u64; WORDS], earlier: &[u64], id: u64) -> Done
+    ensures { λ r. ⌜ r ≡ verdict (idChecks (view (now (m .entry))) (now (earlier .entry)) id) ⌝ }
+{
+    if ports::has_number(earlier, id) {
+        return Done::Refused(refusal::REPEATED);
+    }
+    let Place::At(at) = memory::find(m, id) else {
+        return Done::Refused(refusal::UNKNOWN);
+    };
+    life_verdict(memory_life::load(m, at))
+}
+
+// The same of each id, in list order.
+pub fn set_verdict(m: &[u64; WORDS], set: &[u64]) -> Done
+    ensures { λ r. ⌜ r ≡ verdict (setChecks (view (now (m .entry))) (now (set .entry))) ⌝ }
+{
+    let mut i: usize = 0;
+    while i < set.len() {
+        if let Done::Refused(why) = id_verdict(m, &set[..i], set[i]) {
+            return Done::Refused(why);
+        }
+        i += 1;
+    }
+    Done::Accepted
+}
+
+// Whether every dependency of a plugin is provided by an Active one or by one of those before.
+fn is_supplied(m: &[u64; WORDS], before: &[u64], id: u64) -> bool
+    ensures { λ r. ⌜ r ≡ supplied (view (now (m .entry))) (now (before .entry)) id ⌝ }
+{
+    let Place::At(at) = memory::find(m, id) else {
+        return false;
+    };
+    registry_needs::all_in_time(m, before, memory_lists::dependency_words(m, at))
+}
+
+// Whether an id is the set's, is not among those before, and is supplied.
+fn follows(m: &[u64; WORDS], set: &[u64], before: &[u64], id: u64) -> bool
+    ensures { λ r. ⌜ r ≡ (named id (now (set .entry)) && canCome (view (now (m .entry))) (now (before .entry)) id) ⌝ }
+{
+    if !ports::has_number(set, id) {
+        return false;
+    }
+    if ports::has_number(before, id) {
+        return false;
+    }
+    is_supplied(m, before, id)
+}
+
+// Whether the order names the set's ids, each once, and each is supplied by those before it.
+fn is_passing(m: &[u64; WORDS], set: &[u64], order: &[u64]) -> bool
+    ensures { λ r. ⌜ r ≡ passes (view (now (m .entry))) (now (set .entry)) (now (order .entry)) ⌝ }
+{
+    if order.len() != set.len() {
+        return false;
+    }
+    let mut i: usize = 0;
+    while i < order.len() {
+        if !follows(m, set, &order[..i], order[i]) {
+            return false;
+        }
+        i += 1;
+    }
+    true
+}
+
+// The checker: the set's refusals, else whether the order passes.
+pub fn check_order(m: &[u64; WORDS], set: &[u64], order: &[u64]) -> Whether
+    ensures { λ r. ⌜ whetherAnswer r ≡ answerOf (checkOrder (view (now (m .entry))) (now (set .entry)) (now (order .entry))) ⌝ }
+{
+    if let Done::Refused(why) = set_verdict(m, set) {
+        return Whether::Refused(why);
+    }
+    if is_passing(m, set, order) {
+        return Whether::Yes;
+    }
+    Whether::No
+}

@@ -1,0 +1,5 @@
+mod Covers
+mod Places
+mod Plans
+mod Laws
+mod Told
