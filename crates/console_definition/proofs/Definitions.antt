@@ -1,6 +1,6 @@
 -- The parts of a registration's line, each from its words. Assumes nothing.
 use Prim.Native.Nat.{ℕ}
-use mathlib.Core.Path.{_≡_, refl, ap}
+use mathlib.Core.Path.{_≡_, refl}
 use mathlib.Core.Bool.{Bool, true, false, _&&_}
 use mathlib.Core.List.{List}
 use mathlib.Core.Option.{none, some}
@@ -18,8 +18,7 @@ use Rattle.console_definition.specs.declared.Number.{Number}
 use Rattle.console_definition.specs.declared.Head.{Head}
 use Rattle.console_definition.specs.declared.Counted.{Counted}
 use Rattle.console_definition.specs.Definitions.{wordFrom, parentIn, underIn, numberIn, headIn, Listed, listed, listBehind, three, listsIn}
-use Rattle.console_words.specs.Fronts.{Front, fronted}
-use Rattle.console_definition.specs.Found.{countOf, Behind, Three}
+use Rattle.console_definition.specs.Found.{countOf, Behind, behind-front, Three}
 
 module _ (line : List ℕ) (from : ℕ) (w : Span) (e : w ≡ nextWord line from) where
   pub number-is : (n : ℕ) → numberOf (bytesOf line w) ≡ some n → record { is = true; value = n; stop = w .stop } ≡ numberIn line from
@@ -74,9 +73,6 @@ module _ (line : List ℕ) (from : ℕ) (w : Span) (e : w ≡ nextWord line from
         let f : sameNumbers (wordFrom line from) name ≡ false = rw e at h in
         rw f (record { list = refl; numbers = refl })
 
-front : (l : Listed) (before after : List ℕ) (r : Counted) → Behind l before after r → Front (l .numbers) (r .count) before after
-front l before after r h = fronted (l .numbers) (r .count) before after (ap (λ (x : Counted). x .count) (h .list)) (h .numbers)
-
 module _ (line : List ℕ) (from : ℕ) where
   abbrev head : Bool → Number → Number → Number → Number → Number → Head
   head found a b c d e = record {
@@ -115,9 +111,9 @@ module _ (line : List ℕ) (from : ℕ) where
       rw (lists-are a b (ha .list) (hb .list))
       (record {
         found = rw (ef, el, hc .list, hb .list, ha .list);
-        realms = front realmsOf r r′ a ha;
-        deps = front (depsOf a) d d′ b hb;
-        provs = front (provsOf b) p p′ c hc;
+        realms = behind-front realmsOf r r′ a ha;
+        deps = behind-front (depsOf a) d d′ b hb;
+        provs = behind-front (provsOf b) p p′ c hc;
       })
 
 pub ends-if : (found : Bool) (stop size : ℕ) → found ≡ true → eqb stop size ≡ (found && eqb stop size)

@@ -38,10 +38,10 @@ pub struct Head {
 }
 
 // A list behind its word: how many numbers, and where they stop.
-struct Counted {
-    found: bool,
-    count: usize,
-    stop: usize,
+pub struct Counted {
+    pub found: bool,
+    pub count: usize,
+    pub stop: usize,
 }
 
 // How many numbers the three lists have; found if each is and nothing stands behind them.
@@ -99,7 +99,7 @@ fn read_number(bytes: &[u8], from: usize) -> Number
     }
 }
 
-fn all(a: bool, b: bool, c: bool) -> bool
+pub fn all(a: bool, b: bool, c: bool) -> bool
     ensures { λ r. ⌜ r ≡ (a && (b && c)) ⌝ }
 {
     if a {
@@ -133,7 +133,7 @@ pub fn read_head(bytes: &[u8], from: usize) -> Head
 }
 
 // The next word has to be this name; the numbers behind it go to the front of the array, whose rest stays.
-fn list_behind(bytes: &[u8], from: usize, name: &[u8], numbers: &mut [u64; 2048]) -> Counted
+pub fn list_behind(bytes: &[u8], from: usize, name: &[u8], numbers: &mut [u64; 2048]) -> Counted
     ensures { λ r. ⌜ Behind (listBehind (now (bytes .entry)) from (now (name .entry))) (now (numbers .entry)) (now (numbers .exit)) r ⌝ }
 {
     let word = console_words::next_word(bytes, from);

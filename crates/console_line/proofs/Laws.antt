@@ -21,16 +21,17 @@ use Rattle.console_names.specs.declared.Values.{Values}
 use Rattle.console_names.specs.declared.Values.the-variants.{Numbers}
 use Rattle.console_names.specs.declared.Held.{Held}
 use Rattle.console_names.specs.declared.Kind.{Kind}
-use Rattle.console_names.specs.declared.Kind.the-variants.{Show, Buffer, Text, Load}
+use Rattle.console_names.specs.declared.Kind.the-variants.{Show, Buffer, Text, Load, Plan}
 use Rattle.console_names.specs.declared.Row.{Row}
 use Rattle.console_names.specs.Names.{placeAmong}
-use Rattle.console_names.specs.Table.{Asked, takes, first, second, names, rowAt}
+use Rattle.console_names.specs.Table.{Asked, takes, first, second, rest, names, rowAt}
 use Rattle.console_show.specs.Spoken.{spokenOn}
 use Rattle.console_show.specs.Buffered.{between}
 use Rattle.console_show.specs.Shown.{shownOn}
 use Rattle.console_operations.specs.Asked.{whichOf}
 use Rattle.console_operations.specs.Carried.{statusBy, wordsBy, Lists}
 use Rattle.console_line.specs.Lines.{Done, Does, lineEnd, badLine, untold, askedLine, listed, textOn, lentBytes, numbersLine, orBad}
+use Rattle.console_order.specs.Plans.{plannedOn, lentIds}
 use Rattle.console_line.specs.Console.{After, Leaves, operateBy, operate, answered}
 
 pub same-done : (a b : Done) (text : List ℕ) (place : ℕ) (memory buffer : List ℕ) → a ≡ b → Does b text place memory buffer → Does a text place memory buffer
@@ -66,6 +67,10 @@ module _ (p : Page) (m : List ℕ) where
       pub text-done : (size : ℕ) → size ≡ first l → kind ≡ Text → (text : List ℕ) (at : ℕ) → upTo text at ≡ textOn p m (lentBytes size)
           → Does (numbersLine p m buffer place kind l) text at m buffer
       text-done size es k text at e = rw (k, ← es) (e, refl, refl)
+
+      pub plan-done : (size : ℕ) → size ≡ first l → kind ≡ Plan → (text : List ℕ) (at : ℕ) → upTo text at ≡ lineEnd (plannedOn p m (rest l) (lentIds size))
+          → Does (numbersLine p m buffer place kind l) text at m buffer
+      plan-done size es k text at e = rw (k, ← es) (e, refl, refl)
 
       pub awaiting-done : kind ≡ Load → (text : List ℕ) (at : ℕ) → upTo text at ≡ p → Does (numbersLine p m buffer place kind l) text at m buffer
       awaiting-done k text at e = rw k (e, refl, refl)

@@ -16,7 +16,7 @@ use Rattle.console_names.specs.declared.Row.{Row}
 use Rattle.console_names.specs.declared.Row.the-variants as row
 use Rattle.console_names.specs.Table.{names, rowAt}
 use Rattle.console_slot.specs.Lines.{SlotAfter, slotLine}
-use Rattle.console_line.specs.Lines.{Done, lineEnd, badLine, orBad, registerLine}
+use Rattle.console_line.specs.Lines.{Done, lineEnd, badLine, orBad, registerLine, checkLine}
 
 -- What a line says, and what it leaves.
 pub record After : Type 0 where
@@ -38,6 +38,7 @@ keepsRegistry m buffer t = record { page = t .page; memory = m; buffer = buffer;
 abbrev pub operateBy : Row → Page → List ℕ → List ℕ → Slot → List ℕ → ℕ → ℕ → After
 operateBy row.Slot p m buffer s line place from = keepsRegistry m buffer (slotEnded (slotLine p s line from))
 operateBy row.Register p m buffer s line place from = keepsSlot s (registerLine p m buffer line from)
+operateBy row.Check p m buffer s line place from = keepsSlot s (checkLine p m buffer line from)
 operateBy (row.Takes count kind) p m buffer s line place from = keepsSlot s (orBad p m buffer place count kind (numbersBehind line from))
 operateBy row.Unknown p m buffer s line place from = keepsSlot s (badLine p m buffer)
 

@@ -16,18 +16,21 @@ use Rattle.console_answer.specs.Pages.{Page, upTo, textRoom, putOn, numbersOn}
 use Rattle.console_answer.specs.Answers.{okWord, badWord, toldIn}
 use Rattle.console_names.specs.declared.Count.{Count}
 use Rattle.console_names.specs.declared.Values.{Values}
-use Rattle.console_names.specs.declared.Values.the-variants.{Numbers}
+use Rattle.console_names.specs.declared.Values.the-variants.{Numbers, YesOrNo}
 use Rattle.console_names.specs.declared.Held.{Held}
 use Rattle.console_names.specs.declared.Kind.{Kind}
-use Rattle.console_names.specs.declared.Kind.the-variants.{Show, Buffer, Lists, Registry, Text, Load}
-use Rattle.console_names.specs.Table.{Asked, Told, takes, first, second, askedAt}
+use Rattle.console_names.specs.declared.Kind.the-variants.{Show, Buffer, Lists, Registry, Text, Load, Plan}
+use Rattle.console_names.specs.Table.{Asked, Told, takes, first, second, rest, askedAt}
 use Rattle.console_definition.specs.Definitions.{definitionIn}
+pub use Rattle.console_show.specs.Spoken.{untold}
 use Rattle.console_show.specs.Spoken.{spokenOn}
 use Rattle.console_show.specs.Buffered.{between}
 use Rattle.console_show.specs.Shown.{shownOn}
 use Rattle.console_operations.specs.Asked.{whichOf}
 use Rattle.console_operations.specs.Carried.{statusBy, wordsBy, leftBy}
 use Rattle.console_register.specs.Registrations.{registration}
+use Rattle.console_order.specs.Checks.{setsIn, checking}
+use Rattle.console_order.specs.Plans.{plannedOn, lentIds}
 
 -- What a line says, and the registry's words and the buffer that it leaves.
 pub record Done : Type 0 where
@@ -45,10 +48,6 @@ lineEnd p = putOn p (10 ∷ [])
 
 abbrev pub bad : Page → Page
 bad p = lineEnd (putOn p badWord)
-
--- Words in which nothing has been told.
-abbrev pub untold : List ℕ
-untold = 0 ∷ 0 ∷ 0 ∷ 0 ∷ 0 ∷ 0 ∷ 0 ∷ []
 
 -- What is asked of the registry, said and done.
 abbrev pub askedLine : Page → List ℕ → Values → Asked → Page
@@ -72,8 +71,8 @@ textOn p m lent =
 abbrev pub lentBytes : ℕ → List ℕ
 lentBytes size = take size (replicate textRoom 0)
 
--- Numbers, as many as are due: show ID, buffer FROM TO, a list, what the registry is asked for, or write SIZE. Of load DOMAIN
--- LENGTH nothing is said before its text has come.
+-- Numbers, as many as are due: show ID, buffer FROM TO, a list, what the registry is asked for, write SIZE, or plan SIZE ID.. Of load
+-- DOMAIN LENGTH nothing is said before its text has come.
 abbrev pub numbersLine : Page → List ℕ → List ℕ → ℕ → Kind → List ℕ → Done
 numbersLine p m buffer place Show l = record { page = lineEnd (shownOn p m (first l)); memory = m; buffer = buffer }
 numbersLine p m buffer place Buffer l = record
@@ -82,6 +81,7 @@ numbersLine p m buffer place (Lists held) l = listed p m buffer held l
 numbersLine p m buffer place (Registry v) l = record { page = askedLine p m v (askedAt place l); memory = leftBy m (askedAt place l); buffer = buffer }
 numbersLine p m buffer place Text l = record { page = textOn p m (lentBytes (first l)); memory = m; buffer = buffer }
 numbersLine p m buffer place Load l = record { page = p; memory = m; buffer = buffer }
+numbersLine p m buffer place Plan l = record { page = lineEnd (plannedOn p m (rest l) (lentIds (first l))); memory = m; buffer = buffer }
 
 abbrev pub badLine : Page → List ℕ → List ℕ → Done
 badLine p m buffer = record { page = bad p; memory = m; buffer = buffer }
@@ -96,3 +96,7 @@ abbrev pub registerLine : Page → List ℕ → List ℕ → List ℕ → ℕ �
 registerLine p m buffer line from =
     let a = registration (definitionIn line from) in
     record { page = askedLine p m Numbers a; memory = leftBy m a; buffer = buffer }
+
+-- check
+abbrev pub checkLine : Page → List ℕ → List ℕ → List ℕ → ℕ → Done
+checkLine p m buffer line from = record { page = askedLine p m YesOrNo (checking (setsIn line from)); memory = m; buffer = buffer }

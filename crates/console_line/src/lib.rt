@@ -4,11 +4,13 @@ ghost use Rattle.slot_child.specs.Slots.{slotOf};
 ghost use Rattle.console_answer.specs.Pages.{upTo};
 ghost use Rattle.console_answer.specs.Answers.{toldIn};
 ghost use Rattle.console_names.specs.Behind.{numbersBehind};
-ghost use Rattle.console_names.specs.Table.{askedAt};
-ghost use Rattle.console_names.specs.declared.Values.the-variants.{Numbers};
+ghost use Rattle.console_names.specs.Table.{rest, askedAt};
+ghost use Rattle.console_names.specs.declared.Values.the-variants.{Numbers, YesOrNo};
 ghost use Rattle.console_definition.specs.Definitions.{definitionIn};
 ghost use Rattle.console_operations.specs.Carried.{leftBy};
 ghost use Rattle.console_register.specs.Registrations.{registration};
+ghost use Rattle.console_order.specs.Checks.{setsIn, checking};
+ghost use Rattle.console_order.specs.Plans.{plannedOn, lentIds};
 ghost use Rattle.console_show.specs.Spoken.{spokenOn};
 ghost use Rattle.console_slot.specs.Lines.{LeavesSlot, slotLine};
 ghost use Rattle.console_line.specs.Lines.{Does, lineEnd, bad, textOn, lentBytes, listed, askedLine, numbersLine, orBad};
@@ -107,6 +109,14 @@ fn text_line(m: &[u64; WORDS], size: u64, text: &mut [u8; ROOM]) -> usize
     text_in(m, &mut room[..most], text)
 }
 
+// A start order of the ids behind the size.
+fn plan_line(m: &[u64; WORDS], size: u64, l: &[u64], text: &mut [u8; ROOM]) -> usize
+    ensures { λ r. ⌜ upTo (now (text .exit)) r
+        ≡ lineEnd (plannedOn (upTo (now (text .entry)) 0) (now (m .entry)) (rest (now (l .entry))) (lentIds size)) ⌝ }
+{
+    end(console_order::planned(m, size, console_names::rest(l), text), text)
+}
+
 // Numbers, as many as are due. Of a load nothing is said before its text has come.
 fn numbers_line(
     m: &mut [u64; WORDS],
@@ -128,6 +138,7 @@ fn numbers_line(
         Kind::Registry(values) => asked_line(m, place, values, l, text),
         Kind::Text => text_line(m, a, text),
         Kind::Load => 0,
+        Kind::Plan => plan_line(m, a, l, text),
     }
 }
 
@@ -167,6 +178,15 @@ fn register_line(m: &mut [u64; WORDS], bytes: &[u8], from: usize, text: &mut [u8
     said(text, Values::Numbers, status, &out)
 }
 
+fn check_line(m: &[u64; WORDS], bytes: &[u8], from: usize, text: &mut [u8; ROOM]) -> usize
+    ensures { λ r. ⌜ upTo (now (text .exit)) r
+        ≡ askedLine (upTo (now (text .entry)) 0) (now (m .entry)) YesOrNo (checking (setsIn (now (bytes .entry)) from)) ⌝ }
+{
+    let mut out = [0u64; ANSWER];
+    let status = console_order::checked(m, bytes, from, &mut out);
+    said(text, Values::YesOrNo, status, &out)
+}
+
 fn slot_line(slot: Slot, bytes: &[u8], from: usize, text: &mut [u8; ROOM]) -> Said
     ensures { λ r. ⌜ LeavesSlot (slotEnded (slotLine (upTo (now (text .entry)) 0) (slotOf slot) (now (bytes .entry)) from))
         (now (text .exit)) (r .stop) (slotOf (r .slot)) ⌝ }
@@ -198,6 +218,10 @@ fn operate(
         Row::Slot => slot_line(slot, bytes, from, text),
         Row::Register => Said {
             stop: register_line(m, bytes, from, text),
+            slot,
+        },
+        Row::Check => Said {
+            stop: check_line(m, bytes, from, text),
             slot,
         },
         Row::Takes(count, kind) => Said {

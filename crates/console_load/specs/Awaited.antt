@@ -33,10 +33,12 @@ awaitedFrom (kind.Lists held) count line from = Nothing
 awaitedFrom (kind.Registry v) count line from = Nothing
 awaitedFrom kind.Text count line from = Nothing
 awaitedFrom kind.Load count line from = asMany count (numbersBehind line from)
+awaitedFrom kind.Plan count line from = Nothing
 
 abbrev pub awaitedBy : Row → List ℕ → ℕ → Awaited
 awaitedBy row.Slot line from = Nothing
 awaitedBy row.Register line from = Nothing
+awaitedBy row.Check line from = Nothing
 awaitedBy (row.Takes count kind) line from = awaitedFrom kind count line from
 awaitedBy row.Unknown line from = Nothing
 

@@ -56,11 +56,13 @@ module _ (p : Page) (m buffer : List ℕ) (s : Slot) (domain size : ℕ) where
   by-kind line place from count (kind.Registry v) h = cc
   by-kind line place from count kind.Text h = cc
   by-kind line place from count kind.Load h = by-numbers place count (numbersBehind line from) h
+  by-kind line place from count kind.Plan h = cc
 
   by-row : (line : List ℕ) (place from : ℕ) (r : Row) → awaitedBy r line from ≡ Text domain size
       → operateBy r p m buffer s line place from ≡ unchanged p m buffer s
   by-row line place from row.Slot h = cc
   by-row line place from row.Register h = cc
+  by-row line place from row.Check h = cc
   by-row line place from (row.Takes count k) h = by-kind line place from count k h
   by-row line place from row.Unknown h = cc
 

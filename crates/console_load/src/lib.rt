@@ -48,6 +48,7 @@ fn kind_awaits(kind: Kind, count: Count, bytes: &[u8], from: usize) -> Awaited
         Kind::Registry(_) => Awaited::Nothing,
         Kind::Text => Awaited::Nothing,
         Kind::Load => numbers_await(count, bytes, from),
+        Kind::Plan => Awaited::Nothing,
     }
 }
 
@@ -58,6 +59,7 @@ fn row_awaits(place: usize, bytes: &[u8], from: usize) -> Awaited
     match row {
         Row::Slot => Awaited::Nothing,
         Row::Register => Awaited::Nothing,
+        Row::Check => Awaited::Nothing,
         Row::Takes(count, kind) => kind_awaits(kind, count, bytes, from),
         Row::Unknown => Awaited::Nothing,
     }

@@ -3,5 +3,6 @@ pub mod Values
 pub mod Told
 pub mod Said
 pub mod Written
+pub mod Planned
 pub mod Bytes
 pub mod Loads

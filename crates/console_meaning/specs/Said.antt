@@ -1,32 +1,35 @@
 -- What a line of the console says is what the rules answer.
 use Prim.Native.Nat.{ℕ, zero, suc}
 use mathlib.Core.Path.{_≡_, refl, subst}
+use mathlib.Core.Bool.{Bool, true, false}
 use mathlib.Core.List.{List, [], _∷_}
 use mathlib.Core.Option.{Option, none, some}
 use lib.ListN.{getD}
 use Rattle.rules.specs.Registration.{Definition}
 use Rattle.rules.specs.Queries.{RowsInUse, Registered, NextId}
-use Rattle.rules.specs.Steps.{Write}
-use Rattle.rules.specs.Questions.{Listed}
+use Rattle.rules.specs.Basics.{pick}
+use Rattle.rules.specs.Steps.{Ask, Write}
+use Rattle.rules.specs.Questions.{CheckOrder, Listed}
 use Rattle.host.specs.Tells.{answer}
 use Rattle.console_answer.specs.Pages.{Page, putOn, numbersOn}
 use Rattle.console_answer.specs.Answers.{okWord}
 use Rattle.console_names.specs.declared.Count.{Count}
 use Rattle.console_names.specs.declared.Values.{Values}
-use Rattle.console_names.specs.declared.Values.the-variants.{None, Numbers}
+use Rattle.console_names.specs.declared.Values.the-variants.{None, Numbers, NumbersOrNone, YesOrNo}
 use Rattle.console_names.specs.declared.Held.{Held}
-use Rattle.console_names.specs.declared.Kind.the-variants.{Show, Buffer, Lists, Registry, Text, Load}
+use Rattle.console_names.specs.declared.Kind.the-variants.{Show, Buffer, Lists, Registry, Text, Load, Plan}
 use Rattle.console_names.specs.declared.Row.{Row}
-use Rattle.console_names.specs.declared.Row.the-variants.{Slot, Register, Takes, Unknown}
+use Rattle.console_names.specs.declared.Row.the-variants.{Slot, Register, Check, Takes, Unknown}
 use Rattle.console_names.specs.Table.{Asked, Bad, Open, Stated, Told, Operation, first, second, operations, unknown, operationAt, rowAt, askedAt}
 use Rattle.console_definition.specs.Definitions.{definitionIn}
 use Rattle.console_show.specs.Spoken.{lineOn, spokenOn}
 use Rattle.console_operations.specs.Asked.{whichOf}
 use Rattle.console_register.specs.Registrations.{registration}
-use Rattle.console_line.specs.Lines.{lineEnd, bad, listed, askedLine, numbersLine, registerLine}
+use Rattle.console_order.specs.Checks.{TwoLists, setsIn, checking}
+use Rattle.console_line.specs.Lines.{lineEnd, bad, listed, askedLine, numbersLine, registerLine, checkLine}
 use Rattle.console_meaning.specs.Values.{Brief, register-brief, begin-brief, replace-brief, fits-brief, admit-brief, call-brief, child-brief, read-brief}
 use Rattle.console_meaning.specs.Values.{visible-brief, missing-brief, matches-brief, declares-brief, lookup-brief, resolve-brief, total-brief}
-use Rattle.console_meaning.specs.Values.{edition-brief, listed-brief}
+use Rattle.console_meaning.specs.Values.{edition-brief, listed-brief, check-brief}
 use Rattle.console_meaning.specs.Values.{Silent, ready-silent, fail-silent, unload-silent, finish-silent}
 use Rattle.console_meaning.specs.Values.{retire-silent, retire-child-silent, remove-silent, offer-silent}
 use Rattle.console_meaning.specs.Told.{said, silent}
@@ -65,12 +68,14 @@ plainly p m v (Told o) h = said p m v o h
 abbrev pub valuesBy : Row → Values
 valuesBy Slot = None
 valuesBy Register = Numbers
+valuesBy Check = YesOrNo
 valuesBy (Takes count Show) = Numbers
 valuesBy (Takes count Buffer) = Numbers
 valuesBy (Takes count (Lists held)) = Numbers
 valuesBy (Takes count (Registry v)) = v
 valuesBy (Takes count Text) = Numbers
 valuesBy (Takes count Load) = None
+valuesBy (Takes count Plan) = NumbersOrNone
 valuesBy Unknown = None
 
 -- What is to be shown of a row, beside that of the others: nothing where nothing is asked for.
@@ -140,6 +145,14 @@ pub plain-registration : (v : Values) (d : Option Definition) → Plain v (regis
 plain-registration v none = tt
 plain-registration v (some d) = register-brief d
 
+-- .. and a check.
+pub plain-check : (v : Values) (l : TwoLists) → Plain v (checking l)
+plain-check v l = go (l .found)
+  where
+    go : (b : Bool) → Plain v (pick b (Told (Ask (CheckOrder (l .set) (l .order)))) Bad)
+    go true = check-brief (l .set) (l .order)
+    go false = tt
+
 module _ (p : Page) (m : List ℕ) where
   -- A line of numbers says the rules' answer, with the row's values;
   pub numbers-said : (buffer : List ℕ) (place : ℕ) (count : Count) (v : Values) (l : List ℕ) → rowAt place ≡ Takes count (Registry v)
@@ -149,6 +162,10 @@ module _ (p : Page) (m : List ℕ) where
   -- so does a registration's line,
   pub register-said : (buffer line : List ℕ) (from : ℕ) → registerLine p m buffer line from .page ≡ saidOf p m Numbers (registration (definitionIn line from))
   register-said buffer line from = plainly p m Numbers (registration (definitionIn line from)) (plain-registration Numbers (definitionIn line from))
+
+  -- a check's line,
+  pub check-said : (buffer line : List ℕ) (from : ℕ) → checkLine p m buffer line from .page ≡ saidOf p m YesOrNo (checking (setsIn line from))
+  check-said buffer line from = plainly p m YesOrNo (checking (setsIn line from)) (plain-check YesOrNo (setsIn line from))
 
   -- and the line of a listing.
   pub listed-said : (buffer : List ℕ) (held : Held) (l : List ℕ)

@@ -21,9 +21,10 @@ use Rattle.rules.specs.Retirement.{Identity, retireFound, retire, retireChild, 
 use Rattle.rules.specs.Values.{valueIn, given, served, seen, firstMissing, offer, read, visible, missing, matching, declares}
 use Rattle.rules.specs.Lists.{Which, listing, list}
 use Rattle.rules.specs.Queries.{Total, EditionOf, askPlugin}
+use Rattle.rules.specs.Orders.{checkOrder}
 use Rattle.rules.specs.Steps.{Op, answerTo, Register, Begin, Ready, Fail, Unload, Finish, Replace, Admit, Call, Retire, RetireChild, Remove, Offer, Ask, Write}
 use Rattle.rules.specs.Questions.{ResolveKey, DependencyPort, Fits, ChildIdentity, Read, Visible, FirstMissing, Matching, Declares}
-use Rattle.rules.specs.Questions.{AskPlugin, AskRegistry, Listed}
+use Rattle.rules.specs.Questions.{AskPlugin, AskRegistry, CheckOrder, Listed}
 use Rattle.rules_laws.specs.Laws.Tests.{checked-elim, found-elim}
 use Rattle.console_show.specs.Shown.{valuesOf}
 use Rattle.console_show.specs.Told.{one-fits}
@@ -163,6 +164,10 @@ edition-brief id r = few-known r id _ λ p. omega arith
 
 pub total-brief : (t : Total) → Brief (Ask (AskRegistry t))
 total-brief t r = omega arith
+
+pub check-brief : (set order : List ℕ) → Brief (Ask (CheckOrder set order))
+unfolding checkOrder
+check-brief set order r = few-checked _ _ (omega arith)
 
 pub listed-brief : (w : Which) (id place : ℕ) (buffer : List ℕ) → Brief (Write (Listed w id place) buffer)
 unfolding list listing

@@ -9,9 +9,9 @@ use Rattle.console_names.specs.declared.Count.the-variants.{Exactly, AtL
 use Rattle.console_names.specs.declared.Values.the-variants.{None, Numbers, NumbersOrNone, YesOrNo}
 use Rattle.console_names.specs.declared.Held.the-variants.{Deps, Provs, Realms}
 use Rattle.console_names.specs.declared.Kind.{Kind}
-use Rattle.console_names.specs.declared.Kind.the-variants.{Show, Buffer, Lists, Registry, Text, Load}
+use Rattle.console_names.specs.declared.Kind.the-variants.{Show, Buffer, Lists, Registry, Text, Load, Plan}
 use Rattle.console_names.specs.declared.Row.{Row}
-use Rattle.console_names.specs.declared.Row.the-variants.{Slot, Register, Takes, Unknown}
+use Rattle.console_names.specs.declared.Row.the-variants.{Slot, Register, Check, Takes, Unknown}
 use Rattle.console_names.specs.Table.{Operation, operations, unknown, operationAt, rowAt}
 use Rattle.console_names.specs.Rows.{kindOf, rowOf}
 
@@ -45,10 +45,12 @@ codedKind (Registry NumbersOrNone) = 7
 codedKind (Registry YesOrNo) = 8
 codedKind Text = 9
 codedKind Load = 10
+codedKind Plan = 11
 
 abbrev coded : Row → List ℕ
-coded Slot = 0 ∷ 0 ∷ 11 ∷ []
-coded Register = 0 ∷ 0 ∷ 12 ∷ []
+coded Slot = 0 ∷ 0 ∷ 12 ∷ []
+coded Register = 0 ∷ 0 ∷ 13 ∷ []
+coded Check = 0 ∷ 0 ∷ 14 ∷ []
 coded (Takes (Exactly due) k) = due ∷ 0 ∷ codedKind k ∷ []
 coded (Takes (AtLeast due) k) = due ∷ 1 ∷ codedKind k ∷ []
 coded Unknown = []

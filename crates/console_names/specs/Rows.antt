@@ -8,9 +8,9 @@ use Rattle.console_names.specs.declared.Count.the-variants.{Exactly, AtL
 use Rattle.console_names.specs.declared.Values.the-variants.{None, Numbers, NumbersOrNone, YesOrNo}
 use Rattle.console_names.specs.declared.Held.the-variants.{Deps, Provs, Realms}
 use Rattle.console_names.specs.declared.Kind.{Kind}
-use Rattle.console_names.specs.declared.Kind.the-variants.{Show, Buffer, Lists, Registry, Text, Load}
+use Rattle.console_names.specs.declared.Kind.the-variants.{Show, Buffer, Lists, Registry, Text, Load, Plan}
 use Rattle.console_names.specs.declared.Row.{Row}
-use Rattle.console_names.specs.declared.Row.the-variants.{Slot, Register, Takes}
+use Rattle.console_names.specs.declared.Row.the-variants.{Slot, Register, Check, Takes}
 
 abbrev pub kinds : List Kind
 kinds =
@@ -25,6 +25,7 @@ kinds =
     ∷ Registry YesOrNo
     ∷ Text
     ∷ Load
+    ∷ Plan
     ∷ []
 
 -- What is done with the numbers: the kind at a place among all.
@@ -34,6 +35,7 @@ kindOf kind = getD kinds kind Show
 -- The row of three numbers: how many are due, 1 if more may stand there, and what is done with them.
 unfoldable pub rowOf : ℕ → ℕ → ℕ → Row
 rowOf due more kind =
-    pick (eqb kind 11) Slot
-    (pick (eqb kind 12) Register
-    (pick (eqb more 1) (Takes (AtLeast due) (kindOf kind)) (Takes (Exactly due) (kindOf kind))))
+    pick (eqb kind 12) Slot
+    (pick (eqb kind 13) Register
+    (pick (eqb kind 14) Check
+    (pick (eqb more 1) (Takes (AtLeast due) (kindOf kind)) (Takes (Exactly due) (kindOf kind)))))

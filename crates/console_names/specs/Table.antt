@@ -19,9 +19,9 @@ use Rattle.console_names.specs.declared.Count.the-variants.{Exactly, AtL
 use Rattle.console_names.specs.declared.Values.{Values}
 use Rattle.console_names.specs.declared.Values.the-variants.{None, Numbers, NumbersOrNone, YesOrNo}
 use Rattle.console_names.specs.declared.Held.the-variants.{Deps, Provs, Realms}
-use Rattle.console_names.specs.declared.Kind.the-variants.{Show, Buffer, Lists, Registry, Text, Load}
+use Rattle.console_names.specs.declared.Kind.the-variants.{Show, Buffer, Lists, Registry, Text, Load, Plan}
 use Rattle.console_names.specs.declared.Row.{Row}
-use Rattle.console_names.specs.declared.Row.the-variants.{Slot, Register, Takes, Unknown}
+use Rattle.console_names.specs.declared.Row.the-variants.{Slot, Register, Check, Takes, Unknown}
 use Rattle.console_names.specs.Names.{placeAmong}
 
 -- What the registry is asked for: nothing that there is; a fresh registry; an operation whose status says all, or one that tells
@@ -125,6 +125,8 @@ operations =
     ∷ other "write" (Takes (Exactly 1) Text)
     ∷ other "load" (Takes (Exactly 2) Load)
     ∷ ask "edition" 1 Numbers (λ l. AskPlugin EditionOf (first l))
+    ∷ other "plan" (Takes (AtLeast 1) Plan)
+    ∷ other "check" Check
     ∷ []
 
 -- What no name is.

@@ -29,7 +29,7 @@ pub enum Held {
 }
 
 // What is done with the numbers: a plugin or the buffer is shown, a list goes to the buffer, the registry is asked, its text is
-// written, or a text is awaited that it is loaded from.
+// written, a text is awaited that it is loaded from, or a start order is planned.
 pub enum Kind {
     Show,
     Buffer,
@@ -37,12 +37,14 @@ pub enum Kind {
     Registry(Values),
     Text,
     Load,
+    Plan,
 }
 
 // What stands behind an operation's name: words of its own, or numbers.
 pub enum Row {
     Slot,
     Register,
+    Check,
     Takes(Count, Kind),
     Unknown,
 }
@@ -101,10 +103,10 @@ pub const NEXT: usize = 29;
 pub const EDITION: usize = 34;
 
 // How many operations there are.
-const OPERATIONS: usize = 35;
+const OPERATIONS: usize = 37;
 
 // What is done with the numbers, as the table says it; each has its place among these.
-const KINDS: [Kind; 11] = [
+const KINDS: [Kind; 12] = [
     Kind::Show,
     Kind::Buffer,
     Kind::Lists(Held::Deps),
@@ -116,6 +118,7 @@ const KINDS: [Kind; 11] = [
     Kind::Registry(Values::YesOrNo),
     Kind::Text,
     Kind::Load,
+    Kind::Plan,
 ];
 
 const SHOW: usize = 0;
@@ -140,10 +143,14 @@ const TEXT: usize = 9;
 
 const LOAD: usize = 10;
 
-// Words of its own stand behind the name.
-const SLOT: usize = 11;
+const PLAN: usize = 11;
 
-const REGISTER: usize = 12;
+// Words of its own stand behind the name.
+const SLOT: usize = 12;
+
+const REGISTER: usize = 13;
+
+const CHECK: usize = 14;
 
 // No more numbers than are due, or as many more as wished.
 const ONLY: usize = 0;
@@ -188,6 +195,8 @@ const TABLE: [[usize; 3]; OPERATIONS] = [
     [1, ONLY, TEXT], // write
     [2, ONLY, LOAD], // load
     [1, ONLY, NUMBERS], // edition
+    [1, MORE, PLAN], // plan
+    [0, ONLY, CHECK], // check
 ];
 
 // How many numbers stand behind a name, and whether nothing else does.
@@ -231,14 +240,15 @@ pub fn operation(name: &[u8]) -> usize
     which(
         name,
         b"open register begin ready fail unload finish replace fits admit call retire retire_child remove child offer read visible \
-          missing matches declares lookup resolve deps provs realms buffer rows count next show slot write load edition",
+          missing matches declares lookup resolve deps provs realms buffer rows count next show slot write load edition \
+          plan check",
     )
 }
 
 fn kind_of(kind: usize) -> Kind
     ensures { λ r. ⌜ r ≡ kindOf kind ⌝ }
 {
-    if kind < 11 {
+    if kind < 12 {
         return KINDS[kind];
     }
     Kind::Show
@@ -252,6 +262,9 @@ fn row_of(due: usize, more: usize, kind: usize) -> Row
     }
     if kind == REGISTER {
         return Row::Register;
+    }
+    if kind == CHECK {
+        return Row::Check;
     }
     let done = kind_of(kind);
     if more == MORE {

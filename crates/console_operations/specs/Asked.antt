@@ -7,7 +7,7 @@ use Rattle.console_names.specs.declared.Count.the-variants.{Exactly, AtLeast}
 use Rattle.console_names.specs.declared.Held.{Held}
 use Rattle.console_names.specs.declared.Held.the-variants.{Deps, Provs, Realms}
 use Rattle.console_names.specs.declared.Row.{Row}
-use Rattle.console_names.specs.declared.Row.the-variants.{Slot, Register, Takes, Unknown}
+use Rattle.console_names.specs.declared.Row.the-variants.{Slot, Register, Check, Takes, Unknown}
 use Rattle.console_names.specs.Table.{Asked, Bad, Operation, operationAt}
 
 abbrev pub three : ℕ → ℕ → ℕ → List ℕ
@@ -20,6 +20,7 @@ five a b c d e = a ∷ b ∷ c ∷ d ∷ e ∷ []
 abbrev pub exactly : Row → Asked → Asked
 exactly Slot a = Bad
 exactly Register a = Bad
+exactly Check a = Bad
 exactly (Takes (Exactly n) k) a = a
 exactly (Takes (AtLeast n) k) a = Bad
 exactly Unknown a = Bad

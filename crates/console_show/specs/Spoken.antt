@@ -1,6 +1,6 @@
 -- The line of what an operation answered.
 use Prim.Native.Nat.{ℕ}
-use mathlib.Core.List.{List}
+use mathlib.Core.List.{List, [], _∷_}
 use lib.Dec.{eqb}
 use Rattle.rules.specs.Basics.{pick, last}
 use Rattle.rules.specs.Outcomes.{Answer}
@@ -22,3 +22,7 @@ lineOn p YesOrNo a = answerYesNoOn p a
 
 unfoldable pub spokenOn : Page → Values → ℕ → List ℕ → Page
 spokenOn p v status l = pick (eqb status bad) (putOn p badWord) (lineOn p v (answerIn status l))
+
+-- Words in which nothing has been told.
+abbrev pub untold : List ℕ
+untold = 0 ∷ 0 ∷ 0 ∷ 0 ∷ 0 ∷ 0 ∷ 0 ∷ []

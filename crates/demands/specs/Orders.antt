@@ -7,12 +7,16 @@ use mathlib.Core.Logic.{_≢_}
 use Rattle.rules_types.specs.declared.Port.{Port}
 use Rattle.rules.specs.Holds.{lookup}
 use Rattle.rules.specs.Refusals.{number, Unavailable}
-use Rattle.rules.specs.Outcomes.{Refused}
-use Rattle.rules.specs.Steps.{Op, Begin, Run, answerTo}
+use Rattle.rules.specs.Outcomes.{Refused, Accepted}
+use Rattle.rules.specs.Steps.{Op, Begin, Ask, Run, answerTo}
+use Rattle.rules.specs.Questions.{CheckOrder}
 use Rattle.rules.specs.Orders.{named, passes, setChecks}
 use Rattle.rules_laws.specs.Laws.Tests.{Passed}
-use Rattle.rules_orders.specs.Started.{active, isUp, up-is-active, never-14}
-use Rattle.rules_orders.specs.Startup.{startAll, smooth, starts}
+use Rattle.rules_orders.specs.Checked.{yes-passes}
+use Rattle.rules_orders.specs.Histories.{active, isUp}
+use Rattle.rules_orders.specs.Started.{up-is-active, never-14}
+use Rattle.rules_orders.specs.OneStart.{smooth}
+use Rattle.rules_orders.specs.Startup.{startAll, starts}
 use Rattle.memory.specs.View.{view}
 use Rattle.demands.specs.Demand2.{Made, made-sound}
 use Rattle.demands.specs.Demand3.{night, same-run}
@@ -45,3 +49,16 @@ module _ (m : List ℕ) (w : Made m) where
       let s = made-sound m w in
       subst⁻¹ (λ (n : Run). (smooth (n .events) ≡ true) × ((x : ℕ) → named x set ≡ true → isUp (view m) x (n .events) ≡ true))
       (same-run m s (startAll (view m) a v order)) (starts (view m) (s .built) set order c h a v)
+
+  -- Both from the engine's own answer: where its checker answered yes, the set passes its checks and the order passes.
+  module _ (set order : List ℕ) (c : answerTo (view m) (Ask (CheckOrder set order)) ≡ Accepted (1 ∷ [])) where
+    pub checked-never-14 : (ops : List Op) (before : List ℕ) (x : ℕ) (rest : List ℕ) → order ≡ before ++ x ∷ rest
+        → ((y : ℕ) → isUp (view m) y [] ≡ true → isUp (view m) y (night m ops .events) ≡ true)
+        → ((y : ℕ) → named y before ≡ true → isUp (view m) y (night m ops .events) ≡ true)
+        → answerTo (view (night m ops .words)) (Begin x) ≢ Refused (number Unavailable) []
+    checked-never-14 = never-14-words set order (yes-passes (view m) set order c .1)
+
+    pub checked-starts : (a : ℕ) (v : Port → ℕ)
+        → (smooth (night m (startAll (view m) a v order) .events) ≡ true)
+        × ((x : ℕ) → named x set ≡ true → isUp (view m) x (night m (startAll (view m) a v order) .events) ≡ true)
+    checked-starts = let y = yes-passes (view m) set order c in starts-words set order (y .0) (y .1)

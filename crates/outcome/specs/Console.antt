@@ -9,10 +9,11 @@ use Rattle.console_slot.proofs as console_slot
 use Rattle.console_show.proofs as console_show
 use Rattle.console_operations.proofs as console_operations
 use Rattle.console_register.proofs as console_register
+use Rattle.console_order.proofs as console_order
 use Rattle.console_line.proofs as console_line
 use Rattle.outcome.specs.One.{One, OneSeen}
 use Rattle.outcome.specs.Equations.{by-equation, by-two, by-three, one-outcome}
-use Rattle.outcome.specs.Records.{gathered-one, leaves-one, numbered-one, page-one, spanned-one, three-one, leaves-slot-one}
+use Rattle.outcome.specs.Records.{behind-one, gathered-one, leaves-one, numbered-one, page-one, spanned-one, three-one, leaves-slot-one}
 
 pub console-words-next-word : One console_words.«next_word».ended console_words.«next_word».Reads.Learnt
 console-words-next-word κs a r s ms ns p q = spanned-one p q
@@ -83,6 +84,12 @@ console-definition-read-parent κs a r s ms ns p q = by-equation p q
 pub console-definition-read-head : One console_definition.«read_head».ended console_definition.«read_head».Reads.Learnt
 console-definition-read-head κs a r s ms ns p q = by-equation p q
 
+pub console-definition-all : One console_definition.all.ended console_definition.all.Reads.Learnt
+console-definition-all κs a r s ms ns p q = by-equation p q
+
+pub console-definition-list-behind : One console_definition.«list_behind».ended console_definition.«list_behind».Reads.Learnt
+console-definition-list-behind κs a r s ms ns p q = behind-one p q
+
 pub console-definition-three-lists : One console_definition.«three_lists».ended console_definition.«three_lists».Reads.Learnt
 console-definition-three-lists κs a r s ms ns p q = three-one p q
 
@@ -109,6 +116,12 @@ console-operations-listed κs a r s ms ns p q = by-three p q
 
 pub console-register-registered : One console_register.registered.ended console_register.registered.Reads.Learnt
 console-register-registered κs a r s ms ns p q = by-three p q
+
+pub console-order-checked : One console_order.checked.ended console_order.checked.Reads.Learnt
+console-order-checked κs a r s ms ns p q = by-two p q
+
+pub console-order-planned : One console_order.planned.ended console_order.planned.Reads.Learnt
+console-order-planned κs a r s ms ns p q = page-one p q
 
 pub console-line-answered : One console_line.answered.ended console_line.answered.Reads.Learnt
 console-line-answered κs a r s ms ns p q = leaves-one p q

@@ -204,3 +204,9 @@ host-vaskelbi-matches κs a r s ms ns p q = by-two p q
 
 pub host-vaskelbi-declares : One host.«vaskelbi_declares».ended host.«vaskelbi_declares».Reads.Learnt
 host-vaskelbi-declares κs a r s ms ns p q = by-two p q
+
+pub host-vaskelbi-plan-order : One host.«vaskelbi_plan_order».ended host.«vaskelbi_plan_order».Reads.Learnt
+host-vaskelbi-plan-order κs a r s ms ns p q = by-three p q
+
+pub host-vaskelbi-check-order : One host.«vaskelbi_check_order».ended host.«vaskelbi_check_order».Reads.Learnt
+host-vaskelbi-check-order κs a r s ms ns p q = by-two p q

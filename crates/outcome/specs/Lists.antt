@@ -76,6 +76,9 @@ ports-realms-resolve κs a r s ms ns p q = by-equation p q
 pub ports-realms-resolve-key : One ports_realms.«resolve_key».ended ports_realms.«resolve_key».Reads.Learnt
 ports-realms-resolve-key κs a r s ms ns p q = one-outcome resolved-exact p q
 
+pub ports-has-number : One ports.«has_number».ended ports.«has_number».Reads.Learnt
+ports-has-number κs a r s ms ns p q = by-equation p q
+
 pub ports-has-port : One ports.«has_port».ended ports.«has_port».Reads.Learnt
 ports-has-port κs a r s ms ns p q = by-equation p q
 

@@ -13,8 +13,10 @@ use Rattle.console_words.specs.declared.Span.{Span}
 use Rattle.console_words.specs.declared.Run.{Run}
 use Rattle.console_names.specs.Behind.{Numbered}
 use Rattle.console_names.specs.declared.Behind.{Behind}
-use Rattle.console_definition.specs.Definitions.{ThreeLists}
+use Rattle.console_definition.specs.Definitions.{Listed, ThreeLists}
+use Rattle.console_definition.specs.Found as definition
 use Rattle.console_definition.specs.Found.{Three}
+use Rattle.console_definition.specs.declared.Counted.{Counted}
 use Rattle.console_definition.specs.declared.Lists.{Lists}
 use Rattle.console_answer.specs.Pages.{Page, upTo}
 use Rattle.console_slot.specs.Lines.{SlotAfter, LeavesSlot}
@@ -53,6 +55,10 @@ numbered-one p q =
     let b = by-equation (p .only) (q .only) in
     let f = front-one (p .numbers) (q .numbers) in
     (λ i. record { only = b i; count = f .0 i }, f .1)
+
+-- A list behind its word.
+pub behind-one : {l : Listed} {a x u : List ℕ} {r s : Counted} → definition.Behind l a x r → definition.Behind l a u s → (r ≡ s) × (x ≡ u)
+behind-one p q = (by-equation (p .list) (q .list), by-equation (p .numbers) (q .numbers))
 
 -- Three such lists, and whether all are found.
 pub three-one : {l : ThreeLists} {a x u b y v c z w : List ℕ} {r s : Lists}

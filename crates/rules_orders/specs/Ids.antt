@@ -2,16 +2,17 @@
 use Prim.Native.Nat.{ℕ, suc, _≤_, _<_}
 use native.Mathlib.Omega.{arith}
 use mathlib.Core.Path.{_≡_, refl, sym, ap, _∙_}
-use mathlib.Core.Bool.{Bool, true, false, not, _&&_, true≢false}
+use mathlib.Core.Bool.{Bool, true, false, true≢false, or-true}
 use mathlib.Core.List.{List, [], _∷_, _++_}
 use mathlib.Core.Logic.{_⊎_, inl, inr, ⊎-elim}
 use mathlib.Core.Option.{Option, none, some}
 use lib.Dec.{eqb, ltb}
 use lib.ListN.{length}
-use borrow.Author.Tests.{eqb-true, eq-eqb, ne-eqb, ltb-true, ltb-false, not-true}
+use borrow.Author.Tests.{eqb-true, eq-eqb, ne-eqb, ltb-true, ltb-false}
 use Rattle.rules.specs.Basics.{pick, all, twice}
 use Rattle.rules.specs.Queries.{lower}
 use Rattle.rules_laws.specs.Laws.Tests.{by-test, both, neither}
+use Rattle.rules_laws.specs.Laws.Members.{any-append}
 use Rattle.rules.specs.Orders.{named, lowest}
 
 -- each id of the first list is in the second
@@ -30,18 +31,13 @@ pub named-cases : (y x : ℕ) (l : List ℕ) → named y (x ∷ l) ≡ true → 
 named-cases y x l h = by-test (eqb y x) (λ t. inl (eqb-true y x t)) (λ f. inr (rw f at h))
 
 pub named-left : (y : ℕ) (l k : List ℕ) → named y l ≡ true → named y (l ++ k) ≡ true
-named-left y [] k h = absurd (true≢false (sym h))
-named-left y (x ∷ l) k h = let r = named-left y l k in by-test (eqb y x) (λ t. rw t) (λ f. rw f (r (rw f at h)))
+named-left y l k h = rw (any-append (eqb y) l k, h)
 
 pub named-right : (y : ℕ) (l k : List ℕ) → named y k ≡ true → named y (l ++ k) ≡ true
-named-right y [] k h = h
-named-right y (x ∷ l) k h = named-tail y x (l ++ k) (named-right y l k h)
+named-right y l k h = rw (any-append (eqb y) l k, h, or-true)
 
 pub named-either : (y : ℕ) (l k : List ℕ) → named y (l ++ k) ≡ true → (named y l ≡ true) ⊎ (named y k ≡ true)
-named-either y [] k h = inr h
-named-either y (x ∷ l) k h =
-    let r = named-either y l k in
-    by-test (eqb y x) (λ t. inl (rw t)) (λ f. rw f (r (rw f at h)))
+named-either y l k h = by-test (named y l) inl (λ f. inr (rw (any-append (eqb y) l k, f) at h))
 
 pub within-more : (l k : List ℕ) (x : ℕ) → Within l k → named x k ≡ true → Within (l ++ x ∷ []) k
 within-more l k x w h y m = go (named-either y l (x ∷ []) m)

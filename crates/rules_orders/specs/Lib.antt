@@ -2,5 +2,9 @@ pub mod Ids
 pub mod Follows
 pub mod Planned
 pub mod Sets
+pub mod Checked
+pub mod Histories
 pub mod Started
+pub mod Offers
+pub mod OneStart
 pub mod Startup

@@ -4,7 +4,7 @@ use Prim.Native.Nat.{ℕ, _≤_}
 use native.Mathlib.Omega.{arith}
 use mathlib.Core.Path.{_≡_, refl, sym, ap, _∙_}
 use mathlib.Core.Bool.{true, false, not, true≢false}
-use mathlib.Core.List.{List, [], _∷_, _++_, map}
+use mathlib.Core.List.{List, [], _∷_, _++_}
 use mathlib.Core.Logic.{⊎-elim}
 use mathlib.Core.Option.{Option, none, some}
 use lib.Dec.{eqb}
@@ -18,7 +18,7 @@ use Rattle.rules_laws.specs.Built.{idsOf}
 use Rattle.rules_laws.specs.Laws.Tests.{by-test, Passed}
 use Rattle.rules_orders.specs.Ids.{Within, named-head, named-tail, named-cases, named-left, named-right, no-more}
 
-passed-split : (cs ds : List Check) → Passed (cs ++ ds) → Passed cs × Passed ds
+pub passed-split : (cs ds : List Check) → Passed (cs ++ ds) → Passed cs × Passed ds
 passed-split [] ds h = (tt, h)
 passed-split (c ∷ cs) ds h = let s = passed-split cs ds (h .1) in ((h .0, s .0), s .1)
 

@@ -3,7 +3,7 @@ use mathlib.Core.Path.{refl, ap}
 use Rattle.console_answer.specs.Pages.{upTo}
 use Rattle.console_names.specs.declared.Kind.{Kind}
 use Rattle.console_line.specs.Lines.{numbersLine}
-use Rattle.console_line.proofs.Laws.{same-done, shown-done, buffered-done, text-done, awaiting-done}
+use Rattle.console_line.proofs.Laws.{same-done, shown-done, buffered-done, text-done, plan-done, awaiting-done}
 use borrow.Author.Needs.{needs}
 use Rattle.console_line.proofs.numbers_line.Statement.{statement}
 use Rattle.console_line.proofs.numbers_line.Tie as tie
@@ -53,6 +53,12 @@ text-line-requires c κs = search needs
 enum-told-4 : tie.Need-enum-told-4
 enum-told-4 c = search needs
 
+enum-told-5 : tie.Need-enum-told-5
+enum-told-5 c = search needs
+
+plan-line-requires : tie.Need-plan-line-requires
+plan-line-requires c κs = search needs
+
 returns : tie.Need-returns
 returns c =
     let said = c .before .before in
@@ -100,6 +106,14 @@ returns-6 c =
     let x = c .before .before .before .before .before .args in
     awaiting-done (upTo (x .text .now) 0) (x .m .now) (x .buffer .now) (x .place) (x .kind) (x .l .now) (c .enum-told4 .given .1) _ _ refl
 
+returns-7 : tie.Need-returns-7
+returns-7 c =
+    let at = c .before .before .before in
+    let first = at .before .before .before in
+    let x = first .before .before .args in
+    plan-done (upTo (x .text .now) 0) (x .m .now) (x .buffer .now) (x .place) (x .kind) (x .l .now) _ (first .nth .ensures)
+    (at .enum-told5 .given .1) _ _ (c .plan-line .ensures)
+
 pub numbers-line-spec : {M : Type 1} → statement M
 numbers-line-spec =
     tie.close
@@ -119,9 +133,12 @@ numbers-line-spec =
     enum-told-3
     text-line-requires
     enum-told-4
+    enum-told-5
+    plan-line-requires
     returns
     returns-2
     returns-3
     returns-4
     returns-5
-    returns-6)
+    returns-6
+    returns-7)

@@ -27,6 +27,9 @@ enum-told-6 c = search needs
 numbers-await-requires : tie.Need-numbers-await-requires
 numbers-await-requires c κs = search needs
 
+enum-told-7 : tie.Need-enum-told-7
+enum-told-7 c = search needs
+
 returns : tie.Need-returns
 returns c =
     let x = c .before .before .before .args in
@@ -57,6 +60,11 @@ returns-6 c =
     let x = c .before .before .before .before .args in
     c .numbers-await .ensures ∙ ap (λ (k : Kind). awaitedFrom k (x .count) (x .bytes .now) (x .from)) (sym (c .before .enum-told6 .given .1))
 
+returns-7 : tie.Need-returns-7
+returns-7 c =
+    let x = c .before .before .before .args in
+    ap (λ (k : Kind). awaitedFrom k (x .count) (x .bytes .now) (x .from)) (sym (c .enum-told7 .given .1))
+
 pub kind-awaits-spec : {M : Type 1} → statement M
 kind-awaits-spec =
     tie.close
@@ -68,9 +76,11 @@ kind-awaits-spec =
     enum-told-5
     enum-told-6
     numbers-await-requires
+    enum-told-7
     returns
     returns-2
     returns-3
     returns-4
     returns-5
-    returns-6)
+    returns-6
+    returns-7)
