@@ -114,7 +114,10 @@ fn plan_line(m: &[u64; WORDS], size: u64, l: &[u64], text: &mut [u8; ROOM]) -> u
     ensures { λ r. ⌜ upTo (now (text .exit)) r
         ≡ lineEnd (plannedOn (upTo (now (text .entry)) 0) (now (m .entry)) (rest (now (l .entry))) (lentIds size)) ⌝ }
 {
-    end(console_order::planned(m, size, console_names::rest(l), text), text)
+    end(
+        console_order::planned(m, size, console_names::rest(l), text),
+        text,
+    )
 }
 
 // Numbers, as many as are due. Of a load nothing is said before its text has come.

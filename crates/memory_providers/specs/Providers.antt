@@ -1,20 +1,22 @@
 -- A port's provider, looked for place by place.
-use Prim.Native.Nat.{ℕ, suc, _+_, _*_, _/_, _<_}
+use Prim.Native.Nat.{ℕ, suc, _+_, _*_, _/_, _%_, _<_}
 use native.Mathlib.Numerals.{add-one, add-two}
+use native.Mathlib.Nat.{mod-eq-of-lt}
 use native.Mathlib.Omega.{arith}
 use mathlib.Core.Path.{_≡_, sym, ap, _∙_}
 use mathlib.Core.Bool.{Bool, _&&_}
 use mathlib.Core.List.{List, [], _∷_}
 use lib.ListN.{length}
 use lib.Seq.{drop-cons}
-use Rattle.rules.specs.Holds.{port, Plugin, isIn, provides, provider}
+use Rattle.rules.specs.Holds.{port, Plugin, isIn, isActive, provides, provider}
 use Rattle.rules.specs.Ports.{pairs}
 use Rattle.rules.specs.Conditions.{claims}
 use Rattle.rules_types.specs.declared.Port.{Port}
 use Rattle.memory.specs.Layout.{word, part, anchorWord, provsAt, memoryWords, places, rowWords}
-use Rattle.memory.specs.View.{anchorAt, pluginAt, view}
+use Rattle.memory.specs.View.{lifeAt, anchorAt, pluginAt, view}
 use Rattle.memory_lists.specs.Listed.{provided-at}
 use Rattle.memory.specs.Lookups.{placed, searchFrom, search-first, search-found}
+use Rattle.memory.specs.declared.Life.{Life}
 use Rattle.memory.specs.declared.Place.{Place}
 use Rattle.memory.specs.declared.Place.the-variants.{At}
 use Rattle.memory_providers.specs.declared.KeyBits.{KeyBits}
@@ -31,6 +33,15 @@ provider-view m q = search-first (λ (p : Plugin). provides p q) places m 0
 pub provider-below : (m : List ℕ) (q : Port) (i : ℕ) → providerAt m q ≡ At i → i < places
 unfolding providerAt
 provider-below m q i e = search-found (λ (p : Plugin). provides p q) places m 0 i e .below
+
+-- where a port's provider stands, and whether it is Active, by the life that was read there
+module _ (m : List ℕ) (q : Port) (x : Place) (e : x ≡ providerAt m q) (i : ℕ) (f : x ≡ At i) where
+  pub provider-place : i % places ≡ i
+  provider-place = mod-eq-of-lt (provider-below m q i (sym e ∙ f))
+
+  pub provider-active : (l : Life) → l ≡ lifeAt m (i % places) → (b : Bool) → b ≡ isActive (l .phase) → isActive (pluginAt m i .phase) ≡ b
+  unfolding pluginAt
+  provider-active l g b h = sym (h ∙ ap (λ (y : Life). isActive (y .phase)) (g ∙ ap (lifeAt m) provider-place))
 
 -- the words of a place's anchor and, right behind it, of its provisions
 abbrev pub offeredPart : List ℕ → ℕ → List ℕ

@@ -16,7 +16,7 @@ use Rattle.memory.specs.View.{lifeAt, pluginAt, view}
 use Rattle.memory.specs.declared.Life.{Life}
 use Rattle.memory.specs.declared.Place.{Place}
 use Rattle.memory.specs.declared.Place.the-variants.{At, None}
-use Rattle.memory_providers.specs.Providers.{providerAt, provider-view, provider-below}
+use Rattle.memory_providers.specs.Providers.{providerAt, provider-view, provider-place, provider-active}
 use Rattle.registry_needs.specs.Users.{depends, userAt}
 
 -- a test of a list that starts with q
@@ -33,21 +33,14 @@ module _ (m before : List ℕ) (q : Port) (x : Place) (e : x ≡ providerAt m q)
   in-time-none f = rw (provider-view m q, sym e ∙ f)
 
   module _ (i : ℕ) (f : x ≡ At i) (l : Life) (g : l ≡ lifeAt m (i % places)) (b : Bool) (h : b ≡ isActive (l .phase)) where
-    place : i % places ≡ i
-    place = mod-eq-of-lt (provider-below m q i (sym e ∙ f))
-
-    active : isActive (pluginAt m i .phase) ≡ b
-    unfolding pluginAt
-    active = sym (h ∙ ap (λ (y : Life). isActive (y .phase)) (g ∙ ap (lifeAt m) place))
-
     pub in-time-active : b ≡ true → true ≡ inTime (view m) before q
-    in-time-active t = rw (provider-view m q, sym e ∙ f) (rw (active ∙ t))
+    in-time-active t = rw (provider-view m q, sym e ∙ f) (rw (provider-active m q x e i f l g b h ∙ t))
 
     pub in-time-named : b ≡ false → (id : ℕ) → id ≡ idAt m (i % places) → (d : Bool) → d ≡ named id before → d ≡ inTime (view m) before q
     unfolding pluginAt
     in-time-named n id k d j =
-        let s : id ≡ idAt m i = k ∙ ap (idAt m) place in
-        rw (provider-view m q, sym e ∙ f) (rw (active ∙ n) (j ∙ ap (λ z. named z before) s))
+        let s : id ≡ idAt m i = k ∙ ap (idAt m) (provider-place m q x e i f) in
+        rw (provider-view m q, sym e ∙ f) (rw (provider-active m q x e i f l g b h ∙ n) (j ∙ ap (λ z. named z before) s))
 
 -- a port is available exactly if it is provided in time with none before
 available-in-time : (r : Registry) (q : Port) → inTime r [] q ≡ available r q

@@ -22,7 +22,7 @@ use Rattle.memory.specs.declared.Life.{Life}
 use Rattle.memory.specs.declared.Place.{Place}
 use Rattle.memory.specs.declared.Place.the-variants.{At, None}
 use Rattle.memory_lists.specs.Listed.{provided-at}
-use Rattle.memory_providers.specs.Providers.{providerAt, provider-view, provider-below}
+use Rattle.memory_providers.specs.Providers.{providerAt, provider-view, provider-below, provider-place, provider-active}
 use Rattle.ports.specs.declared.Found.{Found}
 use Rattle.ports.specs.declared.Found.the-variants as found
 use Rattle.rules_types.specs.declared.Optional.{Optional}
@@ -92,21 +92,14 @@ module _ (m : List ℕ) (q : Port) (x : Place) (h : x ≡ providerAt m q) where
   visible-nobody n = sym (seen-is None n)
 
   module _ (i : ℕ) (n : x ≡ At i) (life : Life) (l : life ≡ lifeAt m (i % places)) (b : Bool) (k : b ≡ isActive (life .phase)) where
-    place-is : i % places ≡ i
-    place-is = mod-eq-of-lt (provider-below m q i (sym h ∙ n))
-
-    active-is : isActive (pluginAt m i .phase) ≡ b
-    unfolding pluginAt
-    active-is = sym (k ∙ ap (λ (y : Life). isActive (y .phase)) (l ∙ ap (lifeAt m) place-is))
-
     pub visible-waiting : b ≡ false → Accepted [] ≡ answerOf (visible (view m) q)
-    visible-waiting f = sym (seen-is (At i) n ∙ rw (active-is ∙ f))
+    visible-waiting f = sym (seen-is (At i) n ∙ rw (provider-active m q x h i n life l b k ∙ f))
 
     pub visible-value : b ≡ true → (v : Optional) → optionOf v ≡ valueIn q (pluginAt m (i % places) .provisions)
         → Accepted (one (optionOf v)) ≡ answerOf (visible (view m) q)
     visible-value t v g =
-        ap (λ (y : Option ℕ). Accepted (one y)) (g ∙ ap (λ j. valueIn q (pluginAt m j .provisions)) place-is)
-        ∙ sym (seen-is (At i) n ∙ rw (active-is ∙ t))
+        ap (λ (y : Option ℕ). Accepted (one y)) (g ∙ ap (λ j. valueIn q (pluginAt m j .provisions)) (provider-place m q x h i n))
+        ∙ sym (seen-is (At i) n ∙ rw (provider-active m q x h i n life l b k ∙ t))
 
 -- Where the id is not found.
 module _ (m : List ℕ) (id : ℕ) (e : findAt m id ≡ None) where

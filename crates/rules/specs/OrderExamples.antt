@@ -1,8 +1,8 @@
 -- Document 02 [6]'s orders, computed: what passes, what is planned, and what the planner leaves in the buffer.
-use Prim.Native.Nat.{ℕ, _+_, _^_, _-_}
+use Prim.Native.Nat.{ℕ, _+_, _-_}
 use mathlib.Core.Path.{_≡_, refl}
 use mathlib.Core.Bool.{true, false}
-use mathlib.Core.List.{List, [], _∷_, _++_, map}
+use mathlib.Core.List.{List, [], _∷_, map}
 use mathlib.Core.Option.{none, some}
 use Rattle.rules.specs.Holds.{port, First, Plugin, Registry, Phase, Idle, Loading, Active, Unissued, lookup, provider}
 use Rattle.rules.specs.Registration.{unoffered}
@@ -70,7 +70,8 @@ pub record Orders : Type 0 where
   pub too-early : passes night three (5 ∷ 7 ∷ 10 ∷ []) ≡ false
   pub left-out : passes night three (7 ∷ 10 ∷ []) ≡ false
   pub one-more : passes night (7 ∷ 10 ∷ []) (7 ∷ 10 ∷ 5 ∷ []) ≡ false
-  pub foreign : passes night (7 ∷ 10 ∷ []) (10 ∷ 99 ∷ []) ≡ false
+  pub foreign : passes night (7 ∷ 10 ∷ []) (10 ∷ 5 ∷ []) ≡ false
+  pub unknown : passes night (7 ∷ 10 ∷ []) (10 ∷ 99 ∷ []) ≡ false
   pub twice : passes night (7 ∷ 10 ∷ []) (7 ∷ 7 ∷ []) ≡ false
   -- the front of the buffer is written and its rest stays; none writes nothing
   pub answered : answerOf (planOrder night (5 ∷ 10 ∷ []) buffer) ≡ Accepted (2 ∷ [])
@@ -99,6 +100,7 @@ orders = record {
   left-out = refl;
   one-more = refl;
   foreign = refl;
+  unknown = refl;
   twice = refl;
   answered = refl;
   written = refl;
