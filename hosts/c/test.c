@@ -916,9 +916,9 @@ static void loading_editions(void) {
     writing();
 }
 
-// Assigned's identity is 0 where there is none, and so is a generation.
+// What a slot lacks, an identity or a generation, stays as it was.
 static void slots(void) {
-    MADE(vaskelbi_slot_pending(slot, 7, 40, 9), 7, 40, 1, 9, VASKELBI_PENDING, {0, 0, 0});
+    MADE(vaskelbi_slot_pending(slot, 7, 40, 9), 7, 40, 1, 9, VASKELBI_PENDING, was.slot.assigned);
     const vaskelbi_slot pending = *slot;
     REFUSED(vaskelbi_slot_assign(slot, 8, 40, 41), 3);
     REFUSED(vaskelbi_slot_assign(slot, 7, 39, 41), 3);
@@ -928,18 +928,18 @@ static void slots(void) {
     REFUSED(vaskelbi_slot_cancel(slot), 3);
 
     *slot = pending;
-    SLOT(vaskelbi_slot_reject(slot), 7, 40, 1, 9, VASKELBI_FAILED, {0, 0, 0});
+    SLOT(vaskelbi_slot_reject(slot), 7, 40, 1, 9, VASKELBI_FAILED, was.slot.assigned);
     REFUSED(vaskelbi_slot_assign(slot, 7, 40, 41), 3);
     REFUSED(vaskelbi_slot_reject(slot), 3);
     REFUSED(vaskelbi_slot_cancel(slot), 3);
 
     *slot = pending;
-    SLOT(vaskelbi_slot_cancel(slot), 7, 40, 1, 9, VASKELBI_CANCELLED, {0, 0, 0});
+    SLOT(vaskelbi_slot_cancel(slot), 7, 40, 1, 9, VASKELBI_CANCELLED, was.slot.assigned);
     REFUSED(vaskelbi_slot_assign(slot, 7, 40, 41), 3);
     REFUSED(vaskelbi_slot_reject(slot), 3);
     REFUSED(vaskelbi_slot_cancel(slot), 3);
 
-    MADE(vaskelbi_slot_assigned(slot, 8, 50, 51), 8, 50, 0, 0, VASKELBI_ASSIGNED, {8, 50, 51});
+    MADE(vaskelbi_slot_assigned(slot, 8, 50, 51), 8, 50, 0, was.slot.generation, VASKELBI_ASSIGNED, {8, 50, 51});
     REFUSED(vaskelbi_slot_assign(slot, 8, 50, 51), 3);
     REFUSED(vaskelbi_slot_reject(slot), 3);
     REFUSED(vaskelbi_slot_cancel(slot), 3);

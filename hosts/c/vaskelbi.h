@@ -114,7 +114,7 @@ typedef struct {
     };
 } vaskelbi_answer;
 
-/* A child slot: its origin and its decision. */
+/* A child slot: its origin and its decision. What a slot lacks is not written: those words stay as they were. */
 typedef struct {
     uint64_t domain, parent;
     uint64_t has_generation, generation; /* 0 if made Assigned; else 1, and the generation */

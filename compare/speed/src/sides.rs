@@ -42,7 +42,7 @@ macro_rules! sides {
             pub name: &'static str,
             /// Makes words a registry that can be opened.
             pub prepare: unsafe extern "C" fn(*mut u64),
-            /// Tells a slot in the archive's words.
+            /// Tells a slot in the archive's words, over those that told it before.
             pub slot_words: unsafe extern "C" fn(*const u64, &mut Slot),
             $( pub $name: unsafe extern "C" fn($($arg: $kind),*) $(-> $answer)?, )*
         }

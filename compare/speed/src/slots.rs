@@ -96,27 +96,27 @@ impl Rng {
     }
 }
 
-/// Slots in the archive's words.
-pub fn told(side: &Side, words: &[u64]) -> Vec<Slot> {
-    let tell = |slot: &[u64]| {
-        let mut told = [0; SLOT];
-        unsafe { (side.slot_words)(slot.as_ptr(), &mut told) };
-        told
-    };
-    words.chunks_exact(SLOT).map(tell).collect()
+/// Tells slots in the archive's words, over those that told them before: what a slot lacks
+/// stays. It is asked at least once for each slot that is made.
+pub fn tell(side: &Side, words: &[u64], told: &mut [Slot]) {
+    for (slot, told) in words.chunks_exact(SLOT).zip(told) {
+        unsafe { (side.slot_words)(slot.as_ptr(), told) };
+    }
 }
 
 /// Makes so many calls on both sides, on slots chosen at random.
 pub fn compare(operations: u64, tally: &mut Tally) -> Result<(), String> {
     let sides = [&PLAIN, &OURS];
     let mut benches = [[0; SLOT * BENCH]; 2];
-    for (side, bench) in sides.iter().zip(&mut benches) {
-        for slot in bench.chunks_exact_mut(SLOT) {
-            unsafe { (side.slot_pending)(slot.as_mut_ptr(), 0, 0, 0) };
+    let mut told = [[[0; SLOT]; BENCH]; 2];
+    for n in 0..2 {
+        for slot in benches[n].chunks_exact_mut(SLOT) {
+            unsafe { (sides[n].slot_pending)(slot.as_mut_ptr(), 0, 0, 0) };
         }
+        tell(sides[n], &benches[n], &mut told[n]);
     }
     let (mut rng, mut seen) = (Rng(1), BTreeSet::new());
-    let mut before = told(&PLAIN, &benches[0]);
+    let mut before = told[0];
     for _ in 0..operations {
         let place = rng.below(BENCH as u64) as usize;
         let slot = before[place];
@@ -125,7 +125,8 @@ pub fn compare(operations: u64, tally: &mut Tally) -> Result<(), String> {
             let bench = &mut benches[n];
             let slot = bench[place * SLOT..][..SLOT].as_mut_ptr();
             let status = unsafe { call.make(sides[n], slot) };
-            (status, told(sides[n], bench))
+            tell(sides[n], bench, &mut told[n]);
+            (status, told[n])
         });
         if plain != ours {
             return Err(format!(

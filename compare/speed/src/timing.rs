@@ -82,8 +82,10 @@ pub fn check(case: &Case) -> Result<(), String> {
     let [plain, ours] = [&PLAIN, &OURS].map(|side| {
         let (mut world, mut text) = (prepared(side, case), text(case));
         let mut room = Room::new(&mut text);
+        let mut slots = vec![[0; SLOT]; case.slots];
+        slots::tell(side, &world, &mut slots);
         let sum = unsafe { (case.run)(side, world.as_mut_ptr(), &mut room) };
-        let slots = slots::told(side, &world[..case.slots * SLOT]);
+        slots::tell(side, &world, &mut slots);
         let (out, buffer) = (room.out, room.buffer);
         let told = told(side, case, &mut world);
         (side.name, sum, (out, buffer, text), slots, told)

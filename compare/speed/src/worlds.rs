@@ -250,8 +250,11 @@ impl World {
     }
 
     /// Makes a slot Pending, over the registry's words: a world has the one or the other.
+    /// They are cleared first, as not all are written.
     fn slot(&mut self, n: usize) -> *mut u64 {
-        let slot = self.words[n * SLOT..][..SLOT].as_mut_ptr();
+        let words = &mut self.words[n * SLOT..][..SLOT];
+        words.fill(0);
+        let slot = words.as_mut_ptr();
         unsafe { (self.side.slot_pending)(slot, DOMAIN, FIRST, n as u64) };
         slot
     }

@@ -10,7 +10,7 @@ use slot_child::Slot;
 use slot_words::SLOT;
 
 // A child slot is eight words of the host's: domain, parent, 1 with a generation or 0, generation, decision (0 Pending,
-// 1 Assigned, 2 Failed, 3 Cancelled), and the assigned domain, parent and id.
+// 1 Assigned, 2 Failed, 3 Cancelled), and the assigned domain, parent and id. What a slot lacks is not written.
 #[no_mangle]
 pub extern "C" fn vaskelbi_slot_pending(
     slot: &mut [u64; SLOT],

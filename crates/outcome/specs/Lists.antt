@@ -37,6 +37,9 @@ rules-types-Generation-of κs a r s ms ns p q = by-equation p q
 pub rules-types-Generation-next : One rules_types.Generation.next.ended rules_types.Generation.next.Reads.Learnt
 rules-types-Generation-next κs a r s ms ns p q = by-equation p q
 
+pub slot-child-Identity-is-of : One slot_child.Identity.«is_of».ended slot_child.Identity.«is_of».Reads.Learnt
+slot-child-Identity-is-of κs a r s ms ns p q = by-equation p q
+
 pub slot-child-Slot-pending : One slot_child.Slot.pending.ended slot_child.Slot.pending.Reads.Learnt
 slot-child-Slot-pending κs a r s ms ns p q = one-outcome slot-exact p q
 

@@ -4,7 +4,7 @@ ghost use mathlib.Core.Bool.{true};
 ghost use mathlib.Core.List.{[]};
 ghost use Rattle.rules.specs.Outcomes.{Accepted};
 ghost use Rattle.rules.specs.Slot as rules;
-ghost use Rattle.slot_child.specs.Slots.{slotOf, identityOf, decisionOf, decidedOf, refusedOf};
+ghost use Rattle.slot_child.specs.Slots.{slotOf, identityOf, isOf, decisionOf, decidedOf, refusedOf};
 use rules::Done;
 use rules::Optional;
 use rules::refusal;
@@ -14,6 +14,18 @@ pub struct Identity {
     pub domain: u64,
     pub parent: u64,
     pub id: u64,
+}
+
+impl Identity {
+    // Whether it is of this domain and this parent.
+    pub fn is_of(self, domain: u64, parent: u64) -> bool
+        ensures { λ r. ⌜ r ≡ isOf (identityOf self) domain parent ⌝ }
+    {
+        if self.domain != domain {
+            return false;
+        }
+        self.parent == parent
+    }
 }
 
 pub enum Decision {
@@ -61,10 +73,7 @@ impl Slot {
     pub fn assign(self, child: Identity) -> Decided
         ensures { λ r. ⌜ decidedOf r ≡ rules.assign (slotOf self) (identityOf child) ⌝ }
     {
-        if child.domain != self.domain {
-            return self.refused();
-        }
-        if child.parent != self.parent {
+        if !child.is_of(self.domain, self.parent) {
             return self.refused();
         }
         self.decided(Decision::Assigned(child))

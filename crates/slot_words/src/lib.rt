@@ -1,11 +1,12 @@
-// A child slot as eight words that a host keeps. Any words are read as a slot; what a slot lacks is stored as 0.
+// A child slot as eight words that a host keeps. Any words are read as a slot; only the words that say something are written.
 ghost use mathlib.Core.Path.{_≡_};
 ghost use Rattle.rules.specs.Slot as rules;
 ghost use Rattle.rules.specs.Answers.{doneAnswer, optionOf};
 ghost use Rattle.slot_child.specs.Slots.{identityOf, decisionOf, slotOf, decidedOf};
-ghost use Rattle.slot_words.specs.Words.{generationIn, decisionIn, slotAt, hasWord, generationWord, decisionWord, childIn, putSlot, Decides};
+ghost use Rattle.slot_words.specs.Words.{generationIn, decisionIn, slotAt, putGeneration, putDecision, putSlot, Decides};
 use rules::Done;
 use rules::Optional;
+use rules::refusal;
 use slot_child::Decided;
 use slot_child::Decision;
 use slot_child::Identity;
@@ -35,49 +36,41 @@ fn decision_of(w: u64, child: Identity) -> Decision
     }
 }
 
-fn has_word(e: Optional) -> u64
-    ensures { λ r. ⌜ r ≡ hasWord (optionOf e) ⌝ }
+// Whether there is a generation, and the generation if there is one.
+fn put_generation(s: &mut [u64; SLOT], generation: Optional)
+    ensures { λ _. ⌜ now (s .exit) ≡ putGeneration (now (s .entry)) (optionOf generation) ⌝ }
 {
-    match e {
-        Optional::Is(_) => 1,
-        Optional::None => 0,
+    match generation {
+        Optional::Is(number) => {
+            s[2] = 1;
+            s[3] = number;
+        }
+        Optional::None => {
+            s[2] = 0;
+        }
     }
 }
 
-fn generation_word(e: Optional) -> u64
-    ensures { λ r. ⌜ r ≡ generationWord (optionOf e) ⌝ }
+// A decision's number, and the identity of an assigned child.
+fn put_decision(s: &mut [u64; SLOT], decision: Decision)
+    ensures { λ _. ⌜ now (s .exit) ≡ putDecision (now (s .entry)) (decisionOf decision) ⌝ }
 {
-    match e {
-        Optional::Is(generation) => generation,
-        Optional::None => 0,
-    }
-}
-
-fn decision_word(d: Decision) -> u64
-    ensures { λ r. ⌜ r ≡ decisionWord (decisionOf d) ⌝ }
-{
-    match d {
-        Decision::Pending => 0,
-        Decision::Assigned(_) => 1,
-        Decision::Failed => 2,
-        Decision::Cancelled => 3,
-    }
-}
-
-// The assigned identity, or zeros.
-fn child_of(d: Decision) -> Identity
-    ensures { λ r. ⌜ identityOf r ≡ childIn (decisionOf d) ⌝ }
-{
-    let nobody = Identity {
-        domain: 0,
-        parent: 0,
-        id: 0,
-    };
-    match d {
-        Decision::Pending => nobody,
-        Decision::Assigned(child) => child,
-        Decision::Failed => nobody,
-        Decision::Cancelled => nobody,
+    match decision {
+        Decision::Pending => {
+            s[4] = 0;
+        }
+        Decision::Assigned(child) => {
+            s[4] = 1;
+            s[5] = child.domain;
+            s[6] = child.parent;
+            s[7] = child.id;
+        }
+        Decision::Failed => {
+            s[4] = 2;
+        }
+        Decision::Cancelled => {
+            s[4] = 3;
+        }
     }
 }
 
@@ -104,18 +97,10 @@ pub fn store(s: &mut [u64; SLOT], slot: Slot)
 {
     let generation = slot.generation;
     let decision = slot.decision;
-    let has = has_word(generation);
-    let number = generation_word(generation);
-    let state = decision_word(decision);
-    let child = child_of(decision);
     s[0] = slot.domain;
     s[1] = slot.parent;
-    s[2] = has;
-    s[3] = number;
-    s[4] = state;
-    s[5] = child.domain;
-    s[6] = child.parent;
-    s[7] = child.id;
+    put_generation(s, generation);
+    put_decision(s, decision);
 }
 
 // A decision that was taken is stored; a refused one stores nothing.
@@ -125,7 +110,9 @@ fn decided(s: &mut [u64; SLOT], d: Decided) -> Done
     let verdict = d.verdict;
     match verdict {
         Done::Accepted => {
-            store(s, d.slot);
+            let slot = d.slot;
+            let decision = slot.decision;
+            put_decision(s, decision);
             Done::Accepted
         }
         Done::Refused(why) => Done::Refused(why),
@@ -135,6 +122,10 @@ fn decided(s: &mut [u64; SLOT], d: Decided) -> Done
 pub fn assign(s: &mut [u64; SLOT], child: Identity) -> Done
     ensures { λ r. ⌜ Decides (rules.assign (slotOf (slotAt (now (s .entry)))) (identityOf child)) (now (s .entry)) (doneAnswer r) (now (s .exit)) ⌝ }
 {
+    // A foreign child is refused before the decision is read.
+    if !child.is_of(s[0], s[1]) {
+        return Done::Refused(refusal::INVALID_STATE);
+    }
     let held = load(s);
     decided(s, held.assign(child))
 }

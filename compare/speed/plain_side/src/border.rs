@@ -12,7 +12,7 @@ use plain::{
 
 use crate::telling::{
     Out, SLOT, Slot, accepted, done, handed_back, kept, number, numbers, of, of_child, of_edition,
-    of_port, of_slot, perhaps, whether,
+    of_port, perhaps, tell_slot, whether,
 };
 
 /// Exports functions under C names that begin with `plain_`, none of them inlined.
@@ -392,8 +392,8 @@ border! {
         kept(slot.cancel(), slot)
     }
 
-    // The slot as the archive's words, to compare it; it is never timed.
+    // The slot in the archive's words, over those that told it before; it is never timed.
     fn slot_words(slot: &ChildSlot, words: &mut Slot) {
-        *words = of_slot(*slot);
+        tell_slot(*slot, words);
     }
 }

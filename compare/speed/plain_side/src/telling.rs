@@ -81,13 +81,21 @@ pub(crate) fn kept(decided: Result<ChildSlot, Refusal>, slot: &mut ChildSlot) ->
     done(decided.map(|decided| *slot = decided))
 }
 
-pub(crate) fn of_slot(slot: ChildSlot) -> Slot {
-    let (decision, [domain, parent, id]) = match slot.decision {
-        Decision::Pending => (0, [0; 3]),
-        Decision::Assigned(child) => (1, of_child(child)),
-        Decision::Failed => (2, [0; 3]),
-        Decision::Cancelled => (3, [0; 3]),
+/// What a slot has, over the words that told it before. What it lacks has no word, as in the
+/// archive.
+pub(crate) fn tell_slot(slot: ChildSlot, words: &mut Slot) {
+    words[..2].copy_from_slice(&[slot.domain, slot.parent]);
+    words[2] = u64::from(slot.generation.is_some());
+    if let Some(generation) = slot.generation {
+        words[3] = generation;
+    }
+    words[4] = match slot.decision {
+        Decision::Pending => 0,
+        Decision::Assigned(_) => 1,
+        Decision::Failed => 2,
+        Decision::Cancelled => 3,
     };
-    let (has, generation) = slot.generation.map_or((0, 0), |generation| (1, generation));
-    [slot.domain, slot.parent, has, generation, decision, domain, parent, id]
+    if let Decision::Assigned(child) = slot.decision {
+        words[5..].copy_from_slice(&of_child(child));
+    }
 }
