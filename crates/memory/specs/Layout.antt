@@ -111,14 +111,15 @@ taken m i = ltb i places && eqb (occupancy m / 2 ^ i % 2) 1
 abbrev pub idAt : List ℕ → ℕ → ℕ
 idAt m i = word m (i * placeWords + idWord)
 
+-- Any word is read as a count in its range: by its remainder where that is a mask of bits, else up to its limit.
 abbrev pub startAt : List ℕ → ℕ → ℕ
-startAt m i = min (word m (i * placeWords + firstRowWord)) maxRows
+startAt m i = word m (i * placeWords + firstRowWord) % maxRows
 
 abbrev pub depsAt : List ℕ → ℕ → ℕ
 depsAt m i = min (word m (i * placeWords + dependenciesWord)) maxDependencies
 
 abbrev pub provsAt : List ℕ → ℕ → ℕ
-provsAt m i = min (word m (i * placeWords + provisionsWord)) maxProvisionKeys
+provsAt m i = word m (i * placeWords + provisionsWord) % (maxProvisionKeys + 1)
 
 abbrev pub realmsAt : List ℕ → ℕ → ℕ
 realmsAt m i = min (word m (i * placeWords + realmsWord)) maxRealmRows

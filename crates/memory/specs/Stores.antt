@@ -1,5 +1,5 @@
 -- The registry after a life, or its revision and payload alone, is stored.
-use Prim.Native.Nat.{ℕ, zero, suc, _+_, _*_, _<_, _≤_, min}
+use Prim.Native.Nat.{ℕ, zero, suc, _+_, _*_, _<_, _≤_, _%_, min}
 use native.Mathlib.Omega.{arith}
 use mathlib.Core.Path.{_≡_, refl, sym, ap, _∙_, subst}
 use mathlib.Core.Logic.{_≢_}
@@ -38,7 +38,7 @@ module _ (m m′ : List ℕ) (j : ℕ) (h : j < places) (l : length m ≡ memory
   deps-kept = ap (λ x. min x maxDependencies) (back dependenciesWord (omega arith) (omega arith))
 
   provs-kept : provsAt m′ j ≡ provsAt m j
-  provs-kept = ap (λ x. min x maxProvisionKeys) (back provisionsWord (omega arith) (omega arith))
+  provs-kept = ap (λ x. x % (maxProvisionKeys + 1)) (back provisionsWord (omega arith) (omega arith))
 
   realms-kept : realmsAt m′ j ≡ realmsAt m j
   realms-kept = ap (λ x. min x maxRealmRows) (back realmsWord (omega arith) (omega arith))
@@ -84,7 +84,7 @@ module _ (m m′ : List ℕ) (i : ℕ) (o : OnlyLife m m′ i) (h : i < places) 
   only-kept j k = kept-frame m m′ j k size (o .size ∙ size)
       (λ n a b. o .apart (j * placeWords + n) (λ c d. omega arith))
       (λ n a b. o .apart (j * placeWords + n) (λ c d. omega arith))
-      (λ n u. ap (λ w. word m′ (rowWord (min w maxRows) + n)) (o .apart (j * placeWords + firstRowWord) (λ c d. omega arith))
+      (λ n u. ap (λ w. word m′ (rowWord (w % maxRows) + n)) (o .apart (j * placeWords + firstRowWord) (λ c d. omega arith))
       ∙ o .apart (rowWord (startAt m j) + n) (λ c d. omega arith))
 
   only-plugin : pluginAt m′ i ≡ withLife (pluginAt m i) (lifeAt m′ i)

@@ -1,6 +1,6 @@
 -- A new plugin in a free place, with its rows behind all others: what that does to the words, that every other place
 -- reads as before, and that the new one reads as what was written.
-use Prim.Native.Nat.{ℕ, _+_, _*_, _-_, _<_, _≤_, min}
+use Prim.Native.Nat.{ℕ, _+_, _*_, _-_, _<_, _≤_, _%_, min}
 use native.Mathlib.Omega.{arith}
 use native.Mathlib.Nat.{zero-div}
 use mathlib.Core.Path.{_≡_, refl, sym, ap, _∙_}
@@ -219,7 +219,7 @@ module _ (m m′ : List ℕ) (p : ℕ) (n : Newcomer) (h : p < places) (free : t
       let w : Kept m m′ j = kept-frame m m′ j k (dense .size) size′
       (λ i a c. r .words j i k d a (omega arith))
       (λ i a c. r .words j i k d (omega arith) c)
-      (λ i u. ap (λ x. word m′ (rowWord (min x maxRows) + i)) (r .words j firstRowWord k d (omega arith) (omega arith))
+      (λ i u. ap (λ x. word m′ (rowWord (x % maxRows) + i)) (r .words j firstRowWord k d (omega arith) (omega arith))
       ∙ (let e : rowWord (startAt m j) + i ≡ rowsStart + (startAt m j * rowWords + i) = omega arith in
       ap (word m′) e ∙ r .rows (startAt m j * rowWords + i) (omega arith) ∙ sym (ap (word m) e))) in
       plugin-kept m m′ j w ∙ ap (withLife (pluginAt m j)) (life-kept j k d)

@@ -39,7 +39,7 @@ pub fn start(m: &[u64; WORDS], place: usize) -> usize
     ensures { λ r. ⌜ r ≡ startAt (now (m .entry)) (place % places) ⌝ }
 {
     let b = place % PLACES * PLACE_WORDS;
-    at_most(m[b + layout::FIRST_ROW] as usize, limits::ROWS)
+    m[b + layout::FIRST_ROW] as usize % limits::ROWS
 }
 
 // How many dependencies, provisions and realm rows a place has.
@@ -54,7 +54,7 @@ pub fn provisions(m: &[u64; WORDS], place: usize) -> usize
     ensures { λ r. ⌜ r ≡ provsAt (now (m .entry)) (place % places) ⌝ }
 {
     let b = place % PLACES * PLACE_WORDS;
-    at_most(m[b + layout::PROVISIONS] as usize, limits::PROVISION_KEYS)
+    m[b + layout::PROVISIONS] as usize % (limits::PROVISION_KEYS + 1)
 }
 
 pub fn realm_rows(m: &[u64; WORDS], place: usize) -> usize

@@ -1,5 +1,5 @@
 -- A filled place with any next id: the registry has that id, and is as registration has it beside.
-use Prim.Native.Nat.{ℕ, _+_, _*_, _≤_, _<_, min}
+use Prim.Native.Nat.{ℕ, _+_, _*_, _≤_, _<_, _%_, min}
 use native.Mathlib.Omega.{arith}
 use mathlib.Core.Path.{_≡_, refl, sym, ap, _∙_}
 use mathlib.Core.Bool.{true, _||_}
@@ -48,7 +48,7 @@ module _ (m m′ : List ℕ) (size : length m ≡ memoryWords) (size′ : length
       plugin-kept m m′ j (kept-frame m m′ j h size size′
       (λ k a b. same (j * placeWords + k) (omega arith))
       (λ k a b. same (j * placeWords + k) (omega arith))
-      (λ k u. ap (λ s. word m′ (rowWord (min s maxRows) + k)) (same (j * placeWords + firstRowWord) (omega arith))
+      (λ k u. ap (λ s. word m′ (rowWord (s % maxRows) + k)) (same (j * placeWords + firstRowWord) (omega arith))
       ∙ same (rowWord (startAt m j) + k) (omega arith)))
       ∙ ap (λ x. withLife (pluginAt m j) (decoded x)) (words-same j)
 

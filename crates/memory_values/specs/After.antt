@@ -1,5 +1,5 @@
 -- What the words say of the plugins once a value is set, or all of a place's are dropped.
-use Prim.Native.Nat.{ℕ, _+_, _*_, _^_, _≤_, _<_, min}
+use Prim.Native.Nat.{ℕ, _+_, _*_, _^_, _≤_, _<_, _%_, min}
 use native.Mathlib.Nat.{zero-div}
 use native.Mathlib.Omega.{arith}
 use mathlib.Core.Path.{_≡_, refl, sym, ap, _∙_}
@@ -60,7 +60,7 @@ module _ (m m′ : List ℕ) (i : ℕ) (h : i < places) (l : length m ≡ memory
   taken-stays k = rw (same occupancyWord (λ a b. omega arith))
 
   start-stays : (k : ℕ) → startAt m′ k ≡ startAt m k
-  start-stays k = ap (λ x. min x maxRows) (same (k * placeWords + firstRowWord) (λ a b. omega arith))
+  start-stays k = ap (λ x. x % maxRows) (same (k * placeWords + firstRowWord) (λ a b. omega arith))
 
   -- every row is behind the places
   row-stays : (n : ℕ) → rowsStart ≤ n → word m′ n ≡ word m n
@@ -84,7 +84,7 @@ module _ (m m′ : List ℕ) (i : ℕ) (h : i < places) (l : length m ≡ memory
   deps-stay = ap (λ x. min x maxDependencies) (same (i * placeWords + dependenciesWord) (λ a b. omega arith))
 
   provs-stay : provsAt m′ i ≡ provsAt m i
-  provs-stay = ap (λ x. min x maxProvisionKeys) (same (i * placeWords + provisionsWord) (λ a b. omega arith))
+  provs-stay = ap (λ x. x % (maxProvisionKeys + 1)) (same (i * placeWords + provisionsWord) (λ a b. omega arith))
 
   realms-stay : realmsAt m′ i ≡ realmsAt m i
   realms-stay = ap (λ x. min x maxRealmRows) (same (i * placeWords + realmsWord) (λ a b. omega arith))
