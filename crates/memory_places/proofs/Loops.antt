@@ -3,21 +3,19 @@ use Prim.Native.Nat.{ℕ, suc, _+_, _-_, _*_, _/_, _%_, _^_, _<_, _≤_}
 use native.Mathlib.Nat.{mod-eq-of-lt}
 use native.Mathlib.Omega.{arith}
 use mathlib.Core.Path.{_≡_, refl, sym, ap, _∙_}
-use mathlib.Core.Bool.{true, false}
+use mathlib.Core.Bool.{true, false, _&&_, and-false}
 use mathlib.Core.List.{List}
-use mathlib.Core.Option.{Option, some}
-use lib.Dec.{ltb, lit<}
+use mathlib.Core.Option.{some}
+use lib.Dec.{eqb, ltb, leb, lit<}
 use lib.Pow.{shr-shr}
-use borrow.Author.Tests.{lt-ltb, le-ltb, eq-eqb, ne-eqb}
-use Rattle.rules.specs.Basics.{pick}
-use Rattle.rules.specs.Queries.{lower as lowerId}
+use borrow.Author.Tests.{lt-ltb, le-ltb, lt-leb, le-leb, eq-eqb, ne-eqb, eqb-true, eqb-false}
+use Rattle.rules.specs.Basics.{pick, last}
+use Rattle.rules.specs.Queries.{lower}
 use Rattle.rules.specs.Limits.{maxPluginRows}
+use Rattle.rules_laws.specs.Laws.Tests.{by-test}
 use Rattle.memory.specs.Layout.{occupancy, taken, idAt, depsAt, provsAt, places}
 use Rattle.memory_places.specs.Rows.{rowsAt, rowsBy, rowsFrom}
-use Rattle.memory_places.specs.Lowest.{lowestOf, lowest-here, lowest-not, lowest-free}
-use Rattle.rules_types.specs.declared.Optional.{Optional}
-use Rattle.rules_types.specs.declared.Optional.the-variants.{Is, None}
-use Rattle.rules.specs.Answers.{optionOf}
+use Rattle.memory_places.specs.Lowest.{lowestOf, lowerAt, lowest-none, lower-next}
 
 -- Rows, four places at a time: what is counted, and what is left.
 abbrev pub Counted : List ℕ → ℕ → ℕ → ℕ → Type 0
@@ -79,44 +77,47 @@ pub rows-end : (m : List ℕ) (k w total : ℕ) → 8 ≤ k → Counted m k w to
 unfolding rowsFrom
 rows-end m k w total h t = let s : places - k * 4 ≡ 0 = omega arith in let r : rowsFrom (places - k * 4) m (k * 4) ≡ 0 = rw s in omega arith
 
--- Ids, from the last place down: the lowest of those passed.
-abbrev pub Passed : ℕ → List ℕ → ℕ → Option ℕ → Type 0
-Passed number m i o = (i ≤ places) × (o ≡ lowestOf number (places - i) m i)
+-- Ids: those passed are numbers of 64 bits, and those of the places from i on are left to go to the lowest so far.
+abbrev pub Passed : ℕ → List ℕ → ℕ → ℕ → Type 0
+Passed number m i x =
+    (i ≤ places)
+    × ((j : ℕ) → j < i → idAt m j < 2 ^ 64)
+    × (lower last (lowestOf number places m 0) ≡ lower x (lowestOf number (places - i) m i))
 
-module _ (number : ℕ) (m : List ℕ) (i : ℕ) (o : Option ℕ) (h : 0 < i) (t : Passed number m i o) where
-  -- one place down
-  down : (q : Option ℕ) → q ≡ lowestOf number (suc (places - i)) m (i - 1) → Passed number m (i - 1) q
-  down q e = let s : places - (i - 1) ≡ suc (places - i) = omega arith in (omega arith, rw s e)
+pub id-begin : (number : ℕ) (m : List ℕ) → Passed number m 0 last
+id-begin number m = (omega arith, λ j h. absurd (omega arith), refl)
 
-  same-place : (i - 1) % places ≡ i - 1
-  same-place = mod-eq-of-lt (omega arith)
+pub id-next : (number : ℕ) (m : List ℕ) (i x r : ℕ) → i < places → Passed number m i x → idAt m i < 2 ^ 64 → r ≡ lowerAt number m i x → Passed number m (i + 1) r
+id-next number m i x r h t s e =
+    let n : places - i ≡ suc (places - (i + 1)) = omega arith in (
+      omega arith,
+      λ j l. by-test (eqb j i) (λ y. rw (eqb-true j i y) s) (λ d. let f = eqb-false j i d in t .1 j (omega arith)),
+      t .2 ∙ rw (n, e) (lower-next number (places - (i + 1)) m i x),
+    )
 
-  up : lowestOf number (places - i) m (i - 1 + 1) ≡ o
-  up = let s : i - 1 + 1 ≡ i = omega arith in rw (s, t .1)
+pub id-end : (number : ℕ) (m : List ℕ) (i x : ℕ) → places ≤ i → Passed number m i x → lower last (lowestOf number places m 0) ≡ some x
+id-end number m i x h t = let s : places - i ≡ 0 = omega arith in t .2 ∙ rw s (ap (lower x) (lowest-none number m i))
 
-  pub id-lower : (id : ℕ) (q : Option ℕ) → taken m (i - 1) ≡ true → id ≡ idAt m ((i - 1) % places) → number ≤ id → q ≡ lowerId id o → Passed number m (i - 1) q
-  id-lower id q y d u s =
-      let f : id ≡ idAt m (i - 1) = rw same-place at d in
-      down q (s ∙ rw (f, lowest-here number (places - i) m (i - 1) y (rw f at u), up))
+-- The id of one place against the lowest so far.
+module _ (number : ℕ) (m : List ℕ) (i other : ℕ) (h : i < places) (id : ℕ) (e : id ≡ idAt m (i % places)) (l : id < 2 ^ 64) where
+  same-id : idAt m i ≡ id
+  same-id = let s : i % places ≡ i = mod-eq-of-lt h in sym (rw s at e)
 
-  pub id-not : (id : ℕ) → taken m (i - 1) ≡ true → id ≡ idAt m ((i - 1) % places) → id < number → Passed number m (i - 1) o
-  id-not id y d u =
-      let f : id ≡ idAt m (i - 1) = rw same-place at d in
-      down o (rw (lowest-not number (places - i) m (i - 1) y (rw f at u), up))
+  id-fits : idAt m i < 2 ^ 64
+  id-fits = rw same-id l
 
-  pub id-free : taken m (i - 1) ≡ false → Passed number m (i - 1) o
-  id-free f = down o (rw (lowest-free number (places - i) m (i - 1) f, up))
+  pub lower-id : id < other → taken m i ≡ true → number ≤ id → (idAt m i < 2 ^ 64) × (id ≡ lowerAt number m i other)
+  unfolding lowerAt
+  lower-id u t a = (id-fits, rw (t, same-id, le-leb number id a, lt-ltb id other u))
 
-pub id-end : (number : ℕ) (m : List ℕ) (i : ℕ) (o : Option ℕ) → i ≤ 0 → Passed number m i o → o ≡ lowestOf number places m 0
-id-end number m i o h t = let s : i ≡ 0 = omega arith in rw s at (t .1)
+  pub lower-under : taken m i ≡ true → id < number → (idAt m i < 2 ^ 64) × (other ≡ lowerAt number m i other)
+  unfolding lowerAt
+  lower-under t a = (id-fits, rw (t, same-id, lt-leb number id a))
 
--- The lower of two ids, of which the second may be missing.
-module _ (id : ℕ) (other : Optional) where
-  pub lower-first : (n : ℕ) → other ≡ Is n → id < n → some id ≡ lowerId id (optionOf other)
-  lower-first n e h = rw (e, lt-ltb id n h)
+  pub lower-free : taken m i ≡ false → (idAt m i < 2 ^ 64) × (other ≡ lowerAt number m i other)
+  unfolding lowerAt
+  lower-free f = (id-fits, rw f)
 
-  pub lower-second : (n : ℕ) → other ≡ Is n → n ≤ id → some n ≡ lowerId id (optionOf other)
-  lower-second n e h = rw (e, le-ltb id n h)
-
-  pub lower-alone : other ≡ None → some id ≡ lowerId id (optionOf other)
-  lower-alone e = rw e
+  pub lower-over : other ≤ id → (idAt m i < 2 ^ 64) × (other ≡ lowerAt number m i other)
+  unfolding lowerAt
+  lower-over u = (id-fits, rw (same-id, le-ltb id other u, and-false (taken m i && leb number id)))

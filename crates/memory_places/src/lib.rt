@@ -3,13 +3,14 @@ ghost use mathlib.Core.Path.{_≡_};
 ghost use Prim.Native.Nat.{_<_, _≤_, _*_, _/_, _%_, _^_};
 ghost use Rattle.rules.specs.Holds.{count, rowsInUse};
 ghost use Rattle.rules.specs.Outcomes.{answerOf};
-ghost use Rattle.rules.specs.Queries.{idFrom, lower as lowerId};
+ghost use Rattle.rules.specs.Queries.{idFrom};
 ghost use Rattle.rules.specs.Limits.{maxPluginRows};
 ghost use Rattle.rules.specs.Answers.{optionOf, optionAnswer};
-ghost use Rattle.memory.specs.Layout.{occupancy, places};
+ghost use Rattle.memory.specs.Layout.{occupancy, idAt, places};
 ghost use Rattle.memory.specs.View.{view};
 ghost use Rattle.memory_places.specs.Changes.{freeAt, occupiedAt, vacatedAt};
 ghost use Rattle.memory_places.specs.Rows.{rowsBy, rowsFrom};
+ghost use Rattle.memory_places.specs.Lowest.{lowerAt, lastOf};
 use memory::Place;
 use memory::WORDS;
 use memory::layout;
@@ -98,36 +99,44 @@ pub fn rows_in_use(m: &[u64; WORDS]) -> usize
     total
 }
 
-// The lowest registered id at or above a number.
+// The lowest registered id at or above a number. The last id of all stands for none so far, so it is looked for at the end.
 pub fn id_from(m: &[u64; WORDS], number: u64) -> Optional
     ensures { λ r. ⌜ optionAnswer r ≡ answerOf (idFrom (view (now (m .entry))) number) ⌝ }
 {
-    let mut found = Optional::None;
-    let mut i: usize = PLACES;
-    while 0 < i {
-        i -= 1;
-        if memory::is_taken(m, i) {
-            let id = memory::id(m, i);
-            if number <= id {
-                found = lower(id, found);
-            }
-        }
+    let mut lowest = u64::MAX;
+    let mut i: usize = 0;
+    while i < PLACES {
+        lowest = lower(m, i, number, lowest);
+        i += 1;
     }
-    found
+    if lowest == u64::MAX {
+        return last(m);
+    }
+    Optional::Is(lowest)
 }
 
-// The lower of two ids, of which the second may be missing.
-fn lower(id: u64, other: Optional) -> Optional
-    ensures { λ r. ⌜ optionOf r ≡ lowerId id (optionOf other) ⌝ }
+// The last id of all, if it is registered.
+fn last(m: &[u64; WORDS]) -> Optional
+    ensures { λ r. ⌜ optionOf r ≡ lastOf (now (m .entry)) ⌝ }
 {
-    match other {
-        Optional::Is(n) => {
-            if id < n {
-                Optional::Is(id)
-            } else {
-                Optional::Is(n)
+    let Place::At(_) = memory::find(m, u64::MAX) else {
+        return Optional::None;
+    };
+    Optional::Is(u64::MAX)
+}
+
+// The id of a taken place, if it is at or above the number and lower than another: that is asked first, as few are. No id is above 2^64 − 1.
+fn lower(m: &[u64; WORDS], place: usize, number: u64, other: u64) -> u64
+    requires { ⌜ place < places ⌝ }
+    ensures { λ r. ⌜ (idAt (now (m .entry)) place < 2 ^ 64) × (r ≡ lowerAt number (now (m .entry)) place other) ⌝ }
+{
+    let id = memory::id(m, place);
+    if id < other {
+        if memory::is_taken(m, place) {
+            if number <= id {
+                return id;
             }
         }
-        Optional::None => Optional::Is(id),
     }
+    other
 }

@@ -142,10 +142,13 @@ fn offers_one(m: &[u64; WORDS], place: usize, bits: KeyBits, claims: &[u64]) -> 
     }
 }
 
-// Whether one of the claimed ports has a provider. Each place's rows are read once, for all claims.
+// Whether one of the claimed ports has a provider. Each place's rows are read once, for all claims; where no place is taken, no claim is read.
 pub fn one_provided(m: &[u64; WORDS], claims: &[u64]) -> bool
     ensures { λ r. ⌜ r ≡ any (λ q. isSome (provider (view (now (m .entry))) q)) (pairs (now (claims .entry))) ⌝ }
 {
+    if memory::occupied(m) == 0 {
+        return false;
+    }
     memory::known(m);
     let bits = key_bits(claims);
     let mut i: usize = 0;

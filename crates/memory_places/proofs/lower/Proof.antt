@@ -1,23 +1,39 @@
--- `lower` meets its contract: the two outcomes of the test, and no second id, are the definition's cases.
+-- `lower` meets its contract: the three tests are the definition's, and an id is a number of 64 bits.
+use native.Mathlib.Omega.{arith}
+use mathlib.Core.Path.{sym, _∙_}
 use borrow.Author.Needs.{needs}
-use Rattle.memory_places.proofs.Loops.{lower-first, lower-second, lower-alone}
+use Rattle.memory_places.proofs.Loops.{lower-id, lower-under, lower-free, lower-over}
 use Rattle.memory_places.proofs.lower.Statement.{statement}
 use Rattle.memory_places.proofs.lower.Tie as tie
 
-enum-known-other : tie.Need-enum-known-other
-enum-known-other c = search needs
+id-requires : tie.Need-id-requires
+id-requires c κs = search needs
 
-enum-told : tie.Need-enum-told
-enum-told c = search needs
+is-taken-requires : tie.Need-is-taken-requires
+is-taken-requires c κs = search needs
 
 returns : tie.Need-returns
-returns c = lower-first _ _ _ (c .before .before .other .given .1) (c .if1 .taken)
+returns c =
+    let b = c .before .before in
+    let d = b .before .before in
+    lower-id _ _ _ _ (d .before .pre) _ (d .id .ensures) (d .id .ok) (b .before .if1 .taken)
+    (sym (b .is-taken .ensures) ∙ c .before .if2 .taken) (omega (arith, c .if3 .taken))
 
 returns-2 : tie.Need-returns-2
-returns-2 c = lower-second _ _ _ (c .before .before .other .given .1) (c .if1 .left)
+returns-2 c =
+    let b = c .before .before in
+    let d = b .before .before in
+    lower-under _ _ _ _ (d .before .pre) _ (d .id .ensures) (d .id .ok)
+    (sym (b .is-taken .ensures) ∙ c .before .if2 .taken) (omega (arith, c .if3 .left))
 
 returns-3 : tie.Need-returns-3
-returns-3 c = lower-alone _ _ (c .enum-told .given .1)
+returns-3 c =
+    let d = c .before .before .before in
+    lower-free _ _ _ _ (d .before .pre) _ (d .id .ensures) (d .id .ok) (sym (c .before .is-taken .ensures) ∙ c .if2 .left)
+
+returns-4 : tie.Need-returns-4
+returns-4 c = let d = c .before in lower-over _ _ _ _ (d .before .pre) _ (d .id .ensures) (d .id .ok) (c .if1 .left)
 
 pub lower-spec : {M : Type 1} → statement M
-lower-spec = tie.close (tie.spec enum-known-other enum-told returns returns-2 returns-3)
+lower-spec =
+    tie.close (tie.spec id-requires is-taken-requires returns returns-2 returns-3 returns-4)
