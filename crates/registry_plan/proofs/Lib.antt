@@ -1,5 +1,7 @@
+mod Rises
+mod Moves
 mod Covers
 mod Places
-mod Plans
 mod Laws
+mod Plans
 mod Told

@@ -1,3 +1,4 @@
+pub mod Rising
 pub mod Waits
 pub mod Fills
 pub mod Fits

@@ -1,14 +1,12 @@
 -- For each id of a set a row of bits: which ids of the set it waits for, by their places there.
-use Prim.Native.Nat.{ℕ, suc, _<_}
-use mathlib.Core.Path.{_≡_}
+use Prim.Native.Nat.{ℕ, suc}
 use mathlib.Core.List.{List, [], _∷_}
 use mathlib.Core.Option.{Option, none, some}
 use lib.Dec.{eqb, ltb}
-use lib.ListN.{length, getD}
+use lib.ListN.{length}
 use Rattle.rules.specs.Basics.{pick}
 use Rattle.rules.specs.Holds.{Plugin, Registry, lookup, provider, isActive}
 use Rattle.rules_types.specs.declared.Port.{Port}
-use Rattle.memory.specs.Layout.{word}
 use Rattle.memory_providers.specs.Bits.{withBit}
 
 -- the place of an id in a list, and the list's length where it is not there
@@ -38,6 +36,10 @@ rowIn r set own (some p) = waitsForAll r set own 0 (p .dependencies)
 abbrev pub rowOf : Registry → List ℕ → (own id : ℕ) → ℕ
 rowOf r set own id = rowIn r set own (lookup r id)
 
--- rows that say so for the first n ids
-abbrev pub Rows : Registry → List ℕ → List ℕ → ℕ → Type 0
-Rows r set rows n = (i : ℕ) → i < n → word rows i ≡ rowOf r set i (getD set i 0)
+-- the rows of some ids, whose first stands at a place
+unfoldable pub rowsFrom : Registry → List ℕ → (place : ℕ) → (ids : List ℕ) → List ℕ
+rowsFrom r set place [] = []
+rowsFrom r set place (id ∷ ids) = rowOf r set place id ∷ rowsFrom r set (suc place) ids
+
+abbrev pub rowsOf : Registry → List ℕ → List ℕ
+rowsOf r set = rowsFrom r set 0 set
