@@ -9,16 +9,13 @@ use lib.ListN.{length}
 use Rattle.rules.specs.Holds.{rowsInUse}
 use Rattle.rules.specs.Outcomes.{Outcome, after}
 use Rattle.rules.specs.Limits.{maxRows, maxDependencies, maxProvisionKeys, maxRealmRows}
-use Rattle.memory.specs.Layout.{word, taken, startAt, memoryWords, placeWords, places, firstRowWord, dependenciesWord, provisionsWord, realmsWord}
+use Rattle.memory.specs.Layout.{word, taken, startAt, memoryWords, placeWords, places, dependenciesWord, provisionsWord, realmsWord}
 use Rattle.memory.specs.View.{view}
 use Rattle.memory_places.specs.Rows.{rowsAt, rowsFrom, rows-view}
 use Rattle.memory_places.specs.Taken.{taken-below}
 use Rattle.memory.specs.Stores.{Alone}
+pub use Rattle.memory_rows.specs.Moves.{startWord}
 use Rattle.memory_rows.specs.Tiles.{sum, share, Tiled}
-
--- the first row of a place, as it is written
-abbrev pub startWord : List ℕ → ℕ → ℕ
-startWord m i = word m (i * placeWords + firstRowWord)
 
 -- the rows in use, over the taken places
 abbrev pub used : List ℕ → ℕ

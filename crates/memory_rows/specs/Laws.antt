@@ -1,24 +1,24 @@
 -- Laws of words that move.
-use Prim.Native.Nat.{ℕ, zero, suc, _+_, _*_, _-_, _<_, _≤_, _%_, min}
+use Prim.Native.Nat.{ℕ, zero, suc, _+_, _*_, _-_, _<_, _≤_, _%_}
 use native.Mathlib.Omega.{arith}
 use native.Mathlib.Nat.{le-of-suc-le-suc, not-suc-le-zero, mod-eq-of-lt}
-use mathlib.Core.Path.{_≡_, refl, ap, _∙_}
-use mathlib.Core.Bool.{Bool, true, false}
+use mathlib.Core.Path.{_≡_, refl, sym, ap, _∙_}
+use mathlib.Core.Bool.{Bool, true, false, _&&_}
 use mathlib.Core.Logic.{_≢_}
 use mathlib.Core.List.{List}
-use lib.Dec.{eqb}
+use lib.Dec.{eqb, leb, ltb}
 use lib.ListN.{length, set, length-set}
 use lib.Seq.{getD-set-same, getD-set-other}
-use borrow.Author.Tests.{eqb-true, eqb-false}
-use Rattle.rules.specs.Holds.{rowsInUse}
-use Rattle.rules_laws.specs.Laws.Tests.{by-test}
+use borrow.Author.Tests.{eqb-true, eqb-false, le-leb, ltb-true, ltb-false, lt-ltb, le-ltb}
+use Rattle.rules_laws.specs.Laws.Tests.{by-test, both}
 use Rattle.rules.specs.Limits.{maxRows}
-use Rattle.memory.specs.Layout.{word, taken, startAt, depsAt, provsAt, rowWord, placeWords, places, rowsStart, firstRowWord, rowWords}
-use Rattle.memory.specs.View.{view}
+use Rattle.memory.specs.Layout.{word, taken, startAt, rowWord, placeWords, places, rowsStart, rowWords}
+use Rattle.memory.specs.Layout.{occupancyWord, firstRowWord, dependenciesWord, provisionsWord}
 use Rattle.memory_places.specs.Changes.{vacatedAt}
-use Rattle.memory_places.specs.Taken.{vacated-length}
+use Rattle.memory_places.specs.Taken.{taken-below, vacated-length}
 use Rattle.memory_places.specs.Rows.{rowsAt}
-use Rattle.memory_rows.specs.Moves.{moved, closedGap, lowered, lowerFrom, freedPlace}
+use Rattle.memory_rows.specs.Moves.{moved, closedGap, startWord, lowered, loweredAt, lowerFrom, later, lastFrom, endAt, lastBehind, rowsEnd, freedPlace}
+use Rattle.memory_rows.specs.declared.Last.{Last}
 
 -- words moved down
 pub moved-length : (n : ℕ) (m : List ℕ) (j k : ℕ) → length (moved n m j k) ≡ length m
@@ -52,7 +52,7 @@ pub moved-end : (e : ℕ) (m : List ℕ) (j k : ℕ) → e ≤ j → moved (e - 
 unfolding moved
 moved-end e m j k h = let s : e - j ≡ 0 = omega arith in rw s
 
-pub gap-none : (m : List ℕ) (start count end : ℕ) → end < start + count → closedGap m start count end ≡ m
+pub gap-none : (m : List ℕ) (start count end : ℕ) → end ≤ start + count → closedGap m start count end ≡ m
 unfolding moved
 gap-none m start count end h = let s : (end - (start + count)) * rowWords ≡ 0 = omega arith in rw s
 
@@ -116,15 +116,123 @@ lower-start (suc n) m x k i j l t f =
         ∙ ap (λ y. lowered y x k) (getD-set-other m (i * placeWords + firstRowWord) (j * placeWords + firstRowWord)
         (lowered (word m (i * placeWords + firstRowWord)) x k) 0 (omega arith))
 
--- the remover's steps
-pub free-steps : (m m₁ m₂ m₃ : List ℕ) (p s d v u end : ℕ) → p < places → taken m p ≡ true → s ≡ startAt m (p % places) → d ≡ depsAt m (p % places)
-    → v ≡ provsAt m (p % places)
-    → u ≡ rowsInUse (view m) → end ≡ min u maxRows → m₁ ≡ closedGap m s (d + v + 1) end → m₂ ≡ lowerFrom places m₁ (s + (d + v + 1)) (d + v + 1) 0
-    → m₃ ≡ vacatedAt m₂ p → m₃ ≡ freedPlace m p
-unfolding freedPlace
-free-steps m m₁ m₂ m₃ p s d v u end h t e₁ e₂ e₃ e₄ e₅ e₆ e₇ e₈ =
-    let q : p % places ≡ p = mod-eq-of-lt h in
-    rw t (rw (e₈, e₇, e₆, e₅, e₄, e₁, e₂, e₃) (rw q))
+-- a start says nothing of which places are taken
+taken-stored : (m : List ℕ) (a v i : ℕ) → taken (set m (a * placeWords + firstRowWord) v) i ≡ taken m i
+unfolding taken
+taken-stored m a v i = rw (getD-set-other m (a * placeWords + firstRowWord) occupancyWord v 0 (omega arith))
+
+-- a start behind the gap is lowered; its place is told if it is taken and its rows stand later
+module _ (m : List ℕ) (x k i : ℕ) (l : Last) (h : x ≤ startWord m i) where
+  pub lowered-here : set m (i * placeWords + firstRowWord) (startWord m i - k) ≡ loweredAt m x k i
+  lowered-here = rw (le-leb x (startWord m i) h)
+
+  module _ (b : Bool) (t : b ≡ taken (set m (i * placeWords + firstRowWord) (startWord m i - k)) i) where
+    taken-is : (v : Bool) → b ≡ v → taken m i ≡ v
+    taken-is v e = sym (t ∙ taken-stored m i (startWord m i - k) i) ∙ e
+
+    pub later-free : b ≡ false → l ≡ later m x i l
+    later-free e = rw (le-leb x (startWord m i) h, taken-is false e)
+
+    pub later-not : b ≡ true → startWord m i ≤ l .start → l ≡ later m x i l
+    later-not e n = rw (le-leb x (startWord m i) h, taken-is true e, le-ltb (l .start) (startWord m i) n)
+
+    pub later-here : b ≡ true → l .start < startWord m i → record { place = i; start = startWord m i } ≡ later m x i l
+    later-here e y = rw (le-leb x (startWord m i) h, taken-is true e, lt-ltb (l .start) (startWord m i) y)
+
+-- The last plugin told: a start that was passed may be stored.
+last-stored : (n : ℕ) (m : List ℕ) (x i a v : ℕ) (l : Last) → a < i → lastFrom n (set m (a * placeWords + firstRowWord) v) x i l ≡ lastFrom n m x i l
+unfolding lastFrom
+last-stored zero m x i a v l h = refl
+last-stored (suc n) m x i a v l h =
+    let s = getD-set-other m (a * placeWords + firstRowWord) (i * placeWords + firstRowWord) v 0 (omega arith) in
+    rw (s, taken-stored m a v i) (last-stored n m x (i + 1) a v (later m x i l) (omega arith))
+
+pub last-next : (e : ℕ) (m : List ℕ) (x k i : ℕ) (l : Last) → i < e
+    → lastFrom (e - i) m x i l ≡ lastFrom (e - (i + 1)) (loweredAt m x k i) x (i + 1) (later m x i l)
+unfolding lastFrom
+last-next e m x k i l h =
+    let s : e - i ≡ suc (e - (i + 1)) = omega arith in
+    rw s (sym (last-stored (e - (i + 1)) m x (i + 1) i (lowered (startWord m i) x k) (later m x i l) (omega arith)))
+
+pub last-end : (e : ℕ) (m : List ℕ) (x i : ℕ) (l : Last) → e ≤ i → lastFrom (e - i) m x i l ≡ l
+unfolding lastFrom
+last-end e m x i l h = let s : e - i ≡ 0 = omega arith in rw s
+
+module _ (m : List ℕ) (x : ℕ) where
+  later-all : (P : Last → Type 0) (i : ℕ) (l : Last) → P l
+      → (taken m i ≡ true → l .start < startWord m i → P (record { place = i; start = startWord m i })) → P (later m x i l)
+  later-all P i l old new = by-test (leb x (startWord m i) && taken m i && ltb (l .start) (startWord m i))
+      (λ y. let t = both (leb x (startWord m i) && taken m i) _ y in rw y (new (both (leb x (startWord m i)) _ (t .0) .1) (ltb-true _ _ (t .1))))
+      (λ f. rw f old)
+
+  -- what holds of the first one, and of every taken place with its start, holds of the last
+  pub last-all : (P : Last → Type 0) → ((i : ℕ) → taken m i ≡ true → P (record { place = i; start = startWord m i })) → (n i : ℕ) (l : Last) → P l
+      → P (lastFrom n m x i l)
+  unfolding lastFrom
+  last-all P new zero i l p = p
+  last-all P new (suc n) i l p = last-all P new n (i + 1) (later m x i l) (later-all P i l p (λ t h. new i t))
+
+  -- its start is at or above the first one's, and those of the taken places behind the gap
+  last-above : (n i : ℕ) (l : Last) → l .start ≤ lastFrom n m x i l .start
+  unfolding lastFrom
+  last-above zero i l = omega arith
+  last-above (suc n) i l =
+      let r = last-above n (i + 1) (later m x i l) in
+      let h : l .start ≤ later m x i l .start = later-all (λ r. l .start ≤ r .start) i l (omega arith) (λ t h. omega arith) in
+      omega arith
+
+  later-high : (i : ℕ) (l : Last) → taken m i ≡ true → x ≤ startWord m i → startWord m i ≤ later m x i l .start
+  later-high i l t h = by-test (ltb (l .start) (startWord m i))
+      (λ y. rw (le-leb x (startWord m i) h, t, y) (omega arith))
+      (λ f. rw (le-leb x (startWord m i) h, t, f) (omega (arith, ltb-false (l .start) (startWord m i) f)))
+
+  pub last-high : (n i : ℕ) (l : Last) (j : ℕ) → i ≤ j → j < i + n → taken m j ≡ true → x ≤ startWord m j → startWord m j ≤ lastFrom n m x i l .start
+  unfolding lastFrom
+  last-high zero i l j a b t h = absurd (omega arith)
+  last-high (suc n) i l j a b t h =
+      let r = last-high n (i + 1) (later m x i l) j in
+      by-test (eqb i j)
+      (λ y. let e = eqb-true i j y in rw (← e) (omega (arith, later-high i l (rw e t) (rw e h), last-above n (i + 1) (later m x i l))))
+      (λ f. let e = eqb-false i j f in r (omega arith) (omega arith) t h)
+
+-- The remover's steps: on any words, what is told of the last plugin is its place, which is taken, and its start.
+module _ (m m₁ : List ℕ) (p s c : ℕ) (l : Last) (there : taken m p ≡ true) (e₁ : s ≡ startAt m (p % places)) (e₂ : c ≡ rowsAt m (p % places))
+    (e₃ : m₁ ≡ lowerFrom places m (s + c) c 0) (e₄ : l ≡ lastFrom places m (s + c) 0 (record { place = p; start = s })) where
+  same-place : p % places ≡ p
+  same-place = mod-eq-of-lt (taken-below m p there)
+
+  s-is : s ≡ startAt m p
+  s-is = e₁ ∙ ap (startAt m) same-place
+
+  c-is : c ≡ rowsAt m p
+  c-is = e₂ ∙ ap (rowsAt m) same-place
+
+  last-is : l ≡ lastBehind m p
+  unfolding lastBehind
+  last-is = e₄ ∙ rw (s-is, c-is)
+
+  told : (taken m (l .place) ≡ true) × (l .start % maxRows ≡ startAt m (l .place))
+  told = rw e₄ (last-all m (s + c) (λ l. (taken m (l .place) ≡ true) × (l .start % maxRows ≡ startAt m (l .place))) (λ i t. (t, refl)) places 0
+      (record { place = p; start = s }) (there, omega (arith, s-is)))
+
+  rows-stay : rowsAt m₁ (l .place % places) ≡ rowsAt m (l .place)
+  rows-stay =
+      let q : l .place % places ≡ l .place = mod-eq-of-lt (taken-below m (l .place) (told .0)) in
+      rw (q, e₃) (rw (
+        lower-other places m (s + c) c 0 (l .place * placeWords + dependenciesWord) (λ j a b. omega arith),
+        lower-other places m (s + c) c 0 (l .place * placeWords + provisionsWord) (λ j a b. omega arith),
+      ))
+
+  pub free-moved : (m₂ : List ℕ) (r : ℕ) → r ≡ rowsAt m₁ (l .place % places) → m₂ ≡ closedGap m₁ s c (l .start % maxRows + r)
+      → m₂ ≡ closedGap m₁ s c (endAt m (l .place))
+  free-moved m₂ r e₅ e₆ = e₆ ∙ rw (e₅, rows-stay, told .1)
+
+  pub free-stays : (m₂ : List ℕ) → l .place ≡ p → m₂ ≡ m₁ → m₂ ≡ closedGap m₁ s c (endAt m (l .place))
+  free-stays m₂ e₅ e₆ = e₆ ∙ sym (gap-none m₁ s c (endAt m (l .place)) (omega (arith, ap (endAt m) e₅, s-is, c-is)))
+
+  pub free-steps : (m₂ m₃ : List ℕ) → m₂ ≡ closedGap m₁ s c (endAt m (l .place)) → m₃ ≡ vacatedAt m₂ p → m₃ ≡ freedPlace m p
+  unfolding freedPlace
+  free-steps m₂ m₃ e₅ e₆ = rw there (rw (e₆, e₅, e₃, last-is, s-is, c-is))
 
 pub free-not : (m : List ℕ) (p : ℕ) → taken m p ≡ false → m ≡ freedPlace m p
 unfolding freedPlace
@@ -136,9 +244,10 @@ unfolding freedPlace
 freed-size m p =
     let s = startAt m p in
     let c = rowsAt m p in
-    let end = min (rowsInUse (view m)) maxRows in
+    let low = lowerFrom places m (s + c) c 0 in
+    let end = rowsEnd m p in
     by-test (taken m p)
     (λ t. rw t (
-    vacated-length (lowerFrom places (closedGap m s c end) (s + c) c 0) p ∙ lower-length places (closedGap m s c end) (s + c) c 0
-    ∙ moved-length ((end - (s + c)) * rowWords) m (rowWord s) (c * rowWords)))
+    vacated-length (closedGap low s c end) p ∙ moved-length ((end - (s + c)) * rowWords) low (rowWord s) (c * rowWords)
+    ∙ lower-length places m (s + c) c 0))
     (λ f. rw f)

@@ -6,8 +6,8 @@ use mathlib.Core.Bool.{true, false}
 use mathlib.Core.Logic.{_≢_}
 use mathlib.Core.List.{List}
 use lib.ListN.{length}
-use Rattle.memory.specs.Layout.{word, taken, placeWords, places, rowsStart, idWord, revisionWord, payloadWord, phaseWord, retiredWord, generationWord, rootWord}
-use Rattle.memory.specs.Layout.{rootRevisionWord, rootArgumentWord, firstRowWord, dependenciesWord, provisionsWord, placeEnd, rowWords}
+use Rattle.memory.specs.Layout.{word, taken, rowWord, placeWords, places, rowsStart, idWord, revisionWord, payloadWord, phaseWord, retiredWord, generationWord}
+use Rattle.memory.specs.Layout.{rootWord, rootRevisionWord, rootArgumentWord, firstRowWord, dependenciesWord, provisionsWord, placeEnd, rowWords}
 use Rattle.memory.specs.View.{lifeAt, decoded, pluginAt}
 use Rattle.memory.specs.Frames.{Kept, withLife, plugin-kept}
 use Rattle.memory.specs.Stores.{kept-frame}
@@ -27,8 +27,8 @@ pub record Removes (m m′ : List ℕ) (p : ℕ) : Type 0 where
   pub words : (j k : ℕ) → j < places → idWord ≤ k → k < placeEnd → k ≢ firstRowWord → word m′ (j * placeWords + k) ≡ word m (j * placeWords + k)
   pub starts : (j : ℕ) → j < places → startWord m′ j ≡ lowered (startWord m j) (startWord m p + rowsAt m p) (rowsAt m p)
   pub above : (k : ℕ) → k < startWord m p * rowWords → word m′ (rowsStart + k) ≡ word m (rowsStart + k)
-  pub below : (k : ℕ) → (startWord m p + rowsAt m p) * rowWords ≤ k → k < used m * rowWords
-      → word m′ (rowsStart + (k - rowsAt m p * rowWords)) ≡ word m (rowsStart + k)
+  pub below : (j : ℕ) → taken m j ≡ true → startWord m p + rowsAt m p ≤ startWord m j → (k : ℕ) → k < rowsAt m j * rowWords
+      → word m′ (rowWord (startWord m j - rowsAt m p) + k) ≡ word m (rowWord (startWord m j) + k)
 
 module _ (m m′ : List ℕ) (p : ℕ) (there : taken m p ≡ true) (d : Dense m) (r : Removes m m′ p) where
   p-below : p < places
@@ -88,11 +88,7 @@ module _ (m m′ : List ℕ) (p : ℕ) (there : taken m p ≡ true) (d : Dense m
       let f : startWord m′ j * rowWords + rowsStart + k ≡ rowsStart + (startWord m j * rowWords + k) = omega arith in
       let g : startWord m j * rowWords + rowsStart + k ≡ rowsStart + (startWord m j * rowWords + k) = omega arith in
       ap (word m′) f ∙ r .above (startWord m j * rowWords + k) (omega arith) ∙ sym (ap (word m) g)
-  row-word j h t (behind a e) k l =
-      let b = d .tiled .below j h t in
-      let f : startWord m′ j * rowWords + rowsStart + k ≡ rowsStart + (startWord m j * rowWords + k - rowsAt m p * rowWords) = omega arith in
-      let g : startWord m j * rowWords + rowsStart + k ≡ rowsStart + (startWord m j * rowWords + k) = omega arith in
-      ap (word m′) f ∙ r .below (startWord m j * rowWords + k) (omega arith) (omega arith) ∙ sym (ap (word m) g)
+  row-word j h t (behind a e) k l = ap (λ s. word m′ (rowWord s + k)) e ∙ r .below j t a k l
 
   life-same : (j : ℕ) → j < places → lifeAt m′ j ≡ lifeAt m j
   unfolding lifeAt

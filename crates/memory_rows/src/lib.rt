@@ -1,10 +1,10 @@
 // The rows of the registry's memory. A plugin's rows stand together; where one goes, those behind it come down.
 ghost use mathlib.Core.Path.{_≡_};
 ghost use Prim.Native.Nat.{_<_, _≤_, _+_, _%_};
-ghost use lib.ListN.{set};
 ghost use Rattle.rules.specs.Limits.{maxRows, maxPluginRows};
-ghost use Rattle.memory.specs.Layout.{word, memoryWords, places};
-ghost use Rattle.memory_rows.specs.Moves.{lowered, closedGap, lowerFrom, freedPlace};
+ghost use Rattle.memory.specs.Layout.{places};
+ghost use Rattle.memory_places.specs.Rows.{rowsAt};
+ghost use Rattle.memory_rows.specs.Moves.{closedGap, loweredAt, lowerFrom, later, lastFrom, freedPlace};
 use memory::WORDS;
 use memory::layout;
 use memory::layout::PLACE_WORDS;
@@ -13,32 +13,51 @@ use memory::layout::ROW_WORDS;
 use memory::layout::ROWS_START;
 use rules::limits;
 
-// A start behind a gap comes down; any other is not written.
-fn lower_start(m: &mut [u64; WORDS], at: usize, end: usize, count: usize)
-    requires { ⌜ (count ≤ end) × (at < memoryWords) ⌝ }
-    ensures { λ _. ⌜ now (m .exit) ≡ set (now (m .entry)) at (lowered (word (now (m .entry)) at) end count) ⌝ }
-{
-    let start = m[at] as usize;
-    if end <= start {
-        m[at] = (start - count) as u64;
-    }
+// A place, and the start of its rows before it came down.
+struct Last {
+    place: usize,
+    start: usize,
 }
 
-// The starts behind a gap come down.
-fn lower_starts(m: &mut [u64; WORDS], end: usize, count: usize)
-    requires { ⌜ count ≤ end ⌝ }
-    ensures { λ _. ⌜ now (m .exit) ≡ lowerFrom places (now (m .entry)) end count 0 ⌝ }
+// A start behind a gap comes down; any other is not written. Its place is the last one, if it is taken and its rows stand later than those of the last one so far.
+fn lower_start(m: &mut [u64; WORDS], place: usize, end: usize, count: usize, last: Last) -> Last
+    requires { ⌜ (count ≤ end) × (place < places) ⌝ }
+    ensures { λ r. ⌜ (now (m .exit) ≡ loweredAt (now (m .entry)) end count place) × (r ≡ later (now (m .entry)) end place last) ⌝ }
 {
+    let at = place * PLACE_WORDS + layout::FIRST_ROW;
+    let start = m[at] as usize;
+    if start < end {
+        return last;
+    }
+    m[at] = (start - count) as u64;
+    if memory::is_taken(m, place) {
+        if last.start < start {
+            return Last {
+                place: place,
+                start: start,
+            };
+        }
+    }
+    last
+}
+
+// The starts behind a gap come down. Of one place and the taken ones behind the gap, the one whose rows stand last is told: all rows end with its own.
+fn lower_starts(m: &mut [u64; WORDS], end: usize, count: usize, first: Last) -> Last
+    requires { ⌜ count ≤ end ⌝ }
+    ensures { λ r. ⌜ (now (m .exit) ≡ lowerFrom places (now (m .entry)) end count 0) × (r ≡ lastFrom places (now (m .entry)) end 0 first) ⌝ }
+{
+    let mut last = first;
     let mut i: usize = 0;
     while i < PLACES {
-        lower_start(m, i * PLACE_WORDS + layout::FIRST_ROW, end, count);
+        last = lower_start(m, i, end, count, last);
         i += 1;
     }
+    last
 }
 
 // The rows behind a gap move down over it.
 fn close_gap(m: &mut [u64; WORDS], start: usize, count: usize, end: usize)
-    requires { ⌜ (start + count ≤ maxRows + maxPluginRows) × (end ≤ maxRows) ⌝ }
+    requires { ⌜ (start + count ≤ maxRows + maxPluginRows) × (end < maxRows + maxPluginRows) ⌝ }
     ensures { λ _. ⌜ now (m .exit) ≡ closedGap (now (m .entry)) start count end ⌝ }
 {
     if end < start + count {
@@ -53,17 +72,30 @@ fn close_gap(m: &mut [u64; WORDS], start: usize, count: usize, end: usize)
     }
 }
 
-// A place and its rows are free again.
+// How many rows a place has: dependencies, anchor and provisions.
+fn rows_of(m: &[u64; WORDS], place: usize) -> usize
+    ensures { λ r. ⌜ r ≡ rowsAt (now (m .entry)) (place % places) ⌝ }
+{
+    memory_lists::dependencies(m, place) + memory_lists::provisions(m, place) + 1
+}
+
+// A place and its rows are free again. Where its rows stand last, none are moved.
 pub fn free_place(m: &mut [u64; WORDS], place: usize)
     ensures { λ _. ⌜ now (m .exit) ≡ freedPlace (now (m .entry)) (place % places) ⌝ }
 {
     let p = place % PLACES;
     if memory::is_taken(m, p) {
         let start = memory_lists::start(m, p);
-        let count = memory_lists::dependencies(m, p) + memory_lists::provisions(m, p) + 1;
-        let end = memory_lists::at_most(memory_places::rows_in_use(m), limits::ROWS);
-        close_gap(m, start, count, end);
-        lower_starts(m, start + count, count);
+        let count = rows_of(m, p);
+        let first = Last {
+            place: p,
+            start: start,
+        };
+        let last = lower_starts(m, start + count, count, first);
+        if last.place != p {
+            let end = last.start % limits::ROWS + rows_of(m, last.place);
+            close_gap(m, start, count, end);
+        }
         memory_places::vacate(m, p);
     }
 }

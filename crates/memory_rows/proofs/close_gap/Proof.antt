@@ -20,7 +20,7 @@ add-if1 : tie.Need-add-if1 Inv-loop μ-loop
 add-if1 c = search needs
 
 returns : tie.Need-returns Inv-loop μ-loop
-returns c = sym (gap-none _ _ _ _ (c .if1 .taken))
+returns c = sym (gap-none _ _ _ _ (omega arith))
 
 mul-k : tie.Need-mul-k Inv-loop μ-loop
 mul-k c = search needs
