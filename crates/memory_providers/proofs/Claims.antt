@@ -1,12 +1,12 @@
 -- Claimed ports against a place's, all at once.
 use Prim.Native.Nat.{ℕ, _+_, _*_, _<_, _%_}
 use native.Mathlib.Nat.{mod-eq-of-lt}
-use mathlib.Core.Path.{_≡_, refl, sym, ap, _∙_}
-use mathlib.Core.Bool.{Bool, true, false, _&&_, _||_}
+use mathlib.Core.Path.{_≡_, sym, ap, _∙_}
+use mathlib.Core.Bool.{Bool, true, _&&_}
 use mathlib.Core.List.{List}
 use lib.ListN.{length}
 use Rattle.rules.specs.Basics.{any, isSome}
-use Rattle.rules.specs.Holds.{Plugin, held, isIn, provides, provider, samePort, provided}
+use Rattle.rules.specs.Holds.{Plugin, held, provides, provider, samePort}
 use Rattle.rules_types.specs.declared.Port.{Port}
 use Rattle.rules.specs.Ports.{pairs}
 use Rattle.rules_laws.specs.Laws.Members.{same-swap}
@@ -15,34 +15,22 @@ use Rattle.memory.specs.View.{pluginAt, placesFrom, view}
 use Rattle.memory.specs.Lookups.{placed, searchFrom, search-first}
 use Rattle.memory.specs.declared.Place.{Place}
 use Rattle.memory_providers.specs.declared.KeyBits.{KeyBits}
-use Rattle.memory_providers.specs.Providers.{offeredPart, offered-claims, noBits, keyBits, wanted}
-use Rattle.memory_providers.proofs.Exchange.{any-same, exchange, is-first}
-use Rattle.memory_providers.proofs.Keys.{wanted-is}
+use Rattle.memory_providers.specs.Providers.{offeredPart, noBits, keyBits, wanted}
+use Rattle.memory_providers.specs.Claimed.{wanted-is, any-same, offered-is}
+use Rattle.memory_providers.proofs.Exchange.{exchange, is-first}
 
 -- the words, by what is read of the place
 pub offered-words : (m l : List ℕ) (j s d n : ℕ) → s ≡ startAt m j → d ≡ depsAt m j → n ≡ provsAt m j
     → l ≡ part m ((s + d) * rowWords + rowsStart) ((n + 1) * rowWords) → l ≡ offeredPart m j
 offered-words m l j s d n e f g h = rw (e, f, g) at h
 
--- what a place offers is what its plugin provides
-or-swap : (a b : Bool) → (a || b) ≡ (b || a)
-or-swap true true = refl
-or-swap true false = refl
-or-swap false true = refl
-or-swap false false = refl
-
 module _ (m : List ℕ) (i : ℕ) (size : length m ≡ memoryWords) where
-  offered-is : (q : Port) → isIn q (pairs (offeredPart m i)) ≡ provides (pluginAt m i) q
-  offered-is q =
-      ap (isIn q) (offered-claims m i size)
-      ∙ or-swap (samePort q (pluginAt m i .anchor)) (isIn q (provided (pluginAt m i)))
-
   -- whichever of the two lists is gone through
   met : (qs : List Port) → any (λ q. wanted (keyBits noBits qs) qs q) (pairs (offeredPart m i)) ≡ any (λ q. provides (pluginAt m i) q) qs
   met qs =
       any-same _ _ (wanted-is qs) (pairs (offeredPart m i))
       ∙ exchange (λ (p q : Port). samePort q p) qs (pairs (offeredPart m i))
-      ∙ any-same _ _ (λ q. any-same _ _ (λ p. same-swap p q) (pairs (offeredPart m i)) ∙ offered-is q) qs
+      ∙ any-same _ _ (λ q. any-same _ _ (λ p. same-swap p q) (pairs (offeredPart m i)) ∙ offered-is m i size q) qs
 
   -- where a test of the place passed
   pub offers-claimed : (t : Bool) (qs : List Port) (w : KeyBits) (b : Bool) → w ≡ keyBits noBits qs

@@ -9,10 +9,6 @@ pub is-first : {A : Type 0} (f : A → Bool) (ps : List A) → isSome (first f p
 is-first f [] = refl
 is-first f (p ∷ ps) = let r = is-first f ps in by-test (f p) (λ t. rw t) (λ n. rw n r)
 
-pub any-same : {A : Type 0} (f g : A → Bool) → ((q : A) → f q ≡ g q) → (qs : List A) → any f qs ≡ any g qs
-any-same f g h [] = refl
-any-same f g h (q ∷ qs) = let r = any-same f g h qs in rw (h q, r)
-
 any-none : {A : Type 0} (qs : List A) → any (λ (q : A). false) qs ≡ false
 any-none [] = refl
 any-none (q ∷ qs) = any-none qs

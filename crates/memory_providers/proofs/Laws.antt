@@ -3,10 +3,9 @@ use Prim.Native.Nat.{ℕ, suc, _+_, _-_, _<_, _≤_, _%_}
 use native.Mathlib.Omega.{arith}
 use native.Mathlib.Nat.{mod-eq-of-lt}
 use mathlib.Core.Path.{_≡_, sym, ap, _∙_}
-use mathlib.Core.Bool.{Bool, true, false, _&&_}
+use mathlib.Core.Bool.{Bool, true, false, _&&_, or-true, or-false}
 use mathlib.Core.List.{List}
-use lib.Dec.{eqb}
-use borrow.Author.Tests.{eq-eqb, ne-eqb}
+use borrow.Author.Tests.{eq-eqb}
 use Rattle.rules.specs.Holds.{Plugin, isIn, provides, provided, samePort}
 use Rattle.rules_types.specs.declared.Port.{Port}
 use Rattle.rules.specs.Ports.{pairs}
@@ -15,24 +14,22 @@ use Rattle.memory.specs.View.{anchorAt, pluginAt}
 use Rattle.memory.specs.Lookups.{searchFrom}
 use Rattle.memory.specs.declared.Place.the-variants.{At, None}
 use Rattle.memory_lists.specs.Listed.{provided-at}
+use Rattle.ports.specs.Places.{not-same}
 
-module _ (m : List ℕ) (p : ℕ) (q : Port) (ws : List ℕ) (b : Bool) (e : ws ≡ provPart m p) (f : b ≡ isIn q (pairs ws)) where
-  among : b ≡ isIn q (provided (pluginAt m p))
-  among = f ∙ ap (λ l. isIn q (pairs l)) e ∙ ap (isIn q) (sym (provided-at m p))
+-- the anchor, then the provisions
+module _ (m : List ℕ) (p : ℕ) (q a : Port) (e : a ≡ anchorAt m p) where
+  pub provides-anchor : q .key ≡ a .key → q .realm ≡ a .realm → true ≡ provides (pluginAt m p) q
+  unfolding pluginAt
+  provides-anchor k r =
+      let h : samePort q (anchorAt m p) ≡ true = ap (samePort q) (sym e) ∙ rw (eq-eqb _ _ k, eq-eqb _ _ r) in
+      sym (rw h (or-true (isIn q (provided (pluginAt m p)))))
 
-  pub provides-provision : b ≡ true → true ≡ provides (pluginAt m p) q
-  provides-provision t = rw (sym among ∙ t)
-
-  module _ (a : Port) (g : a ≡ anchorAt m p) (n : b ≡ false) where
-    anchor-is : provides (pluginAt m p) q ≡ samePort q a
-    unfolding pluginAt
-    anchor-is = rw (sym among ∙ n) (ap (samePort q) (sym g))
-
-    pub provides-anchor : q .key ≡ a .key → eqb (q .realm) (a .realm) ≡ provides (pluginAt m p) q
-    provides-anchor k = sym (anchor-is ∙ rw (eq-eqb _ _ k))
-
-    pub provides-not : (q .key ≡ a .key → ⊥) → false ≡ provides (pluginAt m p) q
-    provides-not k = sym (anchor-is ∙ rw (ne-eqb _ _ k))
+  pub provides-provision : (q .key ≡ a .key → q .realm ≡ a .realm → ⊥) → (ws : List ℕ) → ws ≡ provPart m p
+      → (b : Bool) → b ≡ isIn q (pairs ws) → b ≡ provides (pluginAt m p) q
+  unfolding pluginAt
+  provides-provision n ws f b g =
+      let h : samePort q (anchorAt m p) ≡ false = ap (samePort q) (sym e) ∙ not-same q a n in
+      g ∙ ap (λ l. isIn q (pairs l)) f ∙ ap (isIn q) (sym (provided-at m p)) ∙ sym (rw h (or-false (isIn q (provided (pluginAt m p)))))
 
 -- a place's own number
 pub offers-taken : (m : List ℕ) (i : ℕ) (q : Port) (b : Bool) → i < places → taken m i ≡ true → b ≡ provides (pluginAt m (i % places)) q

@@ -1,3 +1,4 @@
 pub mod Bits
 pub mod Providers
+pub mod Claimed
 pub mod Words

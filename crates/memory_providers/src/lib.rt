@@ -17,24 +17,22 @@ use memory::layout::ROW_WORDS;
 use memory::layout::ROWS_START;
 
 // The claimed keys: a bit for each key's remainder by 64, and one for that of its quotient by 64. Two plugins' ports rarely share both.
-struct KeyBits {
-    low: u64,
-    high: u64,
+pub struct KeyBits {
+    pub low: u64,
+    pub high: u64,
 }
 
 // Whether the plugin of a place has the port as provision or anchor.
 pub fn provides(m: &[u64; WORDS], place: usize, key: u64, realm: u64) -> bool
     ensures { λ r. ⌜ r ≡ provides (pluginAt (now (m .entry)) (place % places)) (port key realm) ⌝ }
 {
-    if ports::has_port(memory_lists::provision_words(m, place), key, realm) {
-        return true;
-    }
     let anchor = memory_lists::anchor(m, place);
     if key == anchor.key {
-        realm == anchor.realm
-    } else {
-        false
+        if realm == anchor.realm {
+            return true;
+        }
     }
+    ports::has_port(memory_lists::provision_words(m, place), key, realm)
 }
 
 // Whether this place is taken and its plugin provides the port.
@@ -87,7 +85,8 @@ pub fn has_bit(word: u64, n: u64) -> bool
     (word >> (n % 64)) % 2 == 1
 }
 
-fn key_bits(claims: &[u64]) -> KeyBits
+// The bits of the keys of a list of ports.
+pub fn key_bits(claims: &[u64]) -> KeyBits
     ensures { λ r. ⌜ r ≡ keyBits noBits (pairs (now (claims .entry))) ⌝ }
 {
     let mut low: u64 = 0;
@@ -116,7 +115,7 @@ fn is_claimed(bits: KeyBits, key: u64, realm: u64, claims: &[u64]) -> bool
 }
 
 // Whether one of the offered ports is claimed.
-fn meets(bits: KeyBits, claims: &[u64], offered: &[u64]) -> bool
+pub fn meets(bits: KeyBits, claims: &[u64], offered: &[u64]) -> bool
     ensures { λ r. ⌜ r ≡ any (λ q. wanted bits (pairs (now (claims .entry))) q) (pairs (now (offered .entry))) ⌝ }
 {
     let mut row: usize = 1;

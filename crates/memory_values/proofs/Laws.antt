@@ -12,13 +12,13 @@ use lib.Count.{trailingZeros, under}
 use lib.Dec.{eqb, ltb}
 use lib.ListN.{length, set}
 use lib.Pow.{pow-lt, pow-pos, shr-shr, field, mod-mod-pow}
-use borrow.Author.Tests.{eq-eqb, eqb-true, eqb-false, lt-ltb, le-ltb}
+use borrow.Author.Tests.{eq-eqb, eqb-true, eqb-false, lt-ltb, le-ltb, ltb-true}
 use Rattle.rules.specs.Basics.{pick}
 use Rattle.rules_types.specs.declared.Port.{Port}
 use Rattle.rules.specs.Holds.{samePort}
 use Rattle.rules.specs.Ports.{pairs}
 use Rattle.rules.specs.Values.{valueIn}
-use Rattle.rules_laws.specs.Laws.Tests.{by-test}
+use Rattle.rules_laws.specs.Laws.Tests.{by-test, both}
 use Rattle.rules_laws.specs.Laws.Members.{same-port}
 use Rattle.rules.specs.Limits.{maxProvisionKeys}
 use Rattle.memory.specs.Layout.{word, provPart, placeWords, maskWord, valuesWord}
@@ -27,33 +27,57 @@ use Rattle.memory_places.specs.Bits.{or-free}
 use Rattle.ports.specs.Places.{length-pairs}
 use Rattle.ports.specs.declared.Found.{Found}
 use Rattle.ports.specs.declared.Found.the-variants.{At, None}
-use Rattle.memory_values.specs.Values.{maskAt, maskBit, portFrom, lackFrom, withValue}
+use Rattle.memory_values.specs.Values.{maskAt, maskBit, portFrom, lackFrom, withValue, hasValue, valueBelow, withValueBelow, value-below}
+use Rattle.memory_values.specs.Values.{with-value-below}
 use Rattle.memory_values.specs.Firsts.{provisions-at, few-words, port-below, value-there, value-nowhere}
 
-module _ (m : List ℕ) (i j : ℕ) (b : Bool) (e : b ≡ eqb (maskBit m i j) 1) where
-  pub value-is : b ≡ true → some (word m (i * placeWords + valuesWord + j)) ≡ valueAt m i j
-  unfolding valueAt
-  value-is t = rw (sym e ∙ t)
+-- past the 15th provision, and one of the 15
+module _ (m : List ℕ) (i j : ℕ) where
+  pub past-has : maxProvisionKeys ≤ j → false ≡ hasValue m i j
+  unfolding hasValue
+  past-has h = rw (le-ltb j maxProvisionKeys h)
 
-  pub value-not : b ≡ false → none ≡ valueAt m i j
-  unfolding valueAt
-  value-not f = rw (sym e ∙ f)
+  pub past-set : maxProvisionKeys ≤ j → (v : ℕ) → m ≡ withValueBelow m i j v
+  unfolding withValueBelow
+  past-set h v = rw (le-ltb j maxProvisionKeys h)
+
+  pub below-has : j < maxProvisionKeys → eqb (maskBit m i j) 1 ≡ hasValue m i j
+  unfolding hasValue
+  below-has h = rw (lt-ltb j maxProvisionKeys h)
+
+module _ (m : List ℕ) (i j : ℕ) (b : Bool) (e : b ≡ hasValue m i j) where
+  there : b ≡ true → (ltb j maxProvisionKeys ≡ true) × (eqb (maskBit m i j) 1 ≡ true)
+  unfolding hasValue
+  there t = both (ltb j maxProvisionKeys) (eqb (maskBit m i j) 1) (sym e ∙ t)
+
+  pub value-under : b ≡ true → j < maxProvisionKeys
+  value-under t = ltb-true j maxProvisionKeys (there t .0)
+
+  pub value-is : b ≡ true → some (word m (i * placeWords + valuesWord + j)) ≡ valueBelow m i j
+  unfolding valueAt valueBelow
+  value-is t = rw (there t .0, there t .1)
+
+  lacking : b ≡ false → j < maxProvisionKeys → eqb (maskBit m i j) 1 ≡ false
+  lacking f h = below-has m i j h ∙ sym e ∙ f
+
+  pub value-not : b ≡ false → none ≡ valueBelow m i j
+  unfolding valueAt valueBelow
+  value-not f = by-test (ltb j maxProvisionKeys) (λ y. rw (y, lacking f (ltb-true j maxProvisionKeys y))) (λ n. rw n)
 
   -- a value that is there stays; else the mask's bit is 0, and set by a sum
-  pub value-stays : b ≡ true → (v : ℕ) → m ≡ withValue m i j v
-  unfolding withValue
-  value-stays t v = rw (sym e ∙ t)
+  pub value-stays : b ≡ true → (v : ℕ) → m ≡ withValueBelow m i j v
+  unfolding withValue withValueBelow
+  value-stays t v = rw (there t .0, there t .1)
 
-  bit-zero : b ≡ false → maskBit m i j ≡ 0
-  bit-zero f = let n = eqb-false (maskBit m i j) 1 (sym e ∙ f) in omega arith
-
-  pub value-set : b ≡ false → j < 64 → (v : ℕ)
-      → set (set m (i * placeWords + maskWord) (bitOr (maskAt m i) ((1 * 2 ^ j) % 2 ^ 64))) (i * placeWords + valuesWord + j) v ≡ withValue m i j v
+  pub value-set : b ≡ false → j < maxProvisionKeys → (v : ℕ)
+      → set (set m (i * placeWords + maskWord) (bitOr (maskAt m i) ((1 * 2 ^ j) % 2 ^ 64))) (i * placeWords + valuesWord + j) v ≡ withValueBelow m i j v
   unfolding withValue
   value-set f h v =
-      let one : (1 * 2 ^ j) % 2 ^ 64 ≡ 2 ^ j = ap (λ x. x % 2 ^ 64) (one-mul (2 ^ j)) ∙ mod-eq-of-lt (pow-lt h) in
-      let s : bitOr (maskAt m i) ((1 * 2 ^ j) % 2 ^ 64) ≡ maskAt m i + 2 ^ j = rw one (or-free j (maskAt m i) (bit-zero f)) in
-      rw (sym e ∙ f, s)
+      let n = eqb-false (maskBit m i j) 1 (lacking f h) in
+      let k : j < 64 = omega arith in
+      let one : (1 * 2 ^ j) % 2 ^ 64 ≡ 2 ^ j = ap (λ x. x % 2 ^ 64) (one-mul (2 ^ j)) ∙ mod-eq-of-lt (pow-lt k) in
+      let s : bitOr (maskAt m i) ((1 * 2 ^ j) % 2 ^ 64) ≡ maskAt m i + 2 ^ j = rw one (or-free j (maskAt m i) (omega arith)) in
+      rw (with-value-below m i j v h, lacking f h, s)
 
 -- a list that starts with p
 module _ {l ps : List Port} {p : Port} (s : l ≡ p ∷ ps) where
@@ -141,8 +165,7 @@ module _ (m : List ℕ) (i : ℕ) (q : Port) (ws : List ℕ) (w : ws ≡ provPar
   pub no-value : f ≡ None → none ≡ valueIn q (pluginAt m i .provisions)
   no-value n = sym (ap (valueIn q) (provisions-at m i) ∙ value-nowhere m i q (pairs (provPart m i)) (sym found ∙ n))
 
-  pub its-value : (j : ℕ) → f ≡ At j → valueAt m i (j % maxProvisionKeys) ≡ valueIn q (pluginAt m i .provisions)
+  pub its-value : (j : ℕ) → f ≡ At j → valueBelow m i j ≡ valueIn q (pluginAt m i .provisions)
   its-value j n =
       let e = sym found ∙ n in
-      let h = port-below m i q j e in
-      ap (valueAt m i) (mod-eq-of-lt (omega arith)) ∙ sym (ap (valueIn q) (provisions-at m i) ∙ value-there m i q (pairs (provPart m i)) j e)
+      value-below m i j (port-below m i q j e) ∙ sym (ap (valueIn q) (provisions-at m i) ∙ value-there m i q (pairs (provPart m i)) j e)

@@ -1,16 +1,14 @@
-// A plugin's values: one for each provision, or none. Every function takes any words; a place is read modulo 32, a provision's number modulo 15.
+// A plugin's values: one for each provision, or none. Every function takes any words; a place is read modulo 32, and there are 15 provisions.
 ghost use mathlib.Core.Path.{_≡_};
 ghost use Prim.Native.Nat.{_+_, _*_, _%_};
-ghost use lib.Dec.{eqb};
 ghost use lib.ListN.{set};
 ghost use Rattle.rules.specs.Holds.{port};
 ghost use Rattle.rules.specs.Ports.{pairs};
 ghost use Rattle.rules.specs.Values.{valueIn};
-ghost use Rattle.rules.specs.Limits.{maxProvisionKeys};
 ghost use Rattle.rules.specs.Answers.{optionOf};
-ghost use Rattle.memory.specs.View.{valueAt, pluginAt};
+ghost use Rattle.memory.specs.View.{pluginAt};
 ghost use Rattle.memory.specs.Layout.{placeWords, places, maskWord};
-ghost use Rattle.memory_values.specs.Values.{maskBit, portFrom, lackFrom, withValue, putValues};
+ghost use Rattle.memory_values.specs.Values.{hasValue, valueBelow, portFrom, lackFrom, withValueBelow, putValues};
 use memory::WORDS;
 use memory::layout;
 use memory::layout::LOW_HALF;
@@ -20,22 +18,25 @@ use ports::Found;
 use rules::Optional;
 use rules::limits;
 
-// Whether a provision has a value: its bit in the mask.
+// Whether a provision has a value: its bit in the mask. Past the 15th none has.
 fn has_value(m: &[u64; WORDS], place: usize, provision: usize) -> bool
-    ensures { λ r. ⌜ r ≡ eqb (maskBit (now (m .entry)) (place % places) (provision % maxProvisionKeys)) 1 ⌝ }
+    ensures { λ r. ⌜ r ≡ hasValue (now (m .entry)) (place % places) provision ⌝ }
 {
-    let b = place % PLACES * PLACE_WORDS;
-    (m[b + layout::MASK] >> (provision % limits::PROVISION_KEYS)) % 2 == 1
+    if provision < limits::PROVISION_KEYS {
+        let b = place % PLACES * PLACE_WORDS;
+        (m[b + layout::MASK] >> provision) % 2 == 1
+    } else {
+        false
+    }
 }
 
 // The value of a provision, or nothing.
 pub fn value_at(m: &[u64; WORDS], place: usize, provision: usize) -> Optional
-    ensures { λ r. ⌜ optionOf r ≡ valueAt (now (m .entry)) (place % places) (provision % maxProvisionKeys) ⌝ }
+    ensures { λ r. ⌜ optionOf r ≡ valueBelow (now (m .entry)) (place % places) provision ⌝ }
 {
     if has_value(m, place, provision) {
         let b = place % PLACES * PLACE_WORDS;
-        let j = provision % limits::PROVISION_KEYS;
-        Optional::Is(m[b + layout::VALUES + j])
+        Optional::Is(m[b + layout::VALUES + provision])
     } else {
         Optional::None
     }
@@ -82,17 +83,19 @@ pub fn first_lacking(m: &[u64; WORDS], place: usize) -> Found
     }
 }
 
-// A provision that has no value gets one.
+// A provision that has no value gets one. Past the 15th nothing changes.
 pub fn set_value(m: &mut [u64; WORDS], place: usize, provision: usize, value: u64)
-    ensures { λ _. ⌜ now (m .exit) ≡ withValue (now (m .entry)) (place % places) (provision % maxProvisionKeys) value ⌝ }
+    ensures { λ _. ⌜ now (m .exit) ≡ withValueBelow (now (m .entry)) (place % places) provision value ⌝ }
 {
+    if limits::PROVISION_KEYS <= provision {
+        return;
+    }
     if has_value(m, place, provision) {
         return;
     }
     let b = place % PLACES * PLACE_WORDS;
-    let j = provision % limits::PROVISION_KEYS;
-    m[b + layout::MASK] = m[b + layout::MASK] | 1 << j;
-    m[b + layout::VALUES + j] = value;
+    m[b + layout::MASK] = m[b + layout::MASK] | 1 << provision;
+    m[b + layout::VALUES + provision] = value;
 }
 
 // No provision of the place has a value any more.

@@ -48,6 +48,12 @@ memory-providers-with-bit κs a r s ms ns p q = by-equation p q
 pub memory-providers-has-bit : One memory_providers.«has_bit».ended memory_providers.«has_bit».Reads.Learnt
 memory-providers-has-bit κs a r s ms ns p q = by-equation p q
 
+pub memory-providers-key-bits : One memory_providers.«key_bits».ended memory_providers.«key_bits».Reads.Learnt
+memory-providers-key-bits κs a r s ms ns p q = by-equation p q
+
+pub memory-providers-meets : One memory_providers.meets.ended memory_providers.meets.Reads.Learnt
+memory-providers-meets κs a r s ms ns p q = by-equation p q
+
 pub memory-providers-providers-among : One memory_providers.«providers_among».ended memory_providers.«providers_among».Reads.Learnt
 memory-providers-providers-among κs a r s ms ns p q = by-equation p q
 

@@ -1,22 +1,24 @@
 -- Lookups in a list of ports, at any place; lists that are the same.
-use Prim.Native.Nat.{ℕ, _+_, _-_}
-use mathlib.Core.Path.{_≡_, refl, sym, ap}
-use mathlib.Core.Bool.{true, false}
+use Prim.Native.Nat.{ℕ, zero, suc, _+_, _*_}
+use mathlib.Core.Path.{_≡_, refl, sym, ap, _∙_}
+use mathlib.Core.Bool.{Bool, true, false, or-true}
 use mathlib.Core.List.{List, [], _∷_}
+use lib.ListN.{drop}
 use borrow.Author.Tests.{eq-eqb, ne-eqb}
 pub use Rattle.rules_laws.specs.Laws.Pairs.{pairs-at, pairs-behind, pairs-end, part-end, length-pairs, length-flat, odd-length, length-odd, length-even}
 pub use Rattle.rules_laws.specs.Laws.Pairs.{even-length, flat-pairs, flat-pairs-even, pairs-flat, flat-append, pairs-take, pairs-drop, pairs-whole, pairs-get}
 pub use Rattle.rules_laws.specs.Laws.Pairs.{flat-get, pairs-same-length, pairs-same}
 use Rattle.rules_types.specs.declared.Port.{Port}
+use Rattle.rules.specs.Basics.{any}
 use Rattle.rules.specs.Holds.{samePort, isIn}
-use Rattle.rules.specs.Ports.{samePorts}
+use Rattle.rules.specs.Ports.{pairs, samePorts}
 use Rattle.rules.specs.Registration.{repeats}
 use Rattle.rules_laws.specs.Laws.Tests.{by-test, both}
 use Rattle.rules_laws.specs.Laws.Members.{same-port, same-self}
 use Rattle.ports.specs.declared.Found.the-variants.{At}
 use Rattle.ports.specs.Answers.{firstFrom}
 
-not-same : (p q : Port) → (p .key ≡ q .key → p .realm ≡ q .realm → ⊥) → samePort p q ≡ false
+pub not-same : (p q : Port) → (p .key ≡ q .key → p .realm ≡ q .realm → ⊥) → samePort p q ≡ false
 not-same p q n = by-test (samePort p q)
     (λ t. let e = same-port p q t in absurd (n (ap (λ (v : Port). v .key) (sym e)) (ap (λ (v : Port). v .realm) (sym e))))
     (λ f. f)
@@ -42,6 +44,15 @@ module _ {l ps : List Port} {p : Port} (s : l ≡ p ∷ ps) where
 
   pub repeats-miss : isIn p ps ≡ false → repeats l ≡ repeats ps
   repeats-miss e = rw (s, e)
+
+-- what is among those from a place on is among all
+pub any-later : {A : Type 0} (f : A → Bool) (n : ℕ) (l : List A) → any f (drop n l) ≡ true → any f l ≡ true
+any-later f zero l e = e
+any-later f (suc n) [] e = e
+any-later f (suc n) (x ∷ l) e = rw (any-later f n l e) (or-true (f x))
+
+pub in-later : (q : Port) (n : ℕ) (l : List ℕ) → isIn q (pairs (drop (n * 2) l)) ≡ true → isIn q (pairs l) ≡ true
+in-later q n l e = any-later (samePort q) n (pairs l) (ap (isIn q) (pairs-drop n l) ∙ e)
 
 -- the same ports are the same list
 pub same-refl : (ps : List Port) → samePorts ps ps ≡ true

@@ -15,19 +15,18 @@ pub enum Found {
     None,
 }
 
-// Whether a port is in the list.
+// Whether a port is in the list. From the last to the first: to count down to 0 is a step less a turn.
 pub fn has_port(ports: &[u64], key: u64, realm: u64) -> bool
     ensures { λ r. ⌜ r ≡ isIn (port key realm) (pairs (now (ports .entry))) ⌝ }
 {
-    let rows = ports.len() / 2;
-    let mut row: usize = 0;
-    while row < rows {
-        if ports[row * 2] == key {
-            if ports[row * 2 + 1] == realm {
+    let mut row = ports.len() / 2;
+    while 0 < row {
+        if ports[row * 2 - 2] == key {
+            if ports[row * 2 - 1] == realm {
                 return true;
             }
         }
-        row += 1;
+        row -= 1;
     }
     false
 }
@@ -36,12 +35,12 @@ pub fn has_port(ports: &[u64], key: u64, realm: u64) -> bool
 pub fn has_number(numbers: &[u64], n: u64) -> bool
     ensures { λ r. ⌜ r ≡ any (eqb n) (now (numbers .entry)) ⌝ }
 {
-    let mut i: usize = 0;
-    while i < numbers.len() {
+    let mut i = numbers.len();
+    while 0 < i {
+        i -= 1;
         if numbers[i] == n {
             return true;
         }
-        i += 1;
     }
     false
 }

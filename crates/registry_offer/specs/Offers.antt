@@ -1,7 +1,5 @@
 -- What an offer answers and leaves, by what the code found.
 use Prim.Native.Nat.{ℕ, _%_}
-use native.Mathlib.Omega.{arith}
-use native.Mathlib.Nat.{mod-eq-of-lt}
 use mathlib.Core.Path.{_≡_, refl, sym, ap, _∙_}
 use mathlib.Core.Bool.{Bool, true, false, not, _&&_}
 use mathlib.Core.List.{List, []}
@@ -16,7 +14,6 @@ use Rattle.rules.specs.Ports.{pairs}
 use Rattle.rules.specs.Values.{valueIn, offer}
 use Rattle.memory.specs.Ways.{leftBy}
 use Rattle.memory.specs.Layout.{provPart, places}
-use Rattle.rules.specs.Limits.{maxProvisionKeys}
 use Rattle.memory.specs.View.{lifeAt, valueAt, pluginAt, view}
 use Rattle.memory.specs.Writes.{findAt}
 use Rattle.memory.specs.Known.{at-place, at-known, none-known}
@@ -28,7 +25,7 @@ use Rattle.ports.specs.declared.Found.{Found}
 use Rattle.ports.specs.declared.Found.the-variants as found
 use Rattle.rules_types.specs.declared.Optional.{Optional}
 use Rattle.rules.specs.Answers.{optionOf}
-use Rattle.memory_values.specs.Values.{portFrom, withValue}
+use Rattle.memory_values.specs.Values.{portFrom, withValue, valueBelow, withValueBelow, value-below, with-value-below}
 use Rattle.memory_values.specs.Firsts.{port-there, port-nothing, port-below, provisions-at, value-there}
 use Rattle.registry_offer.specs.Rules.{closed, withOffered, offers}
 use Rattle.registry_offer.specs.Words.{valuePut, portPut, offeredTo}
@@ -52,9 +49,6 @@ module _ (m : List ℕ) (i : ℕ) (q : Port) where
 
     pub value-is : valueIn q (pluginAt m i .provisions) ≡ valueAt m i j
     value-is = ap (λ (vs : List Provision). valueIn q vs) (provisions-at m i) ∙ value-there m i q (pairs (provPart m i)) j t
-
-    pub row-is : j % maxProvisionKeys ≡ j
-    row-is = mod-eq-of-lt (omega (arith, port-below m i q j t))
 
     -- an offer that is stored is stored there
     pub put-there : (id : ℕ) → findAt m id ≡ At i → (v : ℕ) → offeredTo m id q v (stores (withOffered q v (pluginAt m i)) []) ≡ withValue m i j v
@@ -96,12 +90,12 @@ module _ (m : List ℕ) (id : ℕ) (q : Port) (v : ℕ) where
       unfolding checked
       offered-undeclared n = refused Undeclared (offer-found ∙ rw (closed-is ∙ o, undeclared m i q (found-is ∙ n)))
 
-      module _ (j : ℕ) (t : f ≡ found.At j) (x : Optional) (y : optionOf x ≡ valueAt m (i % places) (j % maxProvisionKeys)) (c : Bool)
+      module _ (j : ℕ) (t : f ≡ found.At j) (x : Optional) (y : optionOf x ≡ valueBelow m (i % places) j) (c : Bool)
           (z : c ≡ isSome (optionOf x)) where
         given-is : isSome (valueIn q (pluginAt m i .provisions)) ≡ c
         given-is =
             let u = found-is ∙ t in
-            let h : valueAt m (i % places) (j % maxProvisionKeys) ≡ valueAt m i j = rw (at-place m id i e, row-is m i q j u) in
+            let h : valueBelow m (i % places) j ≡ valueAt m i j = rw (at-place m id i e) (value-below m i j (port-below m i q j u)) in
             ap isSome (value-is m i q j u ∙ sym (y ∙ h)) ∙ sym z
 
         pub offered-twice : c ≡ true → Offered (Refused (number Duplicate) []) m
@@ -112,8 +106,8 @@ module _ (m : List ℕ) (id : ℕ) (q : Port) (v : ℕ) where
         unfolding checked
         stored-is s = offer-found ∙ rw (closed-is ∙ o, declared m i q j (found-is ∙ t), given-is ∙ s)
 
-        pub offered-now : c ≡ false → (m′ : List ℕ) → m′ ≡ withValue m (i % places) (j % maxProvisionKeys) v → Offered (Accepted []) m′
+        pub offered-now : c ≡ false → (m′ : List ℕ) → m′ ≡ withValueBelow m (i % places) j v → Offered (Accepted []) m′
         offered-now s m′ p =
             let u = found-is ∙ t in
-            let h : withValue m (i % places) (j % maxProvisionKeys) v ≡ withValue m i j v = rw (at-place m id i e, row-is m i q j u) in
+            let h : withValueBelow m (i % places) j v ≡ withValue m i j v = rw (at-place m id i e) (with-value-below m i j v (port-below m i q j u)) in
             (sym (ap answerOf (stored-is s)), p ∙ h ∙ sym (ap (offeredTo m id q v) (stored-is s) ∙ put-there m i q j u id e v))

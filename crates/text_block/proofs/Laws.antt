@@ -1,12 +1,10 @@
 -- The bytes that the parts lay are a plugin's lines, where the values are those of its words.
-use Prim.Native.Nat.{ℕ, _+_, _*_, _/_, _%_, _≤_, _<_}
-use native.Mathlib.Nat.{mod-eq-of-lt}
+use Prim.Native.Nat.{ℕ, _+_, _*_, _/_, _≤_, _<_}
 use native.Mathlib.Omega.{arith}
 use mathlib.Core.Path.{_≡_, sym, ap}
 use mathlib.Core.List.{List, [], _++_}
 use mathlib.Core.Option.{Option}
 use lib.ListN.{length, getD, drop}
-use Rattle.rules.specs.Limits.{maxProvisionKeys}
 use Rattle.rules_types.specs.declared.Port.{Port}
 use Rattle.rules_types.specs.declared.Edition.{Edition}
 use Rattle.rules.specs.Text.Values.{editionAndDefault}
@@ -14,9 +12,10 @@ use Rattle.rules.specs.Ports.{pairs, realmList}
 use Rattle.text_form.specs.Bytes.{bytes}
 use Rattle.text_laws.specs.Parts.{blockOf}
 use Rattle.memory.specs.Layout.{idAt, depPart, provPart, realmPart}
-use Rattle.memory.specs.View.{parentAt, lifeAt, anchorAt, valueAt, valued, pluginAt}
+use Rattle.memory.specs.View.{parentAt, lifeAt, anchorAt, valued, pluginAt}
 use Rattle.memory.specs.Known.{life-of}
 use Rattle.memory.specs.declared.Life.{Life}
+use Rattle.memory_values.specs.Values.{valueBelow, value-below}
 use Rattle.memory_values.specs.Firsts.{few-words}
 use Rattle.ports.specs.Places.{pairs-at, pairs-end, length-pairs}
 use Rattle.text_lines.specs.Lines.{ended, orNone, pair, portLines}
@@ -53,12 +52,12 @@ module _ (m : List ℕ) (i : ℕ) where
   -- The j-th of the words' provisions, and no more of them.
   pub one-provision
       : (j : ℕ) {w : List ℕ} → w ≡ provPart m i → j < length w / 2
-      → provisionLine (getD w (j * 2) 0) (getD w (j * 2 + 1) 0) (valueAt m i (j % maxProvisionKeys)) ++ provsFrom m i (j + 1) w ≡ provsFrom m i j w
+      → provisionLine (getD w (j * 2) 0) (getD w (j * 2 + 1) 0) (valueBelow m i j) ++ provsFrom m i (j + 1) w ≡ provsFrom m i j w
   unfolding provisionLines
   one-provision j {w} e h =
       let next : j * 2 + 2 ≡ (j + 1) * 2 = omega arith in
-      let small : j % maxProvisionKeys ≡ j = mod-eq-of-lt (omega (arith, ap length e, few-words m i)) in
-      sym (rw (pairs-at w (j * 2) (omega arith), next, small))
+      let value = value-below m i j (omega (arith, ap length e, few-words m i)) in
+      sym (rw (pairs-at w (j * 2) (omega arith), next, value))
 
   pub no-provision : (j : ℕ) (w : List ℕ) → length w / 2 ≤ j → [] ≡ provsFrom m i j w
   unfolding provisionLines

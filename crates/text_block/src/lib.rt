@@ -3,10 +3,10 @@
 ghost use mathlib.Core.Path.{_≡_};
 ghost use Prim.Native.Nat.{_%_};
 ghost use Rattle.memory.specs.Layout.{places};
-ghost use Rattle.rules.specs.Limits.{maxProvisionKeys};
 ghost use Rattle.rules.specs.Answers.{optionOf};
 ghost use Rattle.rules.specs.Ports.{pairs, realmList};
-ghost use Rattle.memory.specs.View.{valueAt, pluginAt};
+ghost use Rattle.memory.specs.View.{pluginAt};
+ghost use Rattle.memory_values.specs.Values.{valueBelow};
 ghost use Rattle.text_laws.specs.Parts.{blockOf};
 ghost use Rattle.text_lines.specs.Laid.{Laid};
 ghost use Rattle.text_block.specs.Parts.{nameLines, phaseLine, retiredLine, lifeLines, portsLines, realmLines, listLines, provisionLine};
@@ -121,8 +121,7 @@ fn provision_line(
     key: u64,
     realm: u64,
 ) -> usize
-    ensures { λ r. ⌜ Laid (provisionLine key realm (valueAt (now (m .entry)) (place % places) (provision % maxProvisionKeys))) at
-        (now (text .entry)) (now (text .exit)) r ⌝ }
+    ensures { λ r. ⌜ Laid (provisionLine key realm (valueBelow (now (m .entry)) (place % places) provision)) at (now (text .entry)) (now (text .exit)) r ⌝ }
 {
     text_lines::triple_line(
         text,

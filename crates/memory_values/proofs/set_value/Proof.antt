@@ -1,15 +1,22 @@
 -- `set_value` meets its contract.
-use Rattle.memory_values.proofs.Laws.{value-stays, value-set}
+use Prim.Native.Nat.{_%_}
 use native.Mathlib.Omega.{arith}
+use Rattle.memory.specs.Layout.{places}
+use Rattle.memory_values.proofs.Laws.{past-set, value-stays, value-set}
 use borrow.Author.Needs.{needs}
 use Rattle.memory_values.proofs.set_value.Statement.{statement}
 use Rattle.memory_values.proofs.set_value.Tie as tie
 
+returns : tie.Need-returns
+returns c =
+    let a = c .before .args in
+    past-set (a .m .now) (a .place % places) (a .provision) (omega arith) (a .value)
+
 has-value-requires : tie.Need-has-value-requires
 has-value-requires c κs = search needs
 
-returns : tie.Need-returns
-returns c = value-stays _ _ _ _ (c .before .has-value .ensures) (c .if1 .taken) _
+returns-2 : tie.Need-returns-2
+returns-2 c = value-stays _ _ _ _ (c .before .has-value .ensures) (c .if2 .taken) _
 
 mul-b : tie.Need-mul-b
 mul-b c = search needs
@@ -47,17 +54,19 @@ mul-m-3 c = search needs
 element-write-m-2 : tie.Need-element-write-m-2
 element-write-m-2 c = search needs
 
-returns-2 : tie.Need-returns-2
-returns-2 c =
-    let r = c .before .before in
-    value-set _ _ _ _ (r .has-value .ensures) (c .before .if1 .left) (omega arith) _
+returns-3 : tie.Need-returns-3
+returns-3 c =
+    let h = c .before .before in
+    let a = h .before .before .before .args in
+    value-set (a .m .now) (a .place % places) (a .provision) _ (h .has-value .ensures) (c .before .if2 .left) (omega arith) (a .value)
 
 pub set-value-spec : {M : Type 1} → statement M
 set-value-spec =
     tie.close
     (tie.spec
-    has-value-requires
     returns
+    has-value-requires
+    returns-2
     mul-b
     add-m
     mul-m
@@ -70,4 +79,4 @@ set-value-spec =
     add-m-4
     mul-m-3
     element-write-m-2
-    returns-2)
+    returns-3)

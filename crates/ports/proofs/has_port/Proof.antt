@@ -1,29 +1,44 @@
--- Until the port is found, it is in the whole list exactly if it is in the rest from a row on.
-use Prim.Native.Nat.{ℕ, _+_, _-_, _*_}
+-- The port is not among those from a row on.
+use Prim.Native.Nat.{ℕ, _+_, _-_, _*_, _/_, _<_, _≤_}
 use native.Mathlib.Omega.{arith}
 use mathlib.Core.Logic.{⊎-elim}
 use mathlib.Core.Path.{_≡_, sym, ap, _∙_}
-use mathlib.Core.List.{List}
-use lib.ListN.{drop}
+use mathlib.Core.Bool.{false}
+use mathlib.Core.List.{List, _∷_}
+use lib.ListN.{length, getD, drop}
 use borrow.Author.Needs.{needs}
-use Rattle.rules_types.specs.declared.Port.{Port}
 use Rattle.rules.specs.Holds.{port, isIn}
 use Rattle.rules.specs.Ports.{pairs}
-use Rattle.ports.specs.Places.{pairs-at, pairs-end, in-hit, in-miss}
+use Rattle.ports.specs.Places.{pairs-at, pairs-end, in-hit, in-miss, in-later}
 use Rattle.ports.proofs.has_port.Statement.{statement}
 use Rattle.ports.proofs.has_port.Tie as tie
 
+-- the row before n, and those from n on
+row-before : (l : List ℕ) (n : ℕ) → 0 < n → n ≤ length l / 2
+    → pairs (drop ((n - 1) * 2) l) ≡ port (getD l (n * 2 - 2) 0) (getD l (n * 2 - 1) 0) ∷ pairs (drop (n * 2) l)
+row-before l n h k =
+    let start : (n - 1) * 2 ≡ n * 2 - 2 = omega arith in
+    let realm : n * 2 - 2 + 1 ≡ n * 2 - 1 = omega arith in
+    let rest : n * 2 - 2 + 2 ≡ n * 2 = omega arith in
+    rw start (rw (realm, rest) at (pairs-at l (n * 2 - 2) (omega arith)))
+
 abbrev Inv-loop : tie.InvT-loop
-Inv-loop ports key realm rows row₀ row = isIn (port key realm) (pairs ports) ≡ isIn (port key realm) (pairs (drop (row * 2) ports))
+Inv-loop ports key realm row₀ row = (row ≤ length ports / 2) × (isIn (port key realm) (pairs (drop (row * 2) ports)) ≡ false)
 
 abbrev μ-loop : tie.MeasureT-loop
-μ-loop ports key realm rows row₀ row = rows - row
+μ-loop ports key realm row₀ row = row
 
 loop-holds : tie.Need-loop-holds Inv-loop μ-loop
-loop-holds c = search needs
+loop-holds c =
+    let a = c .args in
+    let l = a .ports .now in
+    (omega arith, ap (isIn (port (a .key) (a .realm))) (pairs-end l (length l / 2 * 2) (omega arith)))
 
 mul-if1 : tie.Need-mul-if1 Inv-loop μ-loop
 mul-if1 c = search needs
+
+sub-if1 : tie.Need-sub-if1 Inv-loop μ-loop
+sub-if1 c = search needs
 
 mul-if1-2 : tie.Need-mul-if1-2 Inv-loop μ-loop
 mul-if1-2 c = search needs
@@ -34,8 +49,8 @@ shared-slice-read-if1 c = search needs
 mul-if2 : tie.Need-mul-if2 Inv-loop μ-loop
 mul-if2 c = search needs
 
-add-if2 : tie.Need-add-if2 Inv-loop μ-loop
-add-if2 c = search needs
+sub-if2 : tie.Need-sub-if2 Inv-loop μ-loop
+sub-if2 c = search needs
 
 mul-if2-2 : tie.Need-mul-if2-2 Inv-loop μ-loop
 mul-if2-2 c = search needs
@@ -47,11 +62,13 @@ returns : tie.Need-returns Inv-loop μ-loop
 returns c =
     let at = c .before .before .before .before .before in
     let a = at .before .args in
-    let s = pairs-at (a .ports .now) (at .loop .row * 2) (omega arith) in
-    sym (at .loop .inv ∙ in-hit s (port (a .key) (a .realm)) (c .before .before .if1 .taken) (c .if2 .taken))
+    let n = at .loop .row in
+    let q = port (a .key) (a .realm) in
+    let s = row-before (a .ports .now) n (omega arith) (at .loop .inv .0) in
+    sym (in-later q (n - 1) (a .ports .now) (in-hit s q (c .before .before .if1 .taken) (c .if2 .taken)))
 
-add-row : tie.Need-add-row Inv-loop μ-loop
-add-row c = search needs
+sub-row : tie.Need-sub-row Inv-loop μ-loop
+sub-row c = search needs
 
 loop-less : tie.Need-loop-less Inv-loop μ-loop
 loop-less c = search needs
@@ -60,19 +77,12 @@ loop-again : tie.Need-loop-again Inv-loop μ-loop
 loop-again c =
     let at = c .before .before .before in
     let a = at .before .args in
-    let i = at .loop .row in
     let q = port (a .key) (a .realm) in
-    let l = a .ports .now in
-    let s = pairs-at l (i * 2) (omega arith) in
-    let e : i * 2 + 2 ≡ (i + 1) * 2 = omega arith in
-    at .loop .inv ∙ in-miss s q (⊎-elim (λ w e f. w .2 .left f) (λ w e f. w .left e) (c .if1 .came)) ∙ ap (λ (n : ℕ). isIn q (pairs (drop n l))) e
+    let s = row-before (a .ports .now) (at .loop .row) (omega arith) (at .loop .inv .0) in
+    (omega arith, in-miss s q (⊎-elim (λ w e f. w .2 .left f) (λ w e f. w .left e) (c .if1 .came)) ∙ at .loop .inv .1)
 
 returns-2 : tie.Need-returns-2 Inv-loop μ-loop
-returns-2 c =
-    let at = c .before in
-    let a = at .before .args in
-    let q = port (a .key) (a .realm) in
-    sym (at .loop .inv ∙ ap (λ (ps : List Port). isIn q ps) (pairs-end (a .ports .now) (at .loop .row * 2) (omega arith)))
+returns-2 c = let z : c .before .loop .row ≡ 0 = omega arith in sym (rw z at (c .before .loop .inv .1))
 
 pub has-port-spec : {M : Type 1} → statement M
 has-port-spec =
@@ -82,14 +92,15 @@ has-port-spec =
     μ-loop
     loop-holds
     mul-if1
+    sub-if1
     mul-if1-2
     shared-slice-read-if1
     mul-if2
-    add-if2
+    sub-if2
     mul-if2-2
     shared-slice-read-if2
     returns
-    add-row
+    sub-row
     loop-less
     loop-again
     returns-2)
