@@ -42,17 +42,13 @@ module _ (m before : List ℕ) (q : Port) (x : Place) (e : x ≡ providerAt m q)
         let s : id ≡ idAt m i = k ∙ ap (idAt m) (provider-place m q x e i f) in
         rw (provider-view m q, sym e ∙ f) (rw (provider-active m q x e i f l g b h ∙ n) (j ∙ ap (λ z. named z before) s))
 
--- a port is available exactly if it is provided in time with none before
-available-in-time : (r : Registry) (q : Port) → inTime r [] q ≡ available r q
-available-in-time r q = go (provider r q)
-  where
-    go : (u : Option Plugin) → holds (λ (p : Plugin). isActive (p .phase) || false) u ≡ holds (λ (p : Plugin). isActive (p .phase)) u
-    go none = refl
-    go (some p) = or-false (isActive (p .phase))
+-- a port is available exactly if its provider is Active
+module _ (m : List ℕ) (q : Port) (x : Place) (e : x ≡ providerAt m q) where
+  pub available-none : x ≡ None → false ≡ available (view m) q
+  available-none f = rw (provider-view m q, sym e ∙ f)
 
-pub all-available : (r : Registry) (qs : List Port) → all (inTime r []) qs ≡ all (available r) qs
-all-available r [] = refl
-all-available r (q ∷ qs) = rw (available-in-time r q, all-available r qs)
+  pub available-active : (i : ℕ) → x ≡ At i → (l : Life) → l ≡ lifeAt m (i % places) → (b : Bool) → b ≡ isActive (l .phase) → b ≡ available (view m) q
+  available-active i f l g b h = rw (provider-view m q, sym e ∙ f) (sym (provider-active m q x e i f l g b h))
 
 -- a plugin that runs, and one that does not
 module _ (m : List ℕ) (u p : ℕ) (l : Life) (e : l ≡ lifeAt m u) (b : Bool) (f : b ≡ (isLoading (l .phase) || isActive (l .phase))) where

@@ -9,6 +9,7 @@ ghost use Rattle.rules.specs.Phases.{available, inUse};
 ghost use Rattle.rules.specs.Ports.{pairs};
 ghost use Rattle.memory.specs.View.{pluginAt, view};
 ghost use Rattle.memory.specs.Layout.{places};
+ghost use Rattle.memory_keys.specs.Known.{Known};
 ghost use Rattle.registry_needs.specs.Users.{depends, userAt};
 use memory::Life;
 use memory::Place;
@@ -69,11 +70,31 @@ pub fn all_in_time(m: &[u64; WORDS], before: &[u64], list: &[u64]) -> bool
     true
 }
 
-// Whether each port of the list has an Active provider: in time, with none before.
+// Whether the port's provider is Active, by a table of the keys that places offer.
+fn is_available(m: &[u64; WORDS], table: &mut [u64; PLACES], key: u64, realm: u64) -> bool
+    requires { ⌜ Known (now m) (now table) ⌝ }
+    ensures { λ r. ⌜ (r ≡ available (view (now (m .entry))) (port key realm)) × Known (now (m .entry)) (now (table .exit)) ⌝ }
+{
+    let Place::At(at) = memory_keys::provider_by(m, table, key, realm) else {
+        return false;
+    };
+    is_active(memory_life::load(m, at))
+}
+
+// Whether each port of the list has an Active provider. The table is filled as far as the lookups go.
 pub fn all_available(m: &[u64; WORDS], list: &[u64]) -> bool
     ensures { λ r. ⌜ r ≡ all (available (view (now (m .entry)))) (pairs (now (list .entry))) ⌝ }
 {
-    all_in_time(m, &list[..0], list)
+    let mut table = [0u64; PLACES];
+    let mut i: usize = 1;
+    while i < list.len() {
+        if is_available(m, &mut table, list[i - 1], list[i]) {
+            i += 2;
+        } else {
+            return false;
+        }
+    }
+    true
 }
 
 // Whether the plugin of a place provides one of the ports.

@@ -1,0 +1,165 @@
+-- The steps of a lookup.
+use Prim.Native.Nat.{ℕ, zero, suc, _+_, _-_, _*_, _<_, _≤_, _%_}
+use native.Mathlib.Omega.{arith}
+use native.Mathlib.Nat.{mod-eq-of-lt}
+use mathlib.Core.Path.{_≡_, refl, sym, ap, _∙_}
+use mathlib.Core.Logic.{_≢_}
+use mathlib.Core.Bool.{Bool, true, false, _&&_, _||_, or-false}
+use mathlib.Core.List.{List, [], _∷_}
+use mathlib.Core.Option.{Option, none, some}
+use lib.ListN.{length, drop, getD, set}
+use lib.Seq.{set-getD}
+use borrow.Author.Tests.{eq-eqb, ne-eqb}
+use Rattle.rules.specs.Holds.{port, isIn, samePort, provides, provided}
+use Rattle.rules.specs.Ports.{pairs}
+use Rattle.rules_types.specs.declared.Port.{Port}
+use Rattle.rules_laws.specs.Laws.Tests.{by-test}
+use Rattle.rules_laws.specs.Laws.Members.{same-port}
+use Rattle.ports.specs.Places.{pairs-at, pairs-end, in-hit, in-miss}
+use Rattle.memory_providers.specs.Bits.{withBit, hasBit}
+use Rattle.rules.specs.Basics.{pick}
+use Rattle.memory.specs.Layout.{word, taken, provPart, places}
+use Rattle.memory.specs.View.{anchorAt, pluginAt}
+use Rattle.memory.specs.declared.Place.{Place}
+use Rattle.memory.specs.declared.Place.the-variants.{At, None}
+use Rattle.memory_lists.specs.Listed.{provided-at}
+use Rattle.memory_keys.specs.Tables.{keyWord, placeKeys, bitsWithout, keysWithout, offersBy, keptBy, foundFrom, tableFrom, providerBy, tableBy}
+
+not-same : (p q : Port) → (p .key ≡ q .key → p .realm ≡ q .realm → ⊥) → samePort p q ≡ false
+not-same p q n = by-test (samePort p q)
+    (λ t. let e = same-port p q t in absurd (n (ap (λ (v : Port). v .key) (sym e)) (ap (λ (v : Port). v .realm) (sym e))))
+    (λ f. f)
+
+or-right : (a b : Bool) → b ≡ true → (a || b) ≡ true
+or-right true b e = refl
+or-right false b e = e
+
+-- a port of the rows from one on is one of all
+pub in-rest : (l : List ℕ) (row : ℕ) (q : Port) → isIn q (pairs (drop (row * 2) l)) ≡ true → isIn q (pairs l) ≡ true
+in-rest l zero q e = e
+in-rest [] (suc row) q e = let s : suc row * 2 ≡ suc (suc (row * 2)) = omega arith in rw s at e
+in-rest (a ∷ []) (suc row) q e = let s : suc row * 2 ≡ suc (suc (row * 2)) = omega arith in rw s at e
+in-rest (a ∷ b ∷ l) (suc row) q e =
+    let s : suc row * 2 ≡ suc (suc (row * 2)) = omega arith in
+    or-right (samePort q _) (isIn q (pairs l)) (in-rest l row q (rw s at e))
+
+module _ (w : ℕ) (l : List ℕ) (q : Port) where
+  -- the rows from one on have been looked at in vain, and their keys are in the word
+  pub record Seen (row bits : ℕ) : Type 0 where
+    pub within : row * 2 ≤ length l
+    pub not-there : isIn q (pairs (drop (row * 2) l)) ≡ false
+    pub word : bits ≡ keyWord w (pairs (drop (row * 2) l))
+
+  pub seen-none : (row : ℕ) → row * 2 ≤ length l → length l ≤ row * 2 + 1 → Seen row w
+  unfolding keyWord
+  seen-none row h g = let e = pairs-end l (row * 2) g in record { within = h; not-there = rw e; word = rw e }
+
+  pub seen-all : (bits : ℕ) → Seen 0 bits → some bits ≡ bitsWithout w (pairs l) q
+  seen-all bits s = rw (s .not-there) (ap some (s .word))
+
+  module _ (row bits : ℕ) (s : Seen row bits) (h : 0 < row) where
+    abbrev at : ℕ
+    at = (row - 1) * 2
+
+    here : pairs (drop at l) ≡ port (getD l at 0) (getD l (at + 1) 0) ∷ pairs (drop (row * 2) l)
+    here =
+        let a = pairs-at l at (omega (arith, s .within)) in
+        let e : at + 2 ≡ row * 2 = omega arith in
+        rw e at a
+
+    pub seen-there : getD l at 0 ≡ q .key → getD l (at + 1) 0 ≡ q .realm → none ≡ bitsWithout w (pairs l) q
+    seen-there e f = rw (in-rest l (row - 1) q (in-hit here q e f))
+
+    pub seen-next : (getD l at 0 ≡ q .key → getD l (at + 1) 0 ≡ q .realm → ⊥) → (b : ℕ) → b ≡ withBit bits (getD l at 0) → Seen (row - 1) b
+    unfolding keyWord
+    seen-next n b e = record {
+      within = omega (arith, s .within);
+      not-there = in-miss here q n ∙ s .not-there;
+      word = e ∙ rw here (ap (λ x. withBit x (getD l at 0)) (s .word));
+    }
+
+-- a place's ports: the anchor, then the provisions
+module _ (m : List ℕ) (i : ℕ) (q : Port) (a : Port) (g : a ≡ anchorAt m i) where
+  pub keys-anchor : q .key ≡ a .key → q .realm ≡ a .realm → none ≡ keysWithout m i q
+  unfolding pluginAt
+  keys-anchor e f =
+      let x : samePort q a ≡ true = rw (eq-eqb (q .key) (a .key) e, eq-eqb (q .realm) (a .realm) f) in
+      let s : samePort q (anchorAt m i) ≡ true = ap (samePort q) (sym g) ∙ x in
+      rw (or-right (isIn q (provided (pluginAt m i))) (samePort q (anchorAt m i)) s)
+
+  pub keys-rest : (q .key ≡ a .key → q .realm ≡ a .realm → ⊥) → (ws : List ℕ) → ws ≡ provPart m i → (w : ℕ) → w ≡ withBit 0 (a .key) → (o : Option ℕ)
+      → o ≡ bitsWithout w (pairs ws) q → o ≡ keysWithout m i q
+  unfolding pluginAt placeKeys
+  keys-rest n ws e w f o h =
+      let s : samePort q (anchorAt m i) ≡ false = ap (samePort q) (sym g) ∙ not-same q a n in
+      let x : provides (pluginAt m i) q ≡ isIn q (pairs (provPart m i)) =
+      ap (λ b. isIn q (provided (pluginAt m i)) || b) s ∙ or-false (isIn q (provided (pluginAt m i))) ∙ ap (isIn q) (provided-at m i) in
+      let y : keysWithout m i q ≡ bitsWithout (withBit 0 (anchorAt m i .key)) (pairs (provPart m i)) q = rw x in
+      h ∙ rw (e, f, g) (sym y)
+
+-- a place, by the table's word of it
+module _ (m t : List ℕ) (i : ℕ) (q : Port) (h : i < places) where
+  abbrev Offered : Bool → List ℕ → Type 0
+  Offered b u = (b ≡ offersBy m (word t i) i q) × (u ≡ set t i (keptBy m (word t i) i q))
+
+  own : i % places ≡ i
+  own = mod-eq-of-lt h
+
+  module _ (n : word t i ≢ 0) where
+    stays : t ≡ set t i (keptBy m (word t i) i q)
+    stays = rw (ne-eqb (word t i) 0 n) (sym (set-getD t i 0))
+
+    pub known-has : hasBit (word t i) (q .key) ≡ true → (b : Bool) → b ≡ provides (pluginAt m (i % places)) q → Offered b t
+    known-has e b f = (rw (ne-eqb (word t i) 0 n, e) (f ∙ ap (λ j. provides (pluginAt m j) q) own), stays)
+
+    pub known-lacks : hasBit (word t i) (q .key) ≡ false → Offered false t
+    known-lacks e = (rw (ne-eqb (word t i) 0 n, e), stays)
+
+  module _ (z : word t i ≡ 0) where
+    pub free-place : taken m i ≡ false → Offered false t
+    free-place f = (rw (eq-eqb (word t i) 0 z, f), rw (eq-eqb (word t i) 0 z, f) (sym (set-getD t i 0)))
+
+    module _ (y : taken m i ≡ true) where
+      pub port-there : none ≡ keysWithout m (i % places) q → Offered true t
+      port-there e =
+          let p : provides (pluginAt m i) q ≡ true = found (provides (pluginAt m i) q) (e ∙ ap (λ j. keysWithout m j q) own) in
+          (rw (eq-eqb (word t i) 0 z, y, p), rw (eq-eqb (word t i) 0 z, y, p) (sym (set-getD t i 0)))
+        where
+          found : (b : Bool) → none ≡ pick b none (some (placeKeys m i)) → b ≡ true
+          found true e = refl
+          found false e = cc
+
+      pub port-not-there : (k : ℕ) → some k ≡ keysWithout m (i % places) q → Offered false (set t i k)
+      port-not-there k e =
+          let r = found (provides (pluginAt m i) q) (e ∙ ap (λ j. keysWithout m j q) own) in
+          (rw (eq-eqb (word t i) 0 z, y, r .0), rw (eq-eqb (word t i) 0 z, y, r .0) (ap (set t i) (r .1)))
+        where
+          found : (b : Bool) → some k ≡ pick b none (some (placeKeys m i)) → (b ≡ false) × (k ≡ placeKeys m i)
+          found true e = (cc, cc)
+          found false e = (refl, cc)
+
+-- the places from one on
+module _ (m t : List ℕ) (q : Port) (i : ℕ) where
+  abbrev kept : List ℕ
+  kept = set t i (keptBy m (word t i) i q)
+
+  -- what is left to do gives what the whole gives
+  abbrev pub Left : Place → List ℕ → Type 0
+  Left p u = (p ≡ foundFrom (places - i) m t q i) × (u ≡ tableFrom (places - i) m t q i)
+
+  module _ (h : i < places) where
+    one-less : places - i ≡ suc (places - (i + 1))
+    one-less = omega arith
+
+    pub found-here : offersBy m (word t i) i q ≡ true → Left (At i) kept
+    unfolding foundFrom tableFrom
+    found-here y = (rw one-less (rw y), rw one-less (rw y))
+
+    pub found-next : offersBy m (word t i) i q ≡ false → (p : Place) (u : List ℕ) → Left p u
+        → (p ≡ foundFrom (places - (i + 1)) m kept q (i + 1)) × (u ≡ tableFrom (places - (i + 1)) m kept q (i + 1))
+    unfolding foundFrom tableFrom
+    found-next n p u l = (l .0 ∙ rw one-less (rw n), l .1 ∙ rw one-less (rw n))
+
+  pub found-end : places ≤ i → Left None t
+  unfolding foundFrom tableFrom
+  found-end h = let e : places - i ≡ 0 = omega arith in (rw e, rw e)

@@ -1,0 +1,118 @@
+-- What a table says is so: then a lookup by it finds a port's provider, and what it says afterwards is so.
+use Prim.Native.Nat.{ℕ, zero, suc, _+_, _<_, _≤_}
+use native.Mathlib.Omega.{arith}
+use mathlib.Core.Path.{_≡_, refl, sym, ap, _∙_}
+use mathlib.Core.Logic.{_≢_}
+use mathlib.Core.Bool.{Bool, true, false, not, _&&_, _||_}
+use mathlib.Core.List.{List, [], _∷_}
+use lib.Dec.{eqb}
+use lib.ListN.{length, set, length-set, replicate, getD-replicate}
+use lib.Seq.{getD-set-same, getD-set-other}
+use borrow.Author.Tests.{eqb-true, eqb-false, eq-eqb, ne-eqb}
+use Rattle.rules.specs.Basics.{pick}
+use Rattle.rules.specs.Holds.{Plugin, isIn, provides, provided, samePort}
+use Rattle.rules.specs.Ports.{pairs}
+use Rattle.rules_types.specs.declared.Port.{Port}
+use Rattle.rules_laws.specs.Laws.Tests.{by-test, both}
+use Rattle.memory.specs.Layout.{word, taken, provPart, places}
+use Rattle.memory.specs.View.{anchorAt, pluginAt}
+use Rattle.memory.specs.Lookups.{searchFrom}
+use Rattle.memory.specs.declared.Place.{Place}
+use Rattle.memory_lists.specs.Listed.{provided-at}
+use Rattle.memory_providers.specs.Bits.{withBit, hasBit, bit-stays, bit-comes}
+use Rattle.memory_providers.specs.Providers.{providerAt}
+use Rattle.memory_keys.specs.Tables.{keyWord, placeKeys, offersBy, keptBy, foundFrom, tableFrom, providerBy, tableBy}
+
+-- a word of the table says nothing, or the place's keys
+abbrev pub Says : List ℕ → ℕ → ℕ → Type 0
+Says m i w = w ≢ 0 → (taken m i ≡ true) × (w ≡ placeKeys m i)
+
+pub record Known (m t : List ℕ) : Type 0 where
+  pub size : length t ≡ places
+  pub says : (i : ℕ) → i < places → Says m i (word t i)
+
+-- a key that is offered has its bit
+key-stays : (w : ℕ) (qs : List Port) (k : ℕ) → hasBit w k ≡ true → hasBit (keyWord w qs) k ≡ true
+unfolding keyWord
+key-stays w [] k e = e
+key-stays w (q ∷ qs) k e = bit-stays (keyWord w qs) (q .key) k (key-stays w qs k e)
+
+key-comes : (w : ℕ) (qs : List Port) (q : Port) → isIn q qs ≡ true → hasBit (keyWord w qs) (q .key) ≡ true
+unfolding keyWord
+key-comes w [] q e = cc
+key-comes w (p ∷ qs) q e = by-test (samePort q p)
+    (λ t. let k : q .key ≡ p .key = eqb-true _ _ (both _ _ t .0) in rw k (bit-comes (keyWord w qs) (p .key)))
+    (λ f. bit-stays (keyWord w qs) (p .key) (q .key) (key-comes w qs q (rw f at e)))
+
+offered-key : (m : List ℕ) (i : ℕ) (q : Port) → provides (pluginAt m i) q ≡ true → hasBit (placeKeys m i) (q .key) ≡ true
+unfolding placeKeys pluginAt
+offered-key m i q e = by-test (isIn q (provided (pluginAt m i)))
+    (λ t. key-comes (withBit 0 (anchorAt m i .key)) (pairs (provPart m i)) q (ap (isIn q) (sym (provided-at m i)) ∙ t))
+    (λ f.
+    let s : samePort q (anchorAt m i) ≡ true = rw f at e in
+    let k : q .key ≡ anchorAt m i .key = eqb-true _ _ (both _ _ s .0) in
+    key-stays (withBit 0 (anchorAt m i .key)) (pairs (provPart m i)) (q .key) (rw k (bit-comes 0 (anchorAt m i .key))))
+
+-- by what is so, a place offers what it provides
+offers-is : (m : List ℕ) (w i : ℕ) (q : Port) → Says m i w → offersBy m w i q ≡ (taken m i && provides (pluginAt m i) q)
+offers-is m w i q s = by-test (eqb w 0)
+    (λ t. rw t)
+    (λ f.
+    let k = s (eqb-false w 0 f) in
+    by-test (provides (pluginAt m i) q)
+    (λ p. rw (f, k .0, p) (ap (λ x. hasBit x (q .key) && true) (k .1) ∙ rw (offered-key m i q p)))
+    (λ n. rw (f, k .0, n) (both-false (hasBit w (q .key)))))
+  where
+    both-false : (b : Bool) → (b && false) ≡ false
+    both-false true = refl
+    both-false false = refl
+
+-- and what is kept is so
+kept-says : (m : List ℕ) (w i : ℕ) (q : Port) → Says m i w → Says m i (keptBy m w i q)
+kept-says m w i q s = by-test (eqb w 0 && (taken m i && not (provides (pluginAt m i) q)))
+    (λ t.
+    let b = both (eqb w 0) (taken m i && not (provides (pluginAt m i) q)) t in
+    let c = both (taken m i) (not (provides (pluginAt m i) q)) (b .1) in
+    rw t (λ z. (c .0, refl)))
+    (λ f. rw f s)
+
+module _ (m : List ℕ) (q : Port) where
+  pub kept-known : (t : List ℕ) (i : ℕ) → i < places → Known m t → Known m (set t i (keptBy m (word t i) i q))
+  kept-known t i h k = record {
+    size = length-set t i (keptBy m (word t i) i q) ∙ k .size;
+    says = λ j g. by-test (eqb j i)
+        (λ e. let s : j ≡ i = eqb-true j i e in
+        rw (s, getD-set-same t i (keptBy m (word t i) i q) 0 (omega (arith, k .size))) (kept-says m (word t i) i q (k .says i h)))
+        (λ n. rw (getD-set-other t i j (keptBy m (word t i) i q) 0 (eqb-false j i n)) (k .says j g));
+  }
+
+  found-is : (n : ℕ) (t : List ℕ) (i : ℕ) → i + n ≤ places → Known m t → foundFrom n m t q i ≡ searchFrom (λ (p : Plugin). provides p q) n m i
+  unfolding foundFrom searchFrom
+  found-is zero t i h k = refl
+  found-is (suc n) t i h k =
+      rw (
+        offers-is m (word t i) i q (k .says i (omega arith)),
+        found-is n (set t i (keptBy m (word t i) i q)) (i + 1) (omega arith) (kept-known t i (omega arith) k),
+      )
+
+  table-known : (n : ℕ) (t : List ℕ) (i : ℕ) → i + n ≤ places → Known m t → Known m (tableFrom n m t q i)
+  unfolding tableFrom
+  table-known zero t i h k = k
+  table-known (suc n) t i h k =
+      let u = kept-known t i (omega arith) k in
+      by-test (offersBy m (word t i) i q)
+      (λ y. rw y u)
+      (λ no′. rw no′ (table-known n (set t i (keptBy m (word t i) i q)) (i + 1) (omega arith) u))
+
+  -- a lookup by a table that says what is so
+  module _ (t : List ℕ) (k : Known m t) where
+    pub by-provider : providerBy m t q ≡ providerAt m q
+    unfolding providerAt
+    by-provider = found-is places t 0 (omega arith) k
+
+    pub by-known : Known m (tableBy m t q)
+    by-known = table-known places t 0 (omega arith) k
+
+-- a table that says nothing
+pub none-known : (m : List ℕ) → Known m (replicate places 0)
+none-known m = record { size = cc; says = λ i h z. absurd (z (getD-replicate places i 0 0 h)) }
