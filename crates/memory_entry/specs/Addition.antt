@@ -1,6 +1,6 @@
 -- A new plugin in a free place, with its rows behind all others: what that does to the words, that every other place
 -- reads as before, and that the new one reads as what was written.
-use Prim.Native.Nat.{ℕ, _+_, _*_, _-_, _<_, _≤_, _%_, min}
+use Prim.Native.Nat.{ℕ, _+_, _*_, _-_, _<_, _≤_, _%_}
 use native.Mathlib.Omega.{arith}
 use native.Mathlib.Nat.{zero-div}
 use mathlib.Core.Path.{_≡_, refl, sym, ap, _∙_}

@@ -1,5 +1,5 @@
 -- A filled place with any next id: the registry has that id, and is as registration has it beside.
-use Prim.Native.Nat.{ℕ, _+_, _*_, _≤_, _<_, _%_, min}
+use Prim.Native.Nat.{ℕ, _+_, _*_, _≤_, _<_, _%_}
 use native.Mathlib.Omega.{arith}
 use mathlib.Core.Path.{_≡_, refl, sym, ap, _∙_}
 use mathlib.Core.Bool.{true, _||_}

@@ -2,22 +2,24 @@
 use Prim.Native.Nat.{ℕ, _%_, _<_}
 use native.Mathlib.Nat.{mod-eq-of-lt}
 use mathlib.Core.Path.{_≡_, refl, sym, ap, _∙_}
-use mathlib.Core.Bool.{Bool, true, false, _||_, or-false}
+use mathlib.Core.Bool.{Bool, true, false, _&&_, _||_}
 use mathlib.Core.List.{List, [], _∷_}
-use mathlib.Core.Option.{Option, none, some}
-use Rattle.rules.specs.Basics.{all, holds}
-use Rattle.rules.specs.Holds.{Plugin, Registry, provider, isActive, isLoading}
+use lib.ListN.{length}
+use Rattle.rules.specs.Basics.{all, any, holds}
+use Rattle.rules.specs.Holds.{Plugin, isActive, isLoading, running}
 use Rattle.rules_types.specs.declared.Port.{Port}
 use Rattle.rules.specs.Orders.{named, inTime}
 use Rattle.rules.specs.Phases.{available}
 use Rattle.rules.specs.Ports.{pairs}
-use Rattle.memory.specs.Layout.{idAt, depPart, places}
+use Rattle.memory.specs.Layout.{idAt, depPart, memoryWords, places}
 use Rattle.memory.specs.View.{lifeAt, pluginAt, view}
 use Rattle.memory.specs.declared.Life.{Life}
 use Rattle.memory.specs.declared.Place.{Place}
 use Rattle.memory.specs.declared.Place.the-variants.{At, None}
-use Rattle.memory_providers.specs.Providers.{providerAt, provider-view, provider-place, provider-active}
-use Rattle.registry_needs.specs.Users.{depends, userAt}
+use Rattle.memory_providers.specs.declared.KeyBits.{KeyBits}
+use Rattle.memory_providers.specs.Claimed.{meets-provides}
+use Rattle.memory_providers.specs.Providers.{providerAt, provider-view, provider-place, provider-active, offeredPart, noBits, keyBits, wanted}
+use Rattle.registry_needs.specs.Users.{uses, userAt}
 
 -- a test of a list that starts with q
 module _ (f : Port → Bool) {l ps : List Port} {q : Port} (s : l ≡ q ∷ ps) where
@@ -51,18 +53,22 @@ module _ (m : List ℕ) (q : Port) (x : Place) (e : x ≡ providerAt m q) where
   available-active i f l g b h = rw (provider-view m q, sym e ∙ f) (sym (provider-active m q x e i f l g b h))
 
 -- a plugin that runs, and one that does not
-module _ (m : List ℕ) (u p : ℕ) (l : Life) (e : l ≡ lifeAt m u) (b : Bool) (f : b ≡ (isLoading (l .phase) || isActive (l .phase))) where
+module _ (m : List ℕ) (u : ℕ) (k : KeyBits) (ps : List Port) (l : Life) (e : l ≡ lifeAt m u) (b : Bool)
+    (f : b ≡ (isLoading (l .phase) || isActive (l .phase))) where
   runs : (isLoading (pluginAt m u .phase) || isActive (pluginAt m u .phase)) ≡ b
   unfolding pluginAt
   runs = sym (f ∙ ap (λ (y : Life). isLoading (y .phase) || isActive (y .phase)) e)
 
-  pub user-runs : b ≡ true → (ws : List ℕ) → ws ≡ depPart m u → (x : Bool) → x ≡ depends m p (pairs ws) → x ≡ userAt m p (pluginAt m u)
+  pub user-runs : b ≡ true → (ws : List ℕ) → ws ≡ depPart m u → (x : Bool) → x ≡ any (wanted k ps) (pairs ws) → x ≡ uses k ps (pluginAt m u)
   unfolding pluginAt
-  user-runs t ws g x h = h ∙ ap (λ y. depends m p (pairs y)) g ∙ sym (rw (runs ∙ t))
+  user-runs t ws g x h = h ∙ ap (λ y. any (wanted k ps) (pairs y)) g ∙ sym (rw (runs ∙ t))
 
-  pub user-rests : b ≡ false → false ≡ userAt m p (pluginAt m u)
+  pub user-rests : b ≡ false → false ≡ uses k ps (pluginAt m u)
   user-rests n = rw (runs ∙ n)
 
--- a place's own number
-pub own-place : (m : List ℕ) (p i : ℕ) → i < places → (b : Bool) → b ≡ userAt m p (pluginAt m (i % places)) → b ≡ userAt m p (pluginAt m i)
-own-place m p i h b e = e ∙ ap (λ k. userAt m p (pluginAt m k)) (mod-eq-of-lt h)
+-- by the bits of what a place offers, a user is a user of its plugin
+module _ (m : List ℕ) (p : ℕ) (size : length m ≡ memoryWords) (ws : List ℕ) (e : ws ≡ offeredPart m p) (k : KeyBits) (f : k ≡ keyBits noBits (pairs ws)) where
+  pub own-place : (i : ℕ) → i < places → (b : Bool) → b ≡ uses k (pairs ws) (pluginAt m (i % places)) → b ≡ userAt m p (pluginAt m i)
+  own-place i h b g =
+      g ∙ ap (λ j. uses k (pairs ws) (pluginAt m j)) (mod-eq-of-lt h)
+      ∙ ap (λ x. running (pluginAt m i) && x) (rw (f, e) (meets-provides m p size (pluginAt m i .dependencies)))

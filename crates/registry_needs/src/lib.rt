@@ -3,18 +3,19 @@ ghost use mathlib.Core.Path.{_≡_};
 ghost use mathlib.Core.Bool.{_||_};
 ghost use Prim.Native.Nat.{_%_, _<_};
 ghost use Rattle.rules.specs.Basics.{all};
-ghost use Rattle.rules.specs.Holds.{port, provides, isActive, isLoading};
+ghost use Rattle.rules.specs.Holds.{port, isActive, isLoading};
 ghost use Rattle.rules.specs.Orders.{inTime};
 ghost use Rattle.rules.specs.Phases.{available, inUse};
 ghost use Rattle.rules.specs.Ports.{pairs};
 ghost use Rattle.memory.specs.View.{pluginAt, view};
 ghost use Rattle.memory.specs.Layout.{places};
 ghost use Rattle.memory_keys.specs.Known.{Known};
-ghost use Rattle.registry_needs.specs.Users.{depends, userAt};
+ghost use Rattle.registry_needs.specs.Users.{uses};
 use memory::Life;
 use memory::Place;
 use memory::WORDS;
 use memory::layout::PLACES;
+use memory_providers::KeyBits;
 use rules::Phase;
 
 pub fn is_active(life: Life) -> bool
@@ -97,39 +98,28 @@ pub fn all_available(m: &[u64; WORDS], list: &[u64]) -> bool
     true
 }
 
-// Whether the plugin of a place provides one of the ports.
-fn provides_one(m: &[u64; WORDS], place: usize, list: &[u64]) -> bool
-    ensures { λ r. ⌜ r ≡ depends (now (m .entry)) (place % places) (pairs (now (list .entry))) ⌝ }
-{
-    let mut i: usize = 1;
-    while i < list.len() {
-        if memory_providers::provides(m, place, list[i - 1], list[i]) {
-            return true;
-        }
-        i += 2;
-    }
-    false
-}
-
-// Whether the plugin of one place runs and depends on that of another.
-fn is_user(m: &[u64; WORDS], user: usize, place: usize) -> bool
-    ensures { λ r. ⌜ r ≡ userAt (now (m .entry)) (place % places) (pluginAt (now (m .entry)) (user % places)) ⌝ }
+// Whether the plugin of a place runs and depends on one of the ports, by the bits of their keys.
+fn is_user(m: &[u64; WORDS], user: usize, bits: KeyBits, ports: &[u64]) -> bool
+    ensures { λ r. ⌜ r ≡ uses bits (pairs (now (ports .entry))) (pluginAt (now (m .entry)) (user % places)) ⌝ }
 {
     if is_running(memory_life::load(m, user)) {
-        provides_one(m, place, memory_lists::dependency_words(m, user))
+        memory_providers::meets(bits, ports, memory_lists::dependency_words(m, user))
     } else {
         false
     }
 }
 
-// Whether a Loading or Active plugin depends on a provision or the anchor of this place's.
+// Whether a Loading or Active plugin depends on a provision or the anchor of this place's: these and their bits are taken once.
 pub fn in_use(m: &[u64; WORDS], place: usize) -> bool
     ensures { λ r. ⌜ r ≡ inUse (view (now (m .entry))) (pluginAt (now (m .entry)) (place % places)) ⌝ }
 {
+    memory::known(m);
+    let ports = memory_providers::offered_words(m, place);
+    let bits = memory_providers::key_bits(ports);
     let mut i: usize = 0;
     while i < PLACES {
         if memory::is_taken(m, i) {
-            if is_user(m, i, place) {
+            if is_user(m, i, bits, ports) {
                 return true;
             }
         }
