@@ -5,6 +5,7 @@ use Rattle.text_decimal.specs.Numbers.{read-exact}
 use Rattle.text_decimal.proofs as text_decimal
 use Rattle.text_lines.proofs as text_lines
 use Rattle.text_block.proofs as text_block
+use Rattle.text_length.proofs as text_length
 use Rattle.text_write.proofs as text_write
 use Rattle.outcome.specs.One.{One, OneSeen}
 use Rattle.outcome.specs.Equations.{answer-alone, by-equation, one-outcome, one-with-memory}
@@ -51,6 +52,9 @@ text-lines-port-lines κs a r s ms ns p q = laid-one p q
 
 pub text-block-block : One text_block.block.ended text_block.block.Reads.Learnt
 text-block-block κs a r s ms ns p q = laid-one p q
+
+pub text-length-block : One text_length.block.ended text_length.block.Reads.Learnt
+text-length-block κs a r s ms ns p q = by-equation p q
 
 pub text-write-write-text : One text_write.«write_text».ended text_write.«write_text».Reads.Learnt
 text-write-write-text κs a r s ms ns p q = one-with-memory number-exact p q

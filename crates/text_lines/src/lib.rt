@@ -1,5 +1,5 @@
 // The lines of the registry's text. Bytes go to a place of a lent text, and the place behind them comes back. Those past the text's
-// end go nowhere and count all the same: the same functions write a text, and on an empty one tell how long it is.
+// end go nowhere and count all the same, so that every function takes any text and any place.
 ghost use mathlib.Core.Path.{_≡_};
 ghost use mathlib.Core.List.{[], _∷_, _++_};
 ghost use Prim.Native.Nat.{_+_, _≤_, min};

@@ -26,6 +26,7 @@ use Rattle.memory.specs.Layout.{rootArgumentWord, editionWord, rowWords}
 use Rattle.memory.specs.View.{parentOf, rootOf, lifeAt, decoded, valueAt, valued, pluginAt, placeAt, placesFrom, view}
 use Rattle.ports.specs.Places.{length-pairs}
 use Rattle.memory_lists.specs.Listed.{valued-length}
+use Rattle.text_length.specs.Few.{few-realms, few-deps}
 
 -- Every word is a number of at most 2^64 − 1.
 abbrev pub Small : List ℕ → Type 0
@@ -102,18 +103,12 @@ module _ (m : List ℕ) (h : Small m) where
   provisions-fit i j (k ∷ r ∷ l) s = ((s 0, (s 1, value-fits i j)), provisions-fit i (j + 1) l (λ n. s (suc (suc n))))
 
 module _ (m : List ℕ) (i : ℕ) where
-  few-realms : length (pairs (drop 2 (realmPart m i))) ≤ 16
-  few-realms = rw (length-pairs (drop 2 (realmPart m i))) (simp (length-drop, length-take) (omega arith))
-
-  few-deps : length (pairs (depPart m i)) ≤ 48
-  few-deps = rw (length-pairs (depPart m i)) (simp (length-take, length-drop) (omega arith))
-
   few-provs : length (valued m i 0 (pairs (provPart m i))) ≤ 15
   few-provs = rw (valued-length m i 0 (pairs (provPart m i)), length-pairs (provPart m i)) (simp (length-take, length-drop) (omega arith))
 
   lists-few : Lists (pluginAt m i)
   unfolding pluginAt realmList
-  lists-few = record { realm-rows = few-realms; dependencies = few-deps; provisions = few-provs }
+  lists-few = record { realm-rows = few-realms m i; dependencies = few-deps m i; provisions = few-provs }
 
   small-list : Small m → Small (realmPart m i)
   small-list h = small-part m (i * placeWords + editionWord) ((realmsAt m i + 1) * rowWords) h
@@ -142,10 +137,10 @@ module _ (m : List ℕ) (i : ℕ) where
                     (
                       (
                         edition-fits (getD (realmPart m i) 0 0) (getD (realmPart m i) 1 0) (small-list h 1),
-                        (omega (arith, few-realms), ports-fit "realm" (drop 2 (realmPart m i)) (small-drop 2 (realmPart m i) (small-list h))),
+                        (omega (arith, few-realms m i), ports-fit "realm" (drop 2 (realmPart m i)) (small-drop 2 (realmPart m i) (small-list h))),
                       ),
                       (
-                        (omega (arith, few-deps), ports-fit "dep" (depPart m i) (small-part m (rowWord (startAt m i)) (depsAt m i * 2) h)),
+                        (omega (arith, few-deps m i), ports-fit "dep" (depPart m i) (small-part m (rowWord (startAt m i)) (depsAt m i * 2) h)),
                         (omega (arith, few-provs), provisions-fit m h i 0 (provPart m i) (small-part m (anchorWord m i + 2) (provsAt m i * 2) h)),
                       ),
                     ),

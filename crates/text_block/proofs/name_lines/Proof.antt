@@ -3,7 +3,7 @@ use Prim.Native.Nat.{_%_}
 use Rattle.memory.specs.Layout.{places}
 use Rattle.text_lines.specs.Laid.{laid-then}
 use Rattle.text_block.specs.Parts.{laid-as}
-use Rattle.text_block.proofs.Laws.{name-bytes}
+use Rattle.text_block.specs.Laws.{name-bytes}
 use borrow.Author.Needs.{needs}
 use Rattle.text_block.proofs.name_lines.Statement.{statement}
 use Rattle.text_block.proofs.name_lines.Tie as tie

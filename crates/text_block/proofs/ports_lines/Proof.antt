@@ -1,7 +1,7 @@
 -- The count, then the lines: a list of words has half as many ports.
 use Rattle.text_lines.specs.Laid.{laid-then}
 use Rattle.text_block.specs.Parts.{laid-as}
-use Rattle.text_block.proofs.Laws.{ports-bytes}
+use Rattle.text_block.specs.Laws.{ports-bytes}
 use borrow.Author.Needs.{needs}
 use Rattle.text_block.proofs.ports_lines.Statement.{statement}
 use Rattle.text_block.proofs.ports_lines.Tie as tie

@@ -8,7 +8,7 @@ use Rattle.memory.specs.Layout.{places}
 use Rattle.rules.specs.Basics.{last}
 use Rattle.text_lines.specs.Laid.{Laid, laid-none, laid-then, laid-same}
 use Rattle.text_block.specs.Parts.{laid-as}
-use Rattle.text_block.proofs.Laws.{provsFrom, one-provision, no-provision, provision-bytes}
+use Rattle.text_block.specs.Laws.{provsFrom, one-provision, no-provision, provision-bytes}
 use borrow.Author.Needs.{needs}
 use Rattle.text_block.proofs.provision_lines.Statement.{statement}
 use Rattle.text_block.proofs.provision_lines.Tie as tie

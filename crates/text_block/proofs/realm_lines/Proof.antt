@@ -1,7 +1,7 @@
 -- Edition and default, then the rows.
 use Rattle.text_lines.specs.Laid.{laid-then}
 use Rattle.text_block.specs.Parts.{laid-as}
-use Rattle.text_block.proofs.Laws.{realm-bytes}
+use Rattle.text_block.specs.Laws.{realm-bytes}
 use borrow.Author.Needs.{needs}
 use Rattle.text_block.proofs.realm_lines.Statement.{statement}
 use Rattle.text_block.proofs.realm_lines.Tie as tie
