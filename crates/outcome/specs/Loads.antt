@@ -7,6 +7,7 @@ use Rattle.rules.specs.Answers.{done-exact}
 use Rattle.memory.proofs as memory
 use Rattle.memory_life.proofs as memory_life
 use Rattle.memory_values.proofs as memory_values
+use Rattle.memory_keys.proofs as memory_keys
 use Rattle.memory_providers.proofs as memory_providers
 use Rattle.memory_load.proofs as memory_load
 use Rattle.ports_given.proofs as ports_given
@@ -56,6 +57,9 @@ memory-providers-meets κs a r s ms ns p q = by-equation p q
 
 pub memory-providers-providers-among : One memory_providers.«providers_among».ended memory_providers.«providers_among».Reads.Learnt
 memory-providers-providers-among κs a r s ms ns p q = by-equation p q
+
+pub memory-keys-provider-by : One memory_keys.«provider_by».ended memory_keys.«provider_by».Reads.Learnt
+memory-keys-provider-by κs a r s ms ns p q = by-two p q
 
 pub memory-load-load-place : One memory_load.«load_place».ended memory_load.«load_place».Reads.Learnt
 memory-load-load-place κs a r s ms ns p q = memory-alone p q

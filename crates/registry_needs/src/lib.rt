@@ -15,6 +15,7 @@ use memory::Life;
 use memory::Place;
 use memory::WORDS;
 use memory::layout::PLACES;
+use memory::layout::ROW_WORDS;
 use memory_providers::KeyBits;
 use rules::Phase;
 
@@ -82,10 +83,13 @@ fn is_available(m: &[u64; WORDS], table: &mut [u64; PLACES], key: u64, realm: u6
     is_active(memory_life::load(m, at))
 }
 
-// Whether each port of the list has an Active provider. The table is filled as far as the lookups go.
+// Whether each port of the list has an Active provider. The table is filled as far as the lookups go; without a port there is none.
 pub fn all_available(m: &[u64; WORDS], list: &[u64]) -> bool
     ensures { λ r. ⌜ r ≡ all (available (view (now (m .entry)))) (pairs (now (list .entry))) ⌝ }
 {
+    if list.len() < ROW_WORDS {
+        return true;
+    }
     let mut table = [0u64; PLACES];
     let mut i: usize = 1;
     while i < list.len() {

@@ -6,7 +6,6 @@ use mathlib.Core.Bool.{Bool, true, false}
 use mathlib.Core.List.{List, _++_}
 use mathlib.Core.Option.{Option}
 use lib.ListN.{length, getD, drop, length-append}
-use Rattle.rules.specs.Limits.{maxProvisionKeys}
 use Rattle.rules_types.specs.declared.Port.{Port}
 use Rattle.rules_types.specs.declared.Phase.{Phase}
 use Rattle.rules_types.specs.declared.Phase.the-variants.{Idle, Loading, Active, Unloading}
@@ -17,7 +16,8 @@ use Rattle.text_form.specs.Bytes.{bytes}
 use Rattle.text_form.specs.Digits.{decimalOf}
 use Rattle.text_laws.specs.Parts.{blockOf}
 use Rattle.memory.specs.Layout.{idAt, depPart, provPart, realmPart}
-use Rattle.memory.specs.View.{lifeAt, anchorAt, valueAt, pluginAt}
+use Rattle.memory.specs.View.{lifeAt, anchorAt, pluginAt}
+use Rattle.memory_values.specs.Values.{valueBelow}
 use Rattle.memory.specs.declared.Life.{Life}
 use Rattle.ports.specs.Places.{pairs-behind, pairs-end}
 use Rattle.text_lines.specs.Lines.{ended, orNone, pair, triple, rootLines, portLines}
@@ -76,7 +76,7 @@ module _ (name ports : List ℕ) (i : ℕ) where
 
 -- the line of the j-th of the words' provisions
 abbrev lineAt : List ℕ → ℕ → ℕ → List ℕ → List ℕ
-lineAt m i j w = provisionLine (getD w (j * 2) 0) (getD w (j * 2 + 1) 0) (valueAt m i (j % maxProvisionKeys))
+lineAt m i j w = provisionLine (getD w (j * 2) 0) (getD w (j * 2 + 1) 0) (valueBelow m i j)
 
 module _ (m : List ℕ) (i : ℕ) where
   pub name-length : {n : ℕ} → n ≡ idAt m i → length (nameLines (pluginAt m i)) ≡ 11 + digits n + length (orNone (pluginAt m i .parent))

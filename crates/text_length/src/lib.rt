@@ -3,12 +3,12 @@
 ghost use mathlib.Core.Path.{_≡_};
 ghost use Prim.Native.Nat.{_%_, _≤_};
 ghost use lib.ListN.{length};
-ghost use Rattle.rules.specs.Limits.{maxProvisionKeys};
 ghost use Rattle.rules.specs.Answers.{optionOf};
 ghost use Rattle.rules.specs.Ports.{pairs};
 ghost use Rattle.rules.specs.Text.Values.{editionAndDefault};
 ghost use Rattle.memory.specs.Layout.{places};
-ghost use Rattle.memory.specs.View.{valueAt, pluginAt};
+ghost use Rattle.memory.specs.View.{pluginAt};
+ghost use Rattle.memory_values.specs.Values.{valueBelow};
 ghost use Rattle.text_form.specs.Digits.{decimalOf};
 ghost use Rattle.text_laws.specs.Parts.{blockOf};
 ghost use Rattle.text_lines.specs.Lines.{orNone, rootLines};
@@ -120,7 +120,7 @@ fn list_lines(m: &[u64; WORDS], place: usize) -> usize
 
 // key,realm,value or none
 fn provision_line(m: &[u64; WORDS], place: usize, provision: usize, key: u64, realm: u64) -> usize
-    ensures { λ r. ⌜ (r ≡ length (provisionLine key realm (valueAt (now (m .entry)) (place % places) (provision % maxProvisionKeys)))) × (r ≤ 68) ⌝ }
+    ensures { λ r. ⌜ (r ≡ length (provisionLine key realm (valueBelow (now (m .entry)) (place % places) provision))) × (r ≤ 68) ⌝ }
 {
     b"prov=,,".len()
         + digits(key)

@@ -23,6 +23,11 @@ Inv-loop m list table₀ i₀ table i =
 abbrev μ-loop : tie.MeasureT-loop
 μ-loop m list table₀ i₀ table i = length list - i
 
+returns : tie.Need-returns Inv-loop μ-loop
+returns c =
+    let a = c .before .before .args in
+    sym (ap (all (available (view (a .m .now)))) (pairs-end (a .list .now) 0 (omega arith)))
+
 loop-holds : tie.Need-loop-holds Inv-loop μ-loop
 loop-holds c = (omega arith, none-known _, refl)
 
@@ -54,26 +59,26 @@ loop-again : tie.Need-loop-again Inv-loop μ-loop
 loop-again c =
     let n = c .before .before .before .before .before in
     let at = n .before in
-    let a = at .before .before .args in
+    let a = at .before .before .before .args in
     let f : Port → Bool = available (view (a .m .now)) in
     let s = pairs-behind (a .list .now) (at .loop .i) (at .loop .inv .0) (n .loop-test .taken) in
     let e = c .before .is-available .ensures in
-    (omega arith, e .1, at .loop .inv .2 ∙ all-hit f s (sym (e .0) ∙ c .if1 .taken))
-
-returns : tie.Need-returns Inv-loop μ-loop
-returns c =
-    let n = c .before .before .before .before .before in
-    let at = n .before in
-    let a = at .before .before .args in
-    let f : Port → Bool = available (view (a .m .now)) in
-    let s = pairs-behind (a .list .now) (at .loop .i) (at .loop .inv .0) (n .loop-test .taken) in
-    let e = c .before .is-available .ensures in
-    sym (at .loop .inv .2 ∙ all-miss f s (sym (e .0) ∙ c .if1 .left))
+    (omega arith, e .1, at .loop .inv .2 ∙ all-hit f s (sym (e .0) ∙ c .if2 .taken))
 
 returns-2 : tie.Need-returns-2 Inv-loop μ-loop
 returns-2 c =
+    let n = c .before .before .before .before .before in
+    let at = n .before in
+    let a = at .before .before .before .args in
+    let f : Port → Bool = available (view (a .m .now)) in
+    let s = pairs-behind (a .list .now) (at .loop .i) (at .loop .inv .0) (n .loop-test .taken) in
+    let e = c .before .is-available .ensures in
+    sym (at .loop .inv .2 ∙ all-miss f s (sym (e .0) ∙ c .if2 .left))
+
+returns-3 : tie.Need-returns-3 Inv-loop μ-loop
+returns-3 c =
     let at = c .before in
-    let a = at .before .before .args in
+    let a = at .before .before .before .args in
     let f : Port → Bool = available (view (a .m .now)) in
     sym (at .loop .inv .2 ∙ ap (all f) (pairs-end (a .list .now) (at .loop .i - 1) (omega arith)))
 
@@ -83,6 +88,7 @@ all-available-spec =
     (tie.spec
     Inv-loop
     μ-loop
+    returns
     loop-holds
     sub-is-available
     mul-is-available
@@ -93,5 +99,5 @@ all-available-spec =
     add-i
     loop-less
     loop-again
-    returns
-    returns-2)
+    returns-2
+    returns-3)
