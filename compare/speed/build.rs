@@ -1,4 +1,4 @@
-//! Links both sides; `run` says where they lie.
+//! Links the sides; `run` says where they lie.
 
 use std::{env, fs};
 
@@ -11,11 +11,15 @@ fn main() {
         env::var(name).unwrap_or_else(|_| panic!("{name} names a folder; see run"))
     };
     let plain = folder("PLAIN_SIDE");
-    println!("cargo:rerun-if-changed={plain}/libplain_side.so");
+    let link = |library: &str| {
+        println!("cargo:rerun-if-changed={plain}/lib{library}.so");
+        println!("cargo:rustc-link-lib=dylib={library}");
+    };
     println!("cargo:rustc-link-search=native={plain}");
-    println!("cargo:rustc-link-lib=dylib=plain_side");
     println!("cargo:rustc-link-arg=-Wl,-rpath,$ORIGIN");
+    link("plain_side");
     if env::var_os("CARGO_FEATURE_TWICE").is_none() {
+        link("summary_side");
         let ours = folder("VASKELBI");
         println!("cargo:rerun-if-changed={ours}/libvaskelbi.a");
         println!("cargo:rustc-link-search=native={ours}");

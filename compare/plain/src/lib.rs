@@ -25,6 +25,7 @@ mod registry;
 mod replacement;
 mod retirement;
 mod slot;
+mod summary;
 mod text;
 mod values;
 
@@ -48,4 +49,5 @@ pub use registry::{MAX_PLUGINS, Registry, Shown};
 pub use replacement::{Record, RefusedPayload};
 pub use retirement::Child;
 pub use slot::{ChildSlot, Decision};
+pub use summary::SUMMARIES;
 pub use text::{MAX_DIGITS, decimal};

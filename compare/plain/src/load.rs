@@ -5,12 +5,12 @@ use crate::dependencies::Dependencies;
 use crate::phases::Phase;
 use crate::plugin::Plugin;
 use crate::ports::{MAX_REALM_ROWS, Port, Realms};
-use crate::providers::Providers;
 use crate::reading::Reader;
 use crate::refusal::Refusal;
 use crate::registration::{MAX_DEPENDENCIES, MAX_DEPENDENCY_KEYS, MAX_PROVISION_KEYS, MAX_ROWS};
 use crate::registry::{MAX_PLUGINS, Registry};
 use crate::replacement::Record;
+use crate::summary::Summary;
 
 impl Registry {
     /// Puts the registry that a text tells in this one's place, with another domain
@@ -47,8 +47,7 @@ impl Registry {
             self.read_plugin(place, &mut text)?;
         }
         text.end()?;
-        let providers = Providers::of(self);
-        (providers.differ() && providers.supply()).then_some(())
+        self.agrees().then_some(())
     }
 
     /// Reads a plugin into the place that is free after those before it.
@@ -116,6 +115,8 @@ impl Plugin {
             }
         }
 
+        self.offers = Summary::of(&self.provisions).with(self.anchor.key);
+        self.needs = Summary::of(&self.dependencies);
         if !self.list_is_given(inherited, realms) || !self.state_fits() {
             return None;
         }
@@ -141,7 +142,14 @@ impl Plugin {
         }
         let mut given = Dependencies::EMPTY;
         given
-            .finish(&declared[..count], inherited, realms, &self.provisions, self.anchor)
+            .finish(
+                &declared[..count],
+                inherited,
+                realms,
+                &self.provisions,
+                self.anchor,
+                self.offers,
+            )
             .is_ok_and(|()| *given == *list)
     }
 

@@ -116,7 +116,9 @@ impl Registry {
     /// Whether a Loading or Active plugin depends on a port of this one.
     fn is_in_use(&self, plugin: &Plugin) -> bool {
         self.registered().any(|(_, other)| {
-            other.is_up() && other.dependencies.iter().any(|&port| plugin.provides(port))
+            other.is_up()
+                && other.needs.may_share(plugin.offers)
+                && other.dependencies.iter().any(|&port| plugin.provides(port))
         })
     }
 }

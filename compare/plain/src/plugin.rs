@@ -6,6 +6,7 @@ use crate::phases::Phase;
 use crate::ports::{Edition, MAX_REALM_ROWS, Port};
 use crate::registration::{MAX_DEPENDENCIES, MAX_PROVISION_KEYS};
 use crate::replacement::Record;
+use crate::summary::Summary;
 use crate::values::Values;
 
 /// One plugin's place. Its id stands in the registry's table of ids.
@@ -23,6 +24,10 @@ pub struct Plugin {
     pub(crate) dependencies: PortList<MAX_DEPENDENCIES>,
     pub(crate) provisions: PortList<MAX_PROVISION_KEYS>,
     pub(crate) values: Values,
+    /// Of the provisions and the anchor.
+    pub(crate) offers: Summary,
+    /// Of the dependencies.
+    pub(crate) needs: Summary,
 }
 
 impl Plugin {
@@ -43,6 +48,8 @@ impl Plugin {
         dependencies: PortList::EMPTY,
         provisions: PortList::EMPTY,
         values: Values::NONE,
+        offers: Summary::EMPTY,
+        needs: Summary::EMPTY,
     };
 
     pub fn parent(&self) -> Option<u64> {
@@ -98,16 +105,33 @@ impl Plugin {
 
     /// Where a port stands in the provision list.
     pub(crate) fn provision(&self, port: Port) -> Option<usize> {
+        if !self.offers.may_have(port.key) {
+            return None;
+        }
         self.provisions.iter().position(|&p| p == port)
     }
 
     /// Whether this plugin is the port's provider, by a provision or the anchor.
     pub fn provides(&self, port: Port) -> bool {
-        self.anchor == port || self.provisions.contains(&port)
+        self.offers.may_have(port.key) && (self.anchor == port || self.provisions.contains(&port))
+    }
+
+    /// Whether this plugin provides one of these ports. The summary is of them.
+    pub(crate) fn provides_any(&self, anchor: Port, provisions: &[Port], offers: Summary) -> bool {
+        self.offers.may_share(offers)
+            && (self.provides(anchor) || provisions.iter().any(|&port| self.provides(port)))
+    }
+
+    /// Whether no port comes twice among the provisions and the anchor.
+    pub(crate) fn provides_once(&self) -> bool {
+        self.provisions
+            .iter()
+            .enumerate()
+            .all(|(n, port)| *port != self.anchor && !self.provisions[..n].contains(port))
     }
 
     pub fn depends_on(&self, port: Port) -> bool {
-        self.dependencies.contains(&port)
+        self.needs.may_have(port.key) && self.dependencies.contains(&port)
     }
 
     /// Whether this plugin holds its dependencies: Loading or Active.

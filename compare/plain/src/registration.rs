@@ -8,6 +8,7 @@ use crate::ports::{Port, RealmList};
 use crate::refusal::Refusal;
 use crate::registry::Registry;
 use crate::replacement::Record;
+use crate::summary::Summary;
 
 /// The most dependency keys a registration may declare.
 pub const MAX_DEPENDENCY_KEYS: usize = 16;
@@ -52,7 +53,8 @@ impl Registry {
         if has_repeat(new.provisions) || provisions.contains(&new.anchor) {
             return Err(Refusal::DuplicateProvision);
         }
-        if self.is_taken(new.anchor, &provisions) {
+        let offers = Summary::of(&provisions).with(new.anchor.key);
+        if self.is_taken(new.anchor, &provisions, offers) {
             return Err(Refusal::Taken);
         }
         if self.next == u64::MAX {
@@ -66,7 +68,14 @@ impl Registry {
         // nobody reads the place, so a refusal below still changes nothing.
         let place = self.occupancy.trailing_ones() as usize;
         let (plugin, inherited) = self.new_place(place, parent);
-        plugin.dependencies.finish(new.dependencies, inherited, realms, &provisions, new.anchor)?;
+        plugin.dependencies.finish(
+            new.dependencies,
+            inherited,
+            realms,
+            &provisions,
+            new.anchor,
+            offers,
+        )?;
         plugin.provisions = provisions;
         let rows = plugin.rows();
         if self.rows + rows > MAX_ROWS {
@@ -84,6 +93,8 @@ impl Registry {
         plugin.edition = realms.edition();
         plugin.realms.refill(realms.rows());
         plugin.values.drop_all();
+        plugin.offers = offers;
+        plugin.needs = Summary::of(&plugin.dependencies);
         Ok(self.occupy(place, rows))
     }
 
@@ -100,11 +111,10 @@ impl Registry {
         Ok(place)
     }
 
-    /// Whether a registered plugin provides the anchor or one of the provisions.
-    fn is_taken(&self, anchor: Port, provisions: &[Port]) -> bool {
-        self.registered().any(|(_, plugin)| {
-            plugin.provides(anchor) || provisions.iter().any(|&port| plugin.provides(port))
-        })
+    /// Whether a registered plugin provides the anchor or one of the provisions. The
+    /// summary is of them.
+    fn is_taken(&self, anchor: Port, provisions: &[Port], offers: Summary) -> bool {
+        self.registered().any(|(_, plugin)| plugin.provides_any(anchor, provisions, offers))
     }
 
     /// A free place, to be written, with the list to inherit from the parent.

@@ -93,7 +93,8 @@ impl Registry {
     /// Whether a port is declared as a service that the plugin may use now.
     pub fn declares(&self, id: u64, port: Port) -> Result<bool, Refusal> {
         let plugin = self.plugin(id)?;
-        Ok(plugin.provisions.contains(&port) || plugin.is_up() && plugin.depends_on(port))
+        let provided = plugin.offers.may_have(port.key) && plugin.provisions.contains(&port);
+        Ok(provided || plugin.is_up() && plugin.depends_on(port))
     }
 
     pub(crate) fn active_provider(&self, port: Port) -> Option<&Plugin> {

@@ -1,11 +1,11 @@
-//! The same answers: random scripts carried out on both sides, every word compared.
+//! The same answers: random scripts carried out on all sides, every word compared.
 
 use std::collections::{BTreeMap, BTreeSet};
 
 use plain::console::{BUFFER, Lines, Operation, TEXT, is_passed_over, parse};
 use plain::{RealmList, Registration};
 
-use crate::sides::{OURS, Out, PLAIN, Side};
+use crate::sides::{Out, SIDES, Side};
 use crate::slots;
 use crate::worlds::World;
 
@@ -134,7 +134,7 @@ impl Tally {
     }
 }
 
-/// Carries out so many operations of the scripts, and so many of slots, on both sides.
+/// Carries out so many operations of the scripts, and so many of slots, on all sides.
 pub fn compare(operations: u64, slot_operations: u64) -> Result<Tally, String> {
     let mut tally = Tally::default();
     for seed in 1.. {
@@ -151,7 +151,7 @@ pub fn compare(operations: u64, slot_operations: u64) -> Result<Tally, String> {
 fn script(seed: u64, operations: u64, tally: &mut Tally) -> Result<(), String> {
     let mut text = Vec::new();
     plain::script::write(seed, LINES, &mut text).expect("memory can be written to");
-    let mut desks = [&PLAIN, &OURS].map(Desk::new);
+    let mut desks = SIDES.map(Desk::new);
     let mut numbers = Vec::new();
     let mut lines = Lines::new(&text[..]);
     while let Some(line) = lines.next_line().expect("memory can be read") {
@@ -161,26 +161,19 @@ fn script(seed: u64, operations: u64, tally: &mut Tally) -> Result<(), String> {
             desk.told.clear();
             desk.carry_out(&operation);
         }
-        let [plain, ours] = &desks;
+        let [plain, others @ ..] = &desks;
         if plain.told.is_empty() {
             continue;
         }
-        let line = String::from_utf8_lossy(line.words);
-        for (a, b) in plain.told.iter().zip(&ours.told) {
-            if a != b {
-                let (f, p, q, r, s) = (a.function, a.status, a.out, b.status, b.out);
-                return Err(format!(
-                    "seed {seed}, {line}: {f} answers {p} {q:?}, and ours {r} {s:?}"
-                ));
-            }
-            tally.add(a.function, a.status);
-        }
-        if plain.buffer != ours.buffer {
-            return Err(format!("seed {seed}, {line}: the buffers differ"));
-        }
         let text = matches!(operation, Operation::Write { .. } | Operation::Load { .. });
-        if text && plain.text != ours.text {
-            return Err(format!("seed {seed}, {line}: the texts differ"));
+        for other in others {
+            plain.compare(other, text).map_err(|why| {
+                let line = String::from_utf8_lossy(line.words);
+                format!("seed {seed}, {line}: {why}")
+            })?;
+        }
+        for told in &plain.told {
+            tally.add(told.function, told.status);
         }
         tally.operations += 1;
         if tally.operations == operations {
@@ -198,6 +191,24 @@ impl Desk {
         Self { side, words, buffer: [0; BUFFER], text: vec![0; TEXT], told: Vec::new() }
     }
 
+    /// Says where another desk's answers to the same operation differ.
+    fn compare(&self, other: &Self, text: bool) -> Result<(), String> {
+        let name = other.side.name;
+        for (a, b) in self.told.iter().zip(&other.told) {
+            if a != b {
+                let (f, p, q, r, s) = (a.function, a.status, a.out, b.status, b.out);
+                return Err(format!("{f} answers {p} {q:?}, and {name} {r} {s:?}"));
+            }
+        }
+        if self.buffer != other.buffer {
+            return Err(format!("the buffer of {name} differs"));
+        }
+        if text && self.text != other.text {
+            return Err(format!("the text of {name} differs"));
+        }
+        Ok(())
+    }
+
     fn ask(
         &mut self,
         function: &'static str,
@@ -208,7 +219,7 @@ impl Desk {
         self.told.push(Told { function, status, out });
     }
 
-    /// Writes the text, over the same bytes on both sides, to see what it leaves alone.
+    /// Writes the text, over the same bytes on all sides, to see what it leaves alone.
     fn write(&mut self, length: usize) {
         self.text.fill(b'#');
         let text = self.text.as_mut_ptr();

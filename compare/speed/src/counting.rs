@@ -6,18 +6,12 @@ use std::sync::atomic::{AtomicUsize, Ordering};
 use std::thread;
 
 use crate::cases::CASES;
-use crate::sides::{EMPTY, OURS, PLAIN, Side};
+use crate::sides::{EMPTY, Measured, SIDES, Side};
 use crate::timing::{copies, prepared, run, text};
 
 /// Worlds that lie ready in either run. Now and then the start of a program takes a
 /// few instructions more or less: with so many worlds that doesn't show.
 const WORLDS: usize = 64;
-
-/// Instructions of one operation, without the driver's and a return for each call.
-pub struct Counts {
-    pub plain: f64,
-    pub ours: f64,
-}
 
 /// The inner run: makes the worlds ready and uses so many of them.
 pub fn inner(side: &str, case: usize, worlds: usize) -> u64 {
@@ -27,8 +21,7 @@ pub fn inner(side: &str, case: usize, worlds: usize) -> u64 {
 }
 
 fn side_named(name: &str) -> &'static Side {
-    let sides = [&PLAIN, &OURS, &EMPTY];
-    sides.into_iter().find(|side| side.name == name).expect("a side's name")
+    SIDES.into_iter().chain([&EMPTY]).find(|side| side.name == name).expect("a side's name")
 }
 
 /// Whether valgrind is there.
@@ -61,15 +54,15 @@ fn used(side: &Side, case: usize) -> u64 {
     whole(side, case, WORLDS) - whole(side, case, 0)
 }
 
-fn count(case: usize) -> Counts {
+/// Instructions of one operation, without the driver's and a return for each call.
+fn count(case: usize) -> Measured {
     let driver = used(&EMPTY, case);
     let operations = CASES[case].operations * WORLDS as u64;
-    let each = |side| (used(side, case) as f64 - driver as f64) / operations as f64;
-    Counts { plain: each(&PLAIN), ours: each(&OURS) }
+    SIDES.map(|side| (used(side, case) as f64 - driver as f64) / operations as f64)
 }
 
 /// Counts these cases, several at a time: a count doesn't depend on what else runs.
-pub fn all(cases: &[usize]) -> Vec<Counts> {
+pub fn all(cases: &[usize]) -> Vec<Measured> {
     let next = AtomicUsize::new(0);
     let counts = Mutex::new(Vec::new());
     thread::scope(|scope| {

@@ -1,4 +1,4 @@
-//! The speed of the proved registry against the plain one: `speed [TABLE]` compares
+//! The speed of the proved registry against two plain ones: `speed [TABLE]` compares
 //! answers, then times and counts, and writes a table to standard output and to the
 //! file. `speed only WORDS` measures the cases whose names have these words, and
 //! writes no file.
@@ -18,7 +18,7 @@ use std::{env, fs};
 
 use cases::CASES;
 
-/// How many operations are carried out on both sides before anything is timed.
+/// How many operations are carried out on all sides before anything is timed.
 const OPERATIONS: u64 = 200_000;
 
 /// How many of slots.

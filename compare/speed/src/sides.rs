@@ -1,4 +1,4 @@
-//! The sides: the same C functions over either registry, and over nothing.
+//! The sides: the same C functions over each registry, and over nothing.
 
 use std::arch::global_asm;
 
@@ -9,17 +9,12 @@ const PROVED: usize = match usize::from_str_radix(env!("WORDS"), 10) {
 };
 
 /// The words that each world has, whichever registry lies in it.
-pub const WORLD: usize = 6144;
+pub const WORLD: usize = 6656;
 
-/// Whether both registries fit into a world.
+/// Whether all registries fit into a world.
 pub fn fit() -> bool {
-    PROVED.max(unsafe { plain_words() }) <= WORLD
-}
-
-unsafe extern "C" {
-    fn plain_words() -> usize;
-    fn plain_prepare(m: *mut u64);
-    fn plain_slot_words(slot: *const u64, words: &mut Slot);
+    let plain = unsafe { plain::words().max(summary::words()) };
+    PROVED.max(plain) <= WORLD
 }
 
 /// A count and up to six numbers.
@@ -32,8 +27,27 @@ pub const SLOT: usize = 8;
 /// decision (0 Pending, 1 Assigned, 2 Failed, 3 Cancelled), and the assigned identity.
 pub type Slot = [u64; SLOT];
 
+/// The sides that are compared and measured, in the order of the table's columns.
+pub const SIDES: [&Side; 3] = [&PLAIN, &SUMMARY, &OURS];
+
+/// What was measured on each of them.
+pub type Measured = [f64; SIDES.len()];
+
 // It does nothing: what is left of a run is the driver's own cost.
 global_asm!(".globl nothing_at_all", "nothing_at_all:", "ret");
+
+/// Functions whose C names begin alike.
+macro_rules! functions {
+    ($begin:literal; $( fn $name:ident($($arg:ident: $kind:ty),*) $(-> $answer:ty)?; )*) => {
+        use super::*;
+        unsafe extern "C" {
+            $(
+                #[link_name = concat!($begin, stringify!($name))]
+                pub fn $name($($arg: $kind),*) $(-> $answer)?;
+            )*
+        }
+    };
+}
 
 macro_rules! sides {
     ($( fn $name:ident($($arg:ident: $kind:ty),*) $(-> $answer:ty)?; )*) => {
@@ -48,36 +62,39 @@ macro_rules! sides {
         }
 
         mod plain {
-            use super::Out;
-            unsafe extern "C" {
-                $(
-                    #[link_name = concat!("plain_", stringify!($name))]
-                    pub fn $name($($arg: $kind),*) $(-> $answer)?;
-                )*
+            functions! {
+                "plain_side_";
+                fn words() -> usize;
+                fn prepare(m: *mut u64);
+                fn slot_words(slot: *const u64, words: &mut Slot);
+                $( fn $name($($arg: $kind),*) $(-> $answer)?; )*
             }
         }
 
-        mod proved {
-            use super::Out;
-            unsafe extern "C" {
-                $(
-                    #[cfg_attr(
-                        feature = "twice",
-                        link_name = concat!("plain_", stringify!($name))
-                    )]
-                    #[cfg_attr(
-                        not(feature = "twice"),
-                        link_name = concat!("vaskelbi_", stringify!($name))
-                    )]
-                    pub fn $name($($arg: $kind),*) $(-> $answer)?;
-                )*
+        #[cfg(not(feature = "twice"))]
+        mod summary {
+            functions! {
+                "summary_side_";
+                fn words() -> usize;
+                fn prepare(m: *mut u64);
+                fn slot_words(slot: *const u64, words: &mut Slot);
+                $( fn $name($($arg: $kind),*) $(-> $answer)?; )*
             }
         }
+
+        #[cfg(not(feature = "twice"))]
+        mod proved {
+            functions! { "vaskelbi_"; $( fn $name($($arg: $kind),*) $(-> $answer)?; )* }
+            pub(super) use super::{any_words as prepare, own_words as slot_words};
+        }
+
+        #[cfg(feature = "twice")]
+        use {plain as proved, plain as summary};
 
         // One instruction stands for them all, whatever their arguments.
         #[allow(clashing_extern_declarations)]
         mod empty {
-            use super::Out;
+            use super::*;
             unsafe extern "C" {
                 $(
                     #[link_name = "nothing_at_all"]
@@ -88,15 +105,23 @@ macro_rules! sides {
 
         pub static PLAIN: Side = Side {
             name: "plain",
-            prepare: plain_prepare,
-            slot_words: plain_slot_words,
+            prepare: plain::prepare,
+            slot_words: plain::slot_words,
             $( $name: plain::$name, )*
+        };
+
+        /// The plain registry with summaries.
+        pub static SUMMARY: Side = Side {
+            name: "summary",
+            prepare: summary::prepare,
+            slot_words: summary::slot_words,
+            $( $name: summary::$name, )*
         };
 
         pub static OURS: Side = Side {
             name: "ours",
-            prepare: prepare_ours,
-            slot_words: slot_words_ours,
+            prepare: proved::prepare,
+            slot_words: proved::slot_words,
             $( $name: proved::$name, )*
         };
 
@@ -117,12 +142,6 @@ extern "C" fn any_words(_: *mut u64) {}
 unsafe extern "C" fn own_words(slot: *const u64, words: &mut Slot) {
     *words = unsafe { slot.cast::<Slot>().read() };
 }
-
-#[cfg(feature = "twice")]
-use {plain_prepare as prepare_ours, plain_slot_words as slot_words_ours};
-
-#[cfg(not(feature = "twice"))]
-use {any_words as prepare_ours, own_words as slot_words_ours};
 
 sides! {
     fn open(m: *mut u64, domain: u64, first: u64);

@@ -1,9 +1,9 @@
-//! The same slots: random operations on both sides, every word compared.
+//! The same slots: random operations on all sides, every word compared.
 
 use std::collections::BTreeSet;
 
 use crate::answers::Tally;
-use crate::sides::{OURS, PLAIN, SLOT, Side, Slot};
+use crate::sides::{SIDES, SLOT, Side, Slot};
 
 /// The slots that lie side by side: what a call writes beyond its own shows in the next.
 const BENCH: usize = 8;
@@ -104,43 +104,45 @@ pub fn tell(side: &Side, words: &[u64], told: &mut [Slot]) {
     }
 }
 
-/// Makes so many calls on both sides, on slots chosen at random.
+/// Makes so many calls on all sides, on slots chosen at random.
 pub fn compare(operations: u64, tally: &mut Tally) -> Result<(), String> {
-    let sides = [&PLAIN, &OURS];
-    let mut benches = [[0; SLOT * BENCH]; 2];
-    let mut told = [[[0; SLOT]; BENCH]; 2];
-    for n in 0..2 {
-        for slot in benches[n].chunks_exact_mut(SLOT) {
-            unsafe { (sides[n].slot_pending)(slot.as_mut_ptr(), 0, 0, 0) };
+    let mut benches = SIDES.map(|side| {
+        let (mut bench, mut told) = ([0; SLOT * BENCH], [[0; SLOT]; BENCH]);
+        for slot in bench.chunks_exact_mut(SLOT) {
+            unsafe { (side.slot_pending)(slot.as_mut_ptr(), 0, 0, 0) };
         }
-        tell(sides[n], &benches[n], &mut told[n]);
-    }
+        tell(side, &bench, &mut told);
+        (side, bench, told)
+    });
     let (mut rng, mut seen) = (Rng(1), BTreeSet::new());
-    let mut before = told[0];
+    let (_, _, mut before) = benches[0];
     for _ in 0..operations {
         let place = rng.below(BENCH as u64) as usize;
         let slot = before[place];
         let call = rng.call(slot);
-        let [plain, ours] = [0, 1].map(|n| {
-            let bench = &mut benches[n];
+        let [plain, others @ ..] = benches.each_mut().map(|(side, bench, told)| {
             let slot = bench[place * SLOT..][..SLOT].as_mut_ptr();
-            let status = unsafe { call.make(sides[n], slot) };
-            tell(sides[n], bench, &mut told[n]);
-            (status, told[n])
+            let status = unsafe { call.make(side, slot) };
+            tell(side, bench, told);
+            (side.name, (status, *told))
         });
-        if plain != ours {
-            return Err(format!(
-                "{call:?} on slot {place} of {before:?}: {plain:?}, and ours {ours:?}"
-            ));
+        let (_, (status, now)) = plain;
+        for (name, other) in others {
+            if other != (status, now) {
+                return Err(format!(
+                    "{call:?} on slot {place} of {before:?}: {:?}, and {name} {other:?}",
+                    (status, now)
+                ));
+            }
         }
         let origin = match call {
             Call::Assign([domain, parent, _]) => (domain == slot[0], parent == slot[1]),
             _ => (true, true),
         };
         seen.insert((call.name(), slot[4], slot[2], origin));
-        tally.add(call.name(), plain.0);
+        tally.add(call.name(), status);
         tally.slot_operations += 1;
-        before = plain.1;
+        before = now;
     }
     if seen.len() != CIRCUMSTANCES {
         return Err(format!(

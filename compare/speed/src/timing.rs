@@ -7,7 +7,7 @@ use std::time::Instant;
 use plain::console::TEXT;
 
 use crate::cases::{Case, Room};
-use crate::sides::{EMPTY, OURS, PLAIN, SLOT, Side, WORLD};
+use crate::sides::{EMPTY, Measured, PLAIN, SIDES, SLOT, Side, WORLD};
 use crate::slots;
 use crate::worlds::World;
 
@@ -15,12 +15,6 @@ use crate::worlds::World;
 pub const WORLDS: usize = 16;
 
 const ROUNDS: usize = 1001;
-
-/// Nanoseconds for one operation, without the driver's.
-pub struct Times {
-    pub plain: f64,
-    pub ours: f64,
-}
 
 /// The words of the world that a case starts from.
 pub fn prepared(side: &'static Side, case: &Case) -> Vec<u64> {
@@ -79,7 +73,7 @@ pub fn run(
 
 /// Says if a case doesn't do what its name says, or the sides don't do the same.
 pub fn check(case: &Case) -> Result<(), String> {
-    let [plain, ours] = [&PLAIN, &OURS].map(|side| {
+    let [plain, others @ ..] = SIDES.map(|side| {
         let (mut world, mut text) = (prepared(side, case), text(case));
         let mut room = Room::new(&mut text);
         let mut slots = vec![[0; SLOT]; case.slots];
@@ -90,22 +84,25 @@ pub fn check(case: &Case) -> Result<(), String> {
         let told = told(side, case, &mut world);
         (side.name, sum, (out, buffer, text), slots, told)
     });
-    for (name, sum, ..) in [&plain, &ours] {
+    for (name, sum, ..) in others.iter().chain([&plain]) {
         if *sum != case.operations * case.returns {
             return Err(format!("{}: the {name} side returns {sum} in all", case.name));
         }
     }
-    if plain.2 != ours.2 {
-        return Err(format!("{}: {:?} and {:?}", case.name, plain.2.0, ours.2.0));
-    }
     if case.bytes > 0 && case.reads.is_empty() && plain.2.0[..2] != [1, case.bytes] {
         return Err(format!("{}: {:?} for {} bytes", case.name, plain.2.0, case.bytes));
     }
-    if plain.3 != ours.3 {
-        return Err(format!("{}: the slots differ", case.name));
-    }
-    if plain.4 != ours.4 {
-        return Err(format!("{}: the registries differ", case.name));
+    for other in &others {
+        let (case, name) = (case.name, other.0);
+        if plain.2 != other.2 {
+            return Err(format!("{case}: {:?}, and {name} {:?}", plain.2.0, other.2.0));
+        }
+        if plain.3 != other.3 {
+            return Err(format!("{case}: the slots of {name} differ"));
+        }
+        if plain.4 != other.4 {
+            return Err(format!("{case}: the registry of {name} differs"));
+        }
     }
     Ok(())
 }
@@ -115,14 +112,16 @@ fn median(mut times: Vec<f64>) -> f64 {
     times[times.len() / 2]
 }
 
-pub fn time(case: &Case) -> Times {
-    let sides = [&PLAIN, &OURS, &EMPTY];
+/// Nanoseconds for one operation, without the driver's.
+pub fn time(case: &Case) -> Measured {
+    let [plain, summary, ours] = SIDES;
+    let sides = [plain, summary, ours, &EMPTY];
     let ready = sides.map(|side| prepared(side, case));
-    let mut times = [const { Vec::new() }; 3];
+    let mut times = sides.map(|_| Vec::new());
     let (mut worlds, mut text) = (vec![0; WORLDS * WORLD], text(case));
     for round in 0..ROUNDS {
-        for turn in 0..3 {
-            let n = (round + turn) % 3;
+        for turn in 0..sides.len() {
+            let n = (round + turn) % sides.len();
             for world in worlds.chunks_exact_mut(WORLD) {
                 world.copy_from_slice(&ready[n]);
             }
@@ -132,9 +131,8 @@ pub fn time(case: &Case) -> Times {
         }
     }
     let operations = case.operations as f64 * WORLDS as f64;
-    let [plain, ours, empty] = times.map(median);
-    let net = |time: f64| (time - empty).max(0.0) / operations;
-    Times { plain: net(plain), ours: net(ours) }
+    let [times @ .., empty] = times.map(median);
+    times.map(|time| (time - empty).max(0.0) / operations)
 }
 
 /// The machine's load over the last minute, if it tells.

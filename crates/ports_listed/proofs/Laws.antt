@@ -21,8 +21,16 @@ pub numbers : (l : List ℕ) → length (flat (pairs l)) ≡ length l / 2 * 2
 numbers l = omega (arith, length-flat (pairs l), length-pairs l)
 
 -- A turn of the pair writer's loop, and its end.
-pub turn : (l d : List ℕ) (i : ℕ) → i < length d → i < length l → set (take i l ++ drop i d) i (getD l i 0) ≡ take (i + 1) l ++ drop (i + 1) d
+turn : (l d : List ℕ) (i : ℕ) → i < length d → i < length l → set (take i l ++ drop i d) i (getD l i 0) ≡ take (i + 1) l ++ drop (i + 1) d
 turn l d i hd hl = rw add-one (simp zero-add at (paste-suc d 0 l i 0 (omega arith) hl))
+
+pub two-turns : (l d : List ℕ) (row : ℕ) → row * 2 + 1 < length d → row * 2 + 1 < length l →
+    set (set (take (row * 2) l ++ drop (row * 2) d) (row * 2) (getD l (row * 2) 0)) (row * 2 + 1) (getD l (row * 2 + 1) 0)
+    ≡ take ((row + 1) * 2) l ++ drop ((row + 1) * 2) d
+two-turns l d row hd hl =
+    let e : row * 2 + 1 + 1 ≡ (row + 1) * 2 = omega arith in
+    ap (λ (x : List ℕ). set x (row * 2 + 1) (getD l (row * 2 + 1) 0)) (turn l d (row * 2) (omega arith) (omega arith))
+    ∙ turn l d (row * 2 + 1) hd hl ∙ ap (λ (n : ℕ). take n l ++ drop n d) e
 
 pub all : (l d : List ℕ) (i : ℕ) → i ≡ length l / 2 * 2 → take i l ++ drop i d ≡ flat (pairs l) ++ drop (length (flat (pairs l))) d
 all l d i e = rw (numbers, flat-pairs, e)

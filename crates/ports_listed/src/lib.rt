@@ -9,15 +9,19 @@ ghost use Rattle.ports_listed.specs.Answers.{Lists};
 use rules::Number;
 use rules::refusal;
 
-// The pair writer: the whole pairs of a list go to the front of out; its rest stays.
+// The pair writer: the whole pairs of a list go to the front of out; its rest stays. Both numbers are read before either is written, so
+// that a pair moves at once.
 fn put_pairs(ports: &[u64], out: &mut [u64])
     requires { ⌜ length (flat (pairs (now ports))) ≤ length (now out) ⌝ }
     ensures { λ _. ⌜ now (out .exit) ≡ flat (pairs (now (ports .entry))) ++ drop (length (flat (pairs (now (ports .entry))))) (now (out .entry)) ⌝ }
 {
-    let mut i: usize = 0;
-    while i < ports.len() / 2 * 2 {
-        out[i] = ports[i];
-        i += 1;
+    let mut row: usize = 0;
+    while row < ports.len() / 2 {
+        let key = ports[row * 2];
+        let realm = ports[row * 2 + 1];
+        out[row * 2] = key;
+        out[row * 2 + 1] = realm;
+        row += 1;
     }
 }
 

@@ -15,11 +15,11 @@ use crate::telling::{
     of_port, perhaps, tell_slot, whether,
 };
 
-/// Exports functions under C names that begin with `plain_`, none of them inlined.
+/// Exports functions under C names that begin with the library's, none of them inlined.
 macro_rules! border {
     ($( fn $name:ident($($arg:ident: $kind:ty),* $(,)?) $(-> $answer:ty)? $body:block )*) => {
         $(
-            #[unsafe(export_name = concat!("plain_", stringify!($name)))]
+            #[unsafe(export_name = concat!(env!("CARGO_CRATE_NAME"), "_", stringify!($name)))]
             #[inline(never)]
             unsafe extern "C" fn $name($($arg: $kind),*) $(-> $answer)? $body
         )*
