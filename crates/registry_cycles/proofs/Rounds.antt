@@ -3,10 +3,11 @@ use Prim.Native.Nat.{ℕ, zero, suc, _-_, _^_, _<_, _≤_}
 use native.Mathlib.Omega.{arith}
 use mathlib.Core.Path.{_≡_, refl, sym, ap, _∙_}
 use mathlib.Core.Bool.{Bool, true, false, not, _&&_, and-true, and-false}
-use mathlib.Core.List.{List}
+use mathlib.Core.List.{List, [], _∷_}
 use lib.Bits.{bitAnd}
 use lib.Dec.{eqb}
 use lib.ListN.{length}
+use borrow.Author.Tests.{eqb-true, eq-eqb}
 use Rattle.rules.specs.Basics.{any, only}
 use Rattle.rules.specs.Holds.{Plugin, held, plugins, running}
 use Rattle.rules.specs.Conditions.{needs, stillWaiting, noneLeftAfter, noCycles}
@@ -72,6 +73,15 @@ module _ (m : List ℕ) (among left n : ℕ) (t : Left m among left n) where
   pub left-end : n ≤ 0 → eqb left 0 ≡ noCycles (plugins (view m))
   unfolding noneLeftAfter
   left-end h = let s : n ≡ 0 = omega arith in sym (t .goes ∙ rw s left-none)
+
+  pub left-over : left ≡ 0 → true ≡ noCycles (plugins (view m))
+  left-over z =
+      let e : heldIn m left ≡ [] = none-held (heldIn m left) (eqb-true (length (heldIn m left)) 0 (left-none ∙ eq-eqb left 0 z)) in
+      sym (t .goes ∙ ap (noneLeftAfter n) e ∙ for-ever n [] refl)
+    where
+      none-held : (l : List Plugin) → length l ≡ 0 → l ≡ []
+      none-held [] h = refl
+      none-held (p ∷ l) h = absurd (omega arith)
 
   module _ (rows : List ℕ) (needed : Needed m among rows places) (next : ℕ) (e : next ≡ wordOf (waitsAt rows left) places 0) where
     again : heldIn m next ≡ stillWaiting (heldIn m left)

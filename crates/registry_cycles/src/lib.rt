@@ -104,7 +104,8 @@ fn still_waiting(rows: &[u32; PLACES], left: u32) -> u32
     word
 }
 
-// Whether the running plugins need one another without cycles. A round that takes none away is the last, also where none is left.
+// Whether the running plugins need one another without cycles. Where none is left there is none to take away, and a round that takes
+// none away is the last.
 pub fn acyclic(m: &[u64; WORDS]) -> bool
     ensures { λ r. ⌜ r ≡ noCycles (plugins (view (now (m .entry)))) ⌝ }
 {
@@ -112,6 +113,9 @@ pub fn acyclic(m: &[u64; WORDS]) -> bool
     let rows = needed(m, left);
     let mut n: usize = PLACES;
     while 0 < n {
+        if left == 0 {
+            return true;
+        }
         let next = still_waiting(&rows, left);
         if next == left {
             return left == 0;
