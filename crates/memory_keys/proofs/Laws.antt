@@ -1,11 +1,11 @@
 -- The steps of a lookup.
-use Prim.Native.Nat.{ℕ, zero, suc, _+_, _-_, _*_, _<_, _≤_, _%_}
+use Prim.Native.Nat.{ℕ, suc, _+_, _-_, _*_, _<_, _≤_, _%_}
 use native.Mathlib.Omega.{arith}
 use native.Mathlib.Nat.{mod-eq-of-lt}
 use mathlib.Core.Path.{_≡_, refl, sym, ap, _∙_}
 use mathlib.Core.Logic.{_≢_}
-use mathlib.Core.Bool.{Bool, true, false, _&&_, _||_, or-false}
-use mathlib.Core.List.{List, [], _∷_}
+use mathlib.Core.Bool.{Bool, true, false, _||_, or-false}
+use mathlib.Core.List.{List, _∷_}
 use mathlib.Core.Option.{Option, none, some}
 use lib.ListN.{length, drop, getD, set}
 use lib.Seq.{set-getD}
@@ -13,9 +13,7 @@ use borrow.Author.Tests.{eq-eqb, ne-eqb}
 use Rattle.rules.specs.Holds.{port, isIn, samePort, provides, provided}
 use Rattle.rules.specs.Ports.{pairs}
 use Rattle.rules_types.specs.declared.Port.{Port}
-use Rattle.rules_laws.specs.Laws.Tests.{by-test}
-use Rattle.rules_laws.specs.Laws.Members.{same-port}
-use Rattle.ports.specs.Places.{pairs-at, pairs-end, in-hit, in-miss}
+use Rattle.ports.specs.Places.{pairs-at, pairs-end, in-hit, in-miss, in-later, not-same}
 use Rattle.memory_providers.specs.Bits.{withBit, hasBit}
 use Rattle.rules.specs.Basics.{pick}
 use Rattle.memory.specs.Layout.{word, taken, provPart, places}
@@ -23,25 +21,11 @@ use Rattle.memory.specs.View.{anchorAt, pluginAt}
 use Rattle.memory.specs.declared.Place.{Place}
 use Rattle.memory.specs.declared.Place.the-variants.{At, None}
 use Rattle.memory_lists.specs.Listed.{provided-at}
-use Rattle.memory_keys.specs.Tables.{keyWord, placeKeys, bitsWithout, keysWithout, offersBy, keptBy, foundFrom, tableFrom, providerBy, tableBy}
-
-not-same : (p q : Port) → (p .key ≡ q .key → p .realm ≡ q .realm → ⊥) → samePort p q ≡ false
-not-same p q n = by-test (samePort p q)
-    (λ t. let e = same-port p q t in absurd (n (ap (λ (v : Port). v .key) (sym e)) (ap (λ (v : Port). v .realm) (sym e))))
-    (λ f. f)
+use Rattle.memory_keys.specs.Tables.{keyWord, placeKeys, bitsWithout, keysWithout, offersBy, keptBy, foundFrom, tableFrom}
 
 or-right : (a b : Bool) → b ≡ true → (a || b) ≡ true
 or-right true b e = refl
 or-right false b e = e
-
--- a port of the rows from one on is one of all
-pub in-rest : (l : List ℕ) (row : ℕ) (q : Port) → isIn q (pairs (drop (row * 2) l)) ≡ true → isIn q (pairs l) ≡ true
-in-rest l zero q e = e
-in-rest [] (suc row) q e = let s : suc row * 2 ≡ suc (suc (row * 2)) = omega arith in rw s at e
-in-rest (a ∷ []) (suc row) q e = let s : suc row * 2 ≡ suc (suc (row * 2)) = omega arith in rw s at e
-in-rest (a ∷ b ∷ l) (suc row) q e =
-    let s : suc row * 2 ≡ suc (suc (row * 2)) = omega arith in
-    or-right (samePort q _) (isIn q (pairs l)) (in-rest l row q (rw s at e))
 
 module _ (w : ℕ) (l : List ℕ) (q : Port) where
   -- the rows from one on have been looked at in vain, and their keys are in the word
@@ -68,7 +52,7 @@ module _ (w : ℕ) (l : List ℕ) (q : Port) where
         rw e at a
 
     pub seen-there : getD l at 0 ≡ q .key → getD l (at + 1) 0 ≡ q .realm → none ≡ bitsWithout w (pairs l) q
-    seen-there e f = rw (in-rest l (row - 1) q (in-hit here q e f))
+    seen-there e f = rw (in-later q (row - 1) l (in-hit here q e f))
 
     pub seen-next : (getD l at 0 ≡ q .key → getD l (at + 1) 0 ≡ q .realm → ⊥) → (b : ℕ) → b ≡ withBit bits (getD l at 0) → Seen (row - 1) b
     unfolding keyWord

@@ -3,13 +3,12 @@ use Prim.Native.Nat.{ℕ, zero, suc, _+_, _<_, _≤_}
 use native.Mathlib.Omega.{arith}
 use mathlib.Core.Path.{_≡_, refl, sym, ap, _∙_}
 use mathlib.Core.Logic.{_≢_}
-use mathlib.Core.Bool.{Bool, true, false, not, _&&_, _||_}
+use mathlib.Core.Bool.{Bool, true, false, not, _&&_}
 use mathlib.Core.List.{List, [], _∷_}
 use lib.Dec.{eqb}
 use lib.ListN.{length, set, length-set, replicate, getD-replicate}
 use lib.Seq.{getD-set-same, getD-set-other}
-use borrow.Author.Tests.{eqb-true, eqb-false, eq-eqb, ne-eqb}
-use Rattle.rules.specs.Basics.{pick}
+use borrow.Author.Tests.{eqb-true, eqb-false}
 use Rattle.rules.specs.Holds.{Plugin, isIn, provides, provided, samePort}
 use Rattle.rules.specs.Ports.{pairs}
 use Rattle.rules_types.specs.declared.Port.{Port}
@@ -17,7 +16,6 @@ use Rattle.rules_laws.specs.Laws.Tests.{by-test, both}
 use Rattle.memory.specs.Layout.{word, taken, provPart, places}
 use Rattle.memory.specs.View.{anchorAt, pluginAt}
 use Rattle.memory.specs.Lookups.{searchFrom}
-use Rattle.memory.specs.declared.Place.{Place}
 use Rattle.memory_lists.specs.Listed.{provided-at}
 use Rattle.memory_providers.specs.Bits.{withBit, hasBit, bit-stays, bit-comes}
 use Rattle.memory_providers.specs.Providers.{providerAt}

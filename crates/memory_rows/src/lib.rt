@@ -19,7 +19,8 @@ struct Last {
     start: usize,
 }
 
-// A start behind a gap comes down; any other is not written. Its place is the last one, if it is taken and its rows stand later than those of the last one so far.
+// A start behind a gap comes down; any other is not written. Its place is the last one, if it is taken and its rows stand later than
+// those of the last one so far.
 fn lower_start(m: &mut [u64; WORDS], place: usize, end: usize, count: usize, last: Last) -> Last
     requires { ⌜ (count ≤ end) × (place < places) ⌝ }
     ensures { λ r. ⌜ (now (m .exit) ≡ loweredAt (now (m .entry)) end count place) × (r ≡ later (now (m .entry)) end place last) ⌝ }
@@ -41,7 +42,8 @@ fn lower_start(m: &mut [u64; WORDS], place: usize, end: usize, count: usize, las
     last
 }
 
-// The starts behind a gap come down. Of one place and the taken ones behind the gap, the one whose rows stand last is told: all rows end with its own.
+// The starts behind a gap come down. Of one place and the taken ones behind the gap, the one whose rows stand last is told: all rows
+// end with its own.
 fn lower_starts(m: &mut [u64; WORDS], end: usize, count: usize, first: Last) -> Last
     requires { ⌜ count ≤ end ⌝ }
     ensures { λ r. ⌜ (now (m .exit) ≡ lowerFrom places (now (m .entry)) end count 0) × (r ≡ lastFrom places (now (m .entry)) end 0 first) ⌝ }

@@ -1,12 +1,12 @@
 -- The steps of both searches, at a list that starts with q.
 use Prim.Native.Nat.{ℕ, _%_, _<_}
 use native.Mathlib.Nat.{mod-eq-of-lt}
-use mathlib.Core.Path.{_≡_, refl, sym, ap, _∙_}
+use mathlib.Core.Path.{_≡_, sym, ap, _∙_}
 use mathlib.Core.Bool.{Bool, true, false, _&&_, _||_}
-use mathlib.Core.List.{List, [], _∷_}
+use mathlib.Core.List.{List, _∷_}
 use lib.ListN.{length}
-use Rattle.rules.specs.Basics.{all, any, holds}
-use Rattle.rules.specs.Holds.{Plugin, isActive, isLoading, running}
+use Rattle.rules.specs.Basics.{all, any}
+use Rattle.rules.specs.Holds.{isActive, isLoading, running}
 use Rattle.rules_types.specs.declared.Port.{Port}
 use Rattle.rules.specs.Orders.{named, inTime}
 use Rattle.rules.specs.Phases.{available}
