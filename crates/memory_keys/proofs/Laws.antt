@@ -14,14 +14,15 @@ use Rattle.rules.specs.Holds.{port, isIn, samePort, provides, provided}
 use Rattle.rules.specs.Ports.{pairs}
 use Rattle.rules_types.specs.declared.Port.{Port}
 use Rattle.ports.specs.Places.{pairs-at, pairs-end, in-hit, in-miss, in-later, not-same}
-use Rattle.memory_providers.specs.Bits.{withBit, hasBit}
+use Rattle.ports_bits.specs.Bits.{withBit, hasBit}
+use Rattle.ports_bits.specs.Keys.{keyWord}
 use Rattle.rules.specs.Basics.{pick}
 use Rattle.memory.specs.Layout.{word, taken, provPart, places}
 use Rattle.memory.specs.View.{anchorAt, pluginAt}
 use Rattle.memory.specs.declared.Place.{Place}
 use Rattle.memory.specs.declared.Place.the-variants.{At, None}
 use Rattle.memory_lists.specs.Listed.{provided-at}
-use Rattle.memory_keys.specs.Tables.{keyWord, placeKeys, bitsWithout, keysWithout, offersBy, keptBy, foundFrom, tableFrom}
+use Rattle.memory_keys.specs.Tables.{placeKeys, bitsWithout, keysWithout, offersBy, keptBy, foundFrom, tableFrom}
 
 or-right : (a b : Bool) → b ≡ true → (a || b) ≡ true
 or-right true b e = refl

@@ -4,7 +4,7 @@ use native.Mathlib.Omega.{arith}
 use mathlib.Core.Path.{_≡_, refl, sym, ap, _∙_}
 use mathlib.Core.Logic.{_≢_}
 use mathlib.Core.Bool.{Bool, true, false, not, _&&_}
-use mathlib.Core.List.{List, [], _∷_}
+use mathlib.Core.List.{List}
 use lib.Dec.{eqb}
 use lib.ListN.{length, set, length-set, replicate, getD-replicate}
 use lib.Seq.{getD-set-same, getD-set-other}
@@ -17,9 +17,10 @@ use Rattle.memory.specs.Layout.{word, taken, provPart, places}
 use Rattle.memory.specs.View.{anchorAt, pluginAt}
 use Rattle.memory.specs.Lookups.{searchFrom}
 use Rattle.memory_lists.specs.Listed.{provided-at}
-use Rattle.memory_providers.specs.Bits.{withBit, hasBit, bit-stays, bit-comes}
+use Rattle.ports_bits.specs.Bits.{withBit, hasBit, bit-comes}
+use Rattle.ports_bits.specs.Keys.{key-stays, key-comes}
 use Rattle.memory_providers.specs.Providers.{providerAt}
-use Rattle.memory_keys.specs.Tables.{keyWord, placeKeys, offersBy, keptBy, foundFrom, tableFrom, providerBy, tableBy}
+use Rattle.memory_keys.specs.Tables.{placeKeys, offersBy, keptBy, foundFrom, tableFrom, providerBy, tableBy}
 
 -- a word of the table says nothing, or the place's keys
 abbrev pub Says : List ℕ → ℕ → ℕ → Type 0
@@ -30,18 +31,6 @@ pub record Known (m t : List ℕ) : Type 0 where
   pub says : (i : ℕ) → i < places → Says m i (word t i)
 
 -- a key that is offered has its bit
-key-stays : (w : ℕ) (qs : List Port) (k : ℕ) → hasBit w k ≡ true → hasBit (keyWord w qs) k ≡ true
-unfolding keyWord
-key-stays w [] k e = e
-key-stays w (q ∷ qs) k e = bit-stays (keyWord w qs) (q .key) k (key-stays w qs k e)
-
-key-comes : (w : ℕ) (qs : List Port) (q : Port) → isIn q qs ≡ true → hasBit (keyWord w qs) (q .key) ≡ true
-unfolding keyWord
-key-comes w [] q e = cc
-key-comes w (p ∷ qs) q e = by-test (samePort q p)
-    (λ t. let k : q .key ≡ p .key = eqb-true _ _ (both _ _ t .0) in rw k (bit-comes (keyWord w qs) (p .key)))
-    (λ f. bit-stays (keyWord w qs) (p .key) (q .key) (key-comes w qs q (rw f at e)))
-
 offered-key : (m : List ℕ) (i : ℕ) (q : Port) → provides (pluginAt m i) q ≡ true → hasBit (placeKeys m i) (q .key) ≡ true
 unfolding placeKeys pluginAt
 offered-key m i q e = by-test (isIn q (provided (pluginAt m i)))

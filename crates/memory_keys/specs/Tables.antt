@@ -1,7 +1,7 @@
 -- A lookup by a table of keys: what is found, and what the table keeps.
 use Prim.Native.Nat.{ℕ, zero, suc, _+_}
 use mathlib.Core.Bool.{Bool, not, _&&_}
-use mathlib.Core.List.{List, [], _∷_}
+use mathlib.Core.List.{List}
 use mathlib.Core.Option.{Option, none, some}
 use lib.Dec.{eqb}
 use lib.ListN.{set}
@@ -13,14 +13,10 @@ use Rattle.memory.specs.Layout.{word, taken, provPart, places}
 use Rattle.memory.specs.View.{anchorAt, pluginAt}
 use Rattle.memory.specs.declared.Place.{Place}
 use Rattle.memory.specs.declared.Place.the-variants.{At, None}
-use Rattle.memory_providers.specs.Bits.{withBit, hasBit}
+use Rattle.ports_bits.specs.Bits.{withBit, hasBit}
+use Rattle.ports_bits.specs.Keys.{keyWord}
 
--- a word with the bits of the ports' keys
-unfoldable pub keyWord : ℕ → List Port → ℕ
-keyWord w [] = w
-keyWord w (q ∷ qs) = withBit (keyWord w qs) (q .key)
-
--- the same, and nothing if the port is one of them
+-- a word with the bits of the ports' keys, and nothing if the port is one of them
 abbrev pub bitsWithout : ℕ → List Port → Port → Option ℕ
 bitsWithout w qs q = pick (isIn q qs) none (some (keyWord w qs))
 

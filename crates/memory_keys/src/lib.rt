@@ -27,7 +27,7 @@ fn bits_without(word: u64, ports: &[u64], key: u64, realm: u64) -> Optional
                 return Optional::None;
             }
         }
-        bits = memory_providers::with_bit(bits, other);
+        bits = ports_bits::with_bit(bits, other);
     }
     Optional::Is(bits)
 }
@@ -42,7 +42,7 @@ fn keys_without(m: &[u64; WORDS], place: usize, key: u64, realm: u64) -> Optiona
             return Optional::None;
         }
     }
-    let word = memory_providers::with_bit(0, anchor.key);
+    let word = ports_bits::with_bit(0, anchor.key);
     bits_without(word, memory_lists::provision_words(m, place), key, realm)
 }
 
@@ -55,7 +55,7 @@ fn offers(m: &[u64; WORDS], table: &mut [u64; PLACES], place: usize, key: u64, r
 {
     let known = table[place];
     if known != 0 {
-        if memory_providers::has_bit(known, key) {
+        if ports_bits::has_bit(known, key) {
             return memory_providers::provides(m, place, key, realm);
         }
         return false;

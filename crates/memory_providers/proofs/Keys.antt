@@ -6,7 +6,7 @@ use mathlib.Core.List.{List, [], _∷_}
 use Rattle.rules_types.specs.declared.Port.{Port}
 use Rattle.rules.specs.Holds.{isIn}
 use Rattle.memory_providers.specs.declared.KeyBits.{KeyBits}
-use Rattle.memory_providers.specs.Bits.{withBit, hasBit}
+use Rattle.ports_bits.specs.Bits.{withBit, hasBit}
 use Rattle.memory_providers.specs.Providers.{keyBits, wanted}
 
 -- a list of claims, one on

@@ -13,7 +13,7 @@ use Rattle.rules_laws.specs.Laws.Tests.{by-test, both}
 use Rattle.memory.specs.Layout.{memoryWords}
 use Rattle.memory.specs.View.{pluginAt}
 use Rattle.memory_providers.specs.declared.KeyBits.{KeyBits}
-use Rattle.memory_providers.specs.Bits.{hasBit, bit-stays, bit-comes}
+use Rattle.ports_bits.specs.Bits.{hasBit, bit-stays, bit-comes}
 use Rattle.memory_providers.specs.Providers.{offeredPart, offered-claims, noBits, withKey, keyBits, wanted}
 
 -- the bits of a key in both words

@@ -1,4 +1,3 @@
-pub mod Bits
 pub mod Providers
 pub mod Claimed
 pub mod Words

@@ -20,7 +20,7 @@ use Rattle.memory.specs.declared.Life.{Life}
 use Rattle.memory.specs.declared.Place.{Place}
 use Rattle.memory.specs.declared.Place.the-variants.{At}
 use Rattle.memory_providers.specs.declared.KeyBits.{KeyBits}
-use Rattle.memory_providers.specs.Bits.{withBit, hasBit}
+use Rattle.ports_bits.specs.Bits.{withBit, hasBit}
 
 -- the first place whose plugin has the port as provision or anchor
 unfoldable pub providerAt : List ℕ → Port → Place

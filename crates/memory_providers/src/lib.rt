@@ -7,7 +7,6 @@ ghost use Rattle.rules.specs.Holds.{port, provides, provider};
 ghost use Rattle.rules.specs.Ports.{pairs};
 ghost use Rattle.memory.specs.Layout.{taken, places};
 ghost use Rattle.memory.specs.View.{pluginAt, view};
-ghost use Rattle.memory_providers.specs.Bits.{withBit, hasBit};
 ghost use Rattle.memory_providers.specs.Providers.{providerAt, offeredPart, noBits, keyBits, wanted};
 ghost use Rattle.memory_providers.specs.Words.{isAmong, wordOf};
 use memory::Place;
@@ -71,20 +70,6 @@ pub fn offered_words(m: &[u64; WORDS], place: usize) -> &[u64]
     memory_lists::some_words(m, from, count)
 }
 
-// The word with the bit of a number's remainder by 64.
-pub fn with_bit(word: u64, n: u64) -> u64
-    ensures { λ r. ⌜ r ≡ withBit word n ⌝ }
-{
-    word | 1 << (n % 64)
-}
-
-// Whether the word has that bit.
-pub fn has_bit(word: u64, n: u64) -> bool
-    ensures { λ r. ⌜ r ≡ hasBit word n ⌝ }
-{
-    (word >> (n % 64)) % 2 == 1
-}
-
 // The bits of the keys of a list of ports.
 pub fn key_bits(claims: &[u64]) -> KeyBits
     ensures { λ r. ⌜ r ≡ keyBits noBits (pairs (now (claims .entry))) ⌝ }
@@ -94,8 +79,8 @@ pub fn key_bits(claims: &[u64]) -> KeyBits
     let mut i: usize = 1;
     while i < claims.len() {
         let key = claims[i - 1];
-        low = with_bit(low, key);
-        high = with_bit(high, key / 64);
+        low = ports_bits::with_bit(low, key);
+        high = ports_bits::with_bit(high, key / 64);
         i += 2;
     }
     KeyBits { low, high }
@@ -105,10 +90,10 @@ pub fn key_bits(claims: &[u64]) -> KeyBits
 fn is_claimed(bits: KeyBits, key: u64, realm: u64, claims: &[u64]) -> bool
     ensures { λ r. ⌜ r ≡ wanted bits (pairs (now (claims .entry))) (port key realm) ⌝ }
 {
-    if !has_bit(bits.low, key) {
+    if !ports_bits::has_bit(bits.low, key) {
         return false;
     }
-    if !has_bit(bits.high, key / 64) {
+    if !ports_bits::has_bit(bits.high, key / 64) {
         return false;
     }
     ports::has_port(claims, key, realm)

@@ -9,6 +9,7 @@ use Rattle.memory_life.proofs as memory_life
 use Rattle.memory_values.proofs as memory_values
 use Rattle.memory_keys.proofs as memory_keys
 use Rattle.memory_providers.proofs as memory_providers
+use Rattle.ports_bits.proofs as ports_bits
 use Rattle.memory_load.proofs as memory_load
 use Rattle.ports_given.proofs as ports_given
 use Rattle.registry_claims.proofs as registry_claims
@@ -43,11 +44,11 @@ memory-values-put-values κs a r s ms ns p q = memory-alone p q
 pub memory-providers-offered-words : OneSeen memory_providers.«offered_words».ended (λ κs r. now r) memory_providers.«offered_words».Reads.Learnt
 memory-providers-offered-words κs a r s ms ns p q = by-equation p q
 
-pub memory-providers-with-bit : One memory_providers.«with_bit».ended memory_providers.«with_bit».Reads.Learnt
-memory-providers-with-bit κs a r s ms ns p q = by-equation p q
+pub ports-bits-with-bit : One ports_bits.«with_bit».ended ports_bits.«with_bit».Reads.Learnt
+ports-bits-with-bit κs a r s ms ns p q = by-equation p q
 
-pub memory-providers-has-bit : One memory_providers.«has_bit».ended memory_providers.«has_bit».Reads.Learnt
-memory-providers-has-bit κs a r s ms ns p q = by-equation p q
+pub ports-bits-has-bit : One ports_bits.«has_bit».ended ports_bits.«has_bit».Reads.Learnt
+ports-bits-has-bit κs a r s ms ns p q = by-equation p q
 
 pub memory-providers-key-bits : One memory_providers.«key_bits».ended memory_providers.«key_bits».Reads.Learnt
 memory-providers-key-bits κs a r s ms ns p q = by-equation p q

@@ -10,7 +10,7 @@ use lib.Seq.{getD-set-same, getD-set-other}
 use borrow.Author.Tests.{eqb-true, eqb-false}
 use Rattle.rules_laws.specs.Laws.Tests.{by-test}
 use Rattle.memory.specs.Layout.{word}
-use Rattle.memory_providers.specs.Bits.{hasBit, bit-stays, bit-comes}
+use Rattle.ports_bits.specs.Bits.{hasBit, bit-stays, bit-comes}
 use Rattle.registry_claims.specs.Seen.{keyWords, remainders, seen, see}
 
 module _ (keys : List ℕ) (size : length keys ≡ keyWords) (k : ℕ) where

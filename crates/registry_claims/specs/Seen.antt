@@ -4,7 +4,7 @@ use mathlib.Core.Bool.{Bool}
 use mathlib.Core.List.{List}
 use lib.ListN.{set}
 use Rattle.memory.specs.Layout.{word}
-use Rattle.memory_providers.specs.Bits.{withBit, hasBit}
+use Rattle.ports_bits.specs.Bits.{withBit, hasBit}
 
 abbrev pub keyWords : ℕ
 keyWords = 64

@@ -23,7 +23,7 @@ fn bit_seen(keys: &[u64; KEY_WORDS], key: u64) -> bool
     ensures { λ r. ⌜ r ≡ seen (now (keys .entry)) key ⌝ }
 {
     let bit = key % REMAINDERS;
-    memory_providers::has_bit(keys[(bit / 64) as usize], bit)
+    ports_bits::has_bit(keys[(bit / 64) as usize], bit)
 }
 
 // A key's bit is set.
@@ -32,7 +32,7 @@ fn see(keys: &mut [u64; KEY_WORDS], key: u64)
 {
     let bit = key % REMAINDERS;
     let at = (bit / 64) as usize;
-    keys[at] = memory_providers::with_bit(keys[at], bit);
+    keys[at] = ports_bits::with_bit(keys[at], bit);
 }
 
 // Whether a plugin from this place on has the port as provision or anchor.

@@ -10,7 +10,7 @@ use Rattle.rules.specs.Basics.{pick}
 use Rattle.memory.specs.Layout.{word}
 use Rattle.memory.specs.declared.Place.{Place}
 use Rattle.memory.specs.declared.Place.the-variants.{At, None}
-use Rattle.memory_providers.specs.Bits.{withBit, hasBit}
+use Rattle.ports_bits.specs.Bits.{withBit, hasBit}
 
 -- all bits of a row are among the named ones
 abbrev pub covered : (row named : ℕ) → Bool

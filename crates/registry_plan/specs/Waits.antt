@@ -7,7 +7,7 @@ use lib.ListN.{length}
 use Rattle.rules.specs.Basics.{pick}
 use Rattle.rules.specs.Holds.{Plugin, Registry, lookup, provider, isActive}
 use Rattle.rules_types.specs.declared.Port.{Port}
-use Rattle.memory_providers.specs.Bits.{withBit}
+use Rattle.ports_bits.specs.Bits.{withBit}
 
 -- the place of an id in a list, and the list's length where it is not there
 abbrev pub placeIn : ℕ → List ℕ → ℕ

@@ -1,7 +1,7 @@
 -- `has_bit` meets its contract.
 use borrow.Author.Needs.{needs}
-use Rattle.memory_providers.proofs.has_bit.Statement.{statement}
-use Rattle.memory_providers.proofs.has_bit.Tie as tie
+use Rattle.ports_bits.proofs.has_bit.Statement.{statement}
+use Rattle.ports_bits.proofs.has_bit.Tie as tie
 
 shr-result : tie.Need-shr-result
 shr-result c = search needs

@@ -1,7 +1,7 @@
 -- `with_bit` meets its contract.
 use borrow.Author.Needs.{needs}
-use Rattle.memory_providers.proofs.with_bit.Statement.{statement}
-use Rattle.memory_providers.proofs.with_bit.Tie as tie
+use Rattle.ports_bits.proofs.with_bit.Statement.{statement}
+use Rattle.ports_bits.proofs.with_bit.Tie as tie
 
 shl-result : tie.Need-shl-result
 shl-result c = search needs

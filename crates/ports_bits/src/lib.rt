@@ -1,0 +1,17 @@
+// A word with a bit for each number's remainder by 64: what lacks its bit is not there, and need not be looked for.
+ghost use mathlib.Core.Path.{_≡_};
+ghost use Rattle.ports_bits.specs.Bits.{withBit, hasBit};
+
+// The word with the bit of a number's remainder by 64.
+pub fn with_bit(word: u64, n: u64) -> u64
+    ensures { λ r. ⌜ r ≡ withBit word n ⌝ }
+{
+    word | 1 << (n % 64)
+}
+
+// Whether the word has that bit.
+pub fn has_bit(word: u64, n: u64) -> bool
+    ensures { λ r. ⌜ r ≡ hasBit word n ⌝ }
+{
+    (word >> (n % 64)) % 2 == 1
+}
