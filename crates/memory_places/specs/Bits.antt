@@ -1,6 +1,6 @@
 -- Bits of a word, by halving: bit 0 is `w % 2`, and bit `suc i` of w is bit i of `w / 2`.
 use Prim.Native.Nat.{ℕ, zero, suc, _+_, _-_, _*_, _/_, _%_, _^_, _≤_, _<_, min}
-use native.Mathlib.Nat.{pow-suc, not-suc-le-zero, le-of-suc-le-suc, one-mul, mod-eq-of-lt}
+use native.Mathlib.Nat.{pow-suc, not-suc-le-zero, le-of-suc-le-suc, one-mul, mod-eq-of-lt, zero-add}
 use native.Mathlib.Numerals.{one-add}
 use native.Mathlib.Omega.{arith}
 use mathlib.Core.Path.{_≡_, refl, sym, ap, ap₂, _∙_}
@@ -15,7 +15,7 @@ bit w i = w / 2 ^ i % 2
 bit-zero : (w : ℕ) → bit w 0 ≡ w % 2
 bit-zero w = omega arith
 
-bit-suc : (w i : ℕ) → bit w (suc i) ≡ bit (w / 2) i
+pub bit-suc : (w i : ℕ) → bit w (suc i) ≡ bit (w / 2) i
 bit-suc w i = rw (← one-add i, ← shr-shr w 1 i)
 
 pub zeros-fit : (n : ℕ) → trailingZeros 32 n < 2 ^ 64
@@ -57,6 +57,17 @@ and-free (suc p) w e =
 
 pub or-free : (p w : ℕ) → bit w p ≡ 0 → bitOr w (2 ^ p) ≡ w + 2 ^ p
 or-free p w e = or-disjoint w (2 ^ p) (and-free p w e)
+
+-- One bit alone.
+pub bit-none : (j : ℕ) → bit 0 j ≡ 0
+bit-none zero = refl
+bit-none (suc j) = bit-suc 0 j ∙ bit-none j
+
+pub one-there : (p : ℕ) → bit (2 ^ p) p ≡ 1
+one-there p = ap (λ w. bit w p) (sym (zero-add (2 ^ p))) ∙ set-there p 0 (bit-none p)
+
+pub one-other : (p j : ℕ) → j ≢ p → bit (2 ^ p) j ≡ 0
+one-other p j n = ap (λ w. bit w j) (sym (zero-add (2 ^ p))) ∙ set-others p j 0 n (bit-none p) ∙ bit-none j
 
 -- `1 << p` of a u32
 pub one-shl : (p : ℕ) → p < 32 → (1 * 2 ^ p) % 2 ^ 32 ≡ 2 ^ p
