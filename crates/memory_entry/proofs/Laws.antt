@@ -1,12 +1,16 @@
 -- Lists stored word by word, and the writer's steps.
-use Prim.Native.Nat.{ℕ, zero, suc, _+_, _*_, _<_, _≤_}
+use Prim.Native.Nat.{ℕ, zero, suc, _+_, _-_, _*_, _<_, _≤_, min}
 use native.Mathlib.Omega.{arith}
+use native.Mathlib.Nat.{zero-add}
 use native.Mathlib.Numerals.{add-one}
 use mathlib.Core.Path.{_≡_, refl, sym, ap, _∙_}
-use mathlib.Core.List.{List, [], _∷_}
-use lib.ListN.{length, getD, set, drop, drop-of-length-le}
-use lib.Seq.{drop-cons}
-use borrow.Author.Tests.{le-leb, lt-leb}
+use mathlib.Core.List.{List, [], _∷_, _++_, append-nil}
+use lib.ListN.{length, getD, take, set, drop, length-drop, drop-of-length-le}
+use lib.Seq.{drop-cons, take-all}
+use borrow.Rule.Slice.PartMut.{midOf, putMid}
+use lib.Dec.{leb}
+use borrow.Author.Tests.{le-leb, lt-leb, leb-true, leb-false}
+use Rattle.rules_laws.specs.Laws.Tests.{by-test}
 use Rattle.rules.specs.Limits.{maxRows, maxDependencies}
 use Rattle.memory.specs.Layout.{rowWord, placeWords, nextWord, idWord, editionWord, rowWords}
 use Rattle.memory.specs.Writes.{puts}
@@ -26,14 +30,39 @@ puts-past (v ∷ vs) m b k h =
     let e = set-past m (b + k) v h in
     rw e (puts-past vs m b (k + 1) (omega arith))
 
--- the loop that stores a list
-pub puts-next : (m ws : List ℕ) (b k : ℕ) → k < length ws → puts m b k (drop k ws) ≡ puts (set m (b + k) (getD ws k 0)) b (k + 1) (drop (k + 1) ws)
-puts-next m ws b k h =
-    ap (λ l. puts m b k l) (drop-cons ws k 0 h)
-    ∙ ap (λ n. puts (set m (b + k) (getD ws k 0)) b (k + 1) (drop n ws)) (sym (add-one k))
+-- the loop that stores a list at the front
+pub puts-next : (m ws : List ℕ) (k : ℕ) → k < length ws → puts m 0 k (drop k ws) ≡ puts (set m k (getD ws k 0)) 0 (k + 1) (drop (k + 1) ws)
+puts-next m ws k h =
+    ap (λ l. puts m 0 k l) (drop-cons ws k 0 h)
+    ∙ ap (λ i. puts (set m i (getD ws k 0)) 0 (k + 1) (drop (suc k) ws)) (zero-add k)
+    ∙ ap (λ n. puts (set m k (getD ws k 0)) 0 (k + 1) (drop n ws)) (sym (add-one k))
 
-pub puts-end : (m ws : List ℕ) (b k : ℕ) → length ws ≤ k → puts m b k (drop k ws) ≡ m
-puts-end m ws b k h = rw (drop-of-length-le ws h)
+puts-end : (m ws : List ℕ) (k : ℕ) → length ws ≤ k → puts m 0 k (drop k ws) ≡ m
+puts-end m ws k h = rw (drop-of-length-le ws h)
+
+-- where all are stored, or there is no room for more
+pub puts-full : (m ws : List ℕ) (k : ℕ) → min (length ws) (length m) ≤ k → puts m 0 k (drop k ws) ≡ m
+puts-full m ws k h = by-test (leb (length ws) k)
+    (λ y. puts-end m ws k (leb-true _ _ y))
+    (λ n. puts-past (drop k ws) m 0 k (omega (arith, leb-false (length ws) k n)))
+
+-- numbers stored in the tail from p on, in its place in the whole
+puts-cons : (vs m : List ℕ) (x p k : ℕ) → puts (x ∷ m) (suc p) k vs ≡ x ∷ puts m p k vs
+puts-cons [] m x p k = refl
+puts-cons (v ∷ vs) m x p k =
+    let e : suc p + k ≡ suc (p + k) = omega arith in
+    ap (λ i. puts (set (x ∷ m) i v) (suc p) (k + 1) vs) e ∙ puts-cons vs (set m (p + k) v) x p (k + 1)
+
+puts-tail : (vs m : List ℕ) (p k : ℕ) → p ≤ length m → take p m ++ puts (drop p m) 0 k vs ≡ puts m p k vs
+puts-tail vs m zero k h = refl
+puts-tail vs [] (suc p) k h = absurd (omega arith)
+puts-tail vs (x ∷ m) (suc p) k h = ap (λ l. x ∷ l) (puts-tail vs m p k (omega arith)) ∙ sym (puts-cons vs m x p k)
+
+pub tail-put : (m last vs : List ℕ) (p : ℕ) → p ≤ length m → last ≡ puts (midOf p (length m - p) m) 0 0 vs → putMid p (length m - p) m last ≡ puts m p 0 vs
+tail-put m last vs p h e =
+    let long : length (drop p m) ≤ length m - p = simp length-drop (omega arith) in
+    ap (λ t. take p m ++ (last ++ t)) (drop-of-length-le (drop p m) long)
+    ∙ rw (append-nil, e, take-all (length m - p) (drop p m) long) (puts-tail vs m p 0 h)
 
 -- numbers stored behind two others
 puts-later : (vs m : List ℕ) (a k j : ℕ) → puts m (a + k) j vs ≡ puts m a (k + j) vs

@@ -32,21 +32,24 @@ pub struct Entry {
     pub next: u64,
 }
 
-// Numbers from a word on; what would lie past the end of the memory is left out.
-fn put_words(m: &mut [u64; WORDS], from: usize, words: &[u64])
+// Numbers to the front of a lent part; what has no room there is left out.
+fn put_front(out: &mut [u64], words: &[u64])
+    ensures { λ _. ⌜ now (out .exit) ≡ puts (now (out .entry)) 0 0 (now (words .entry)) ⌝ }
+{
+    let end = memory_lists::at_most(words.len(), out.len());
+    let mut k: usize = 0;
+    while k < end {
+        out[k] = words[k];
+        k += 1;
+    }
+}
+
+// Numbers from a word on: the tail is lent, so that no word asks for its room.
+fn put_words(m: &mut [u64], from: usize, words: &[u64])
     ensures { λ _. ⌜ now (m .exit) ≡ puts (now (m .entry)) from 0 (now (words .entry)) ⌝ }
 {
-    memory::known(m);
-    let mut k: usize = 0;
-    while k < words.len() {
-        if from >= WORDS {
-            return;
-        }
-        if k >= WORDS - from {
-            return;
-        }
-        m[from + k] = words[k];
-        k += 1;
+    if from < m.len() {
+        put_front(&mut m[from..], words);
     }
 }
 

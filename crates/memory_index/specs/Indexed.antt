@@ -17,28 +17,16 @@ use Rattle.rules_laws.specs.Laws.Tests.{by-test, both}
 use Rattle.memory.specs.Layout.{word, taken, memoryWords, places}
 use Rattle.memory.specs.Lookups.{searchFrom}
 use Rattle.memory.specs.View.{pluginAt}
-use Rattle.memory_places.specs.Bits.{bit, bit-none, one-shl, one-there, one-other}
+use Rattle.memory_places.specs.Bits.{bit-none, one-shl}
 use Rattle.memory_providers.specs.Claimed.{offered-is}
 use Rattle.memory_providers.specs.Providers.{providerAt, offeredPart}
 use Rattle.memory_providers.specs.Words.{isAmong}
-use Rattle.ports_bits.specs.Bits.{bit-or}
+use Rattle.memory_index.specs.Among.{among-or}
 use Rattle.memory_index.specs.Index.{remainders, wordFor, noted, indexFrom, indexOf, firstAmong, providerBy}
 
 -- What every lookup by an index rests on.
 abbrev pub Indexed : List ℕ → List ℕ → Type 0
 Indexed m t = (q : Port) → providerBy m t q ≡ providerAt m q
-
--- One bit more, place by place.
-among-or : (w i j : ℕ) → isAmong (bitOr w (2 ^ i)) j ≡ (isAmong w j || eqb j i)
-among-or w i j = by-test (eqb j i)
-    (λ y. let e = eqb-true j i y in
-    rw (y, or-true (isAmong w j)) (eq-eqb _ 1 (bit-or w (2 ^ i) j ∙ omega (arith, ap (bit (2 ^ i)) e, one-there i, bit-small w j))))
-    (λ n. let o = one-other i j (eqb-false j i n) in
-    let k : bit (bitOr w (2 ^ i)) j ≡ bit w j = omega (arith, bit-or w (2 ^ i) j) in
-    rw (n, or-false (isAmong w j)) (ap (λ x. eqb x 1) k))
-  where
-    bit-small : (w j : ℕ) → bit w j < 2
-    bit-small w j = omega arith
 
 -- whether one of the ports has its key in this word
 abbrev keyed : ℕ → List Port → Bool

@@ -144,34 +144,3 @@ pub fn one_provided(m: &[u64; WORDS], claims: &[u64]) -> bool
     }
     false
 }
-
-// Whether this place is among those of a word and one of the ports of its plugin is claimed.
-fn meets_among(m: &[u64; WORDS], among: u32, place: usize, bits: KeyBits, claims: &[u64]) -> bool
-    requires { ⌜ place < places ⌝ }
-    ensures { λ r. ⌜ r ≡ (isAmong among place
-        && any (λ q. wanted bits (pairs (now (claims .entry))) q) (pairs (offeredPart (now (m .entry)) place))) ⌝ }
-{
-    if (among >> place) % 2 == 1 {
-        meets(bits, claims, offered_words(m, place))
-    } else {
-        false
-    }
-}
-
-// Which of the places of a word have a plugin that provides one of the ports; none does where there is no port.
-pub fn providers_among(m: &[u64; WORDS], among: u32, claims: &[u64]) -> u32
-    ensures { λ r. ⌜ r ≡ wordOf (λ j. isAmong among j && any (provides (pluginAt (now (m .entry)) j)) (pairs (now (claims .entry)))) places 0 ⌝ }
-{
-    if claims.len() < ROW_WORDS {
-        return 0;
-    }
-    memory::known(m);
-    let bits = key_bits(claims);
-    let mut word: u32 = 0;
-    let mut i: usize = PLACES;
-    while 0 < i {
-        i -= 1;
-        word = word * 2 + meets_among(m, among, i, bits, claims) as u32;
-    }
-    word
-}

@@ -8,6 +8,7 @@ use Rattle.memory.proofs as memory
 use Rattle.memory_life.proofs as memory_life
 use Rattle.memory_values.proofs as memory_values
 use Rattle.memory_keys.proofs as memory_keys
+use Rattle.memory_index.proofs as memory_index
 use Rattle.memory_providers.proofs as memory_providers
 use Rattle.ports_bits.proofs as ports_bits
 use Rattle.memory_load.proofs as memory_load
@@ -56,8 +57,11 @@ memory-providers-key-bits κs a r s ms ns p q = by-equation p q
 pub memory-providers-meets : One memory_providers.meets.ended memory_providers.meets.Reads.Learnt
 memory-providers-meets κs a r s ms ns p q = by-equation p q
 
-pub memory-providers-providers-among : One memory_providers.«providers_among».ended memory_providers.«providers_among».Reads.Learnt
-memory-providers-providers-among κs a r s ms ns p q = by-equation p q
+pub memory-index-index : One memory_index.index.ended memory_index.index.Reads.Learnt
+memory-index-index κs a r s ms ns p q = by-equation p q
+
+pub memory-index-provider-by : One memory_index.«provider_by».ended memory_index.«provider_by».Reads.Learnt
+memory-index-provider-by κs a r s ms ns p q = by-equation p q
 
 pub memory-keys-provider-by : One memory_keys.«provider_by».ended memory_keys.«provider_by».Reads.Learnt
 memory-keys-provider-by κs a r s ms ns p q = by-two p q
@@ -80,11 +84,8 @@ registry-claims-differ κs a r s ms ns p q = by-equation p q
 pub registry-joins-ports-fit : One registry_joins.«ports_fit».ended registry_joins.«ports_fit».Reads.Learnt
 registry-joins-ports-fit κs a r s ms ns p q = by-equation p q
 
-pub registry-cycles-served : One registry_cycles.served.ended registry_cycles.served.Reads.Learnt
-registry-cycles-served κs a r s ms ns p q = by-equation p q
-
-pub registry-cycles-acyclic : One registry_cycles.acyclic.ended registry_cycles.acyclic.Reads.Learnt
-registry-cycles-acyclic κs a r s ms ns p q = by-equation p q
+pub registry-cycles-all-hold : One registry_cycles.«all_hold».ended registry_cycles.«all_hold».Reads.Learnt
+registry-cycles-all-hold κs a r s ms ns p q = by-equation p q
 
 pub text-read-number-literal : One text_read_number.literal.ended text_read_number.literal.Reads.Learnt
 text-read-number-literal κs a r s ms ns p q = place-one p q

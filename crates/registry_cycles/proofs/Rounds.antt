@@ -14,9 +14,10 @@ use Rattle.rules.specs.Conditions.{needs, stillWaiting, noneLeftAfter, noCycles
 use Rattle.rules_laws.specs.Laws.Tests.{by-test, both}
 use Rattle.memory.specs.Layout.{word, taken, places}
 use Rattle.memory.specs.View.{pluginAt, placesFrom, view}
-use Rattle.memory_providers.specs.Words.{isAmong, wordOf, word-lt}
+use Rattle.memory_places.specs.Bits.{bit-none}
+use Rattle.memory_providers.specs.Words.{isAmong, wordOf, word-lt, word-none}
 use Rattle.registry_cycles.specs.Runs.{runsAt}
-use Rattle.registry_cycles.specs.Left.{Needed, waitsAt}
+use Rattle.registry_cycles.specs.Left.{Needed, waitsAt, noneWaiting}
 use Rattle.registry_cycles.proofs.Words.{among-word, bits-word, and-word, word-same}
 use Rattle.registry_cycles.proofs.Held.{heldIn, held-taken, only-held, any-held, length-held, held-same}
 
@@ -46,56 +47,43 @@ module _ (m : List ℕ) (among : ℕ) (rows : List ℕ) (needed : Needed m among
       held-same (isAmong next) _ places m 0 (λ j l. ap (λ x. isAmong x j) e ∙ among-word (waitsAt rows left) j l ∙ waits-is j l)
       ∙ sym (only-held (λ p. any (needs p) (heldIn m left)) (isAmong left) places m 0)
 
--- Places that stay as they are stay for ever.
-for-ever : (n : ℕ) (ps : List Plugin) → stillWaiting ps ≡ ps → noneLeftAfter n ps ≡ eqb (length ps) 0
-unfolding noneLeftAfter
-for-ever zero ps e = refl
-for-ever (suc n) ps e = ap (noneLeftAfter n) e ∙ for-ever n ps e
+-- All rounds over words are all rounds over plugins.
+module _ (m : List ℕ) (among : ℕ) (rows : List ℕ) (needed : Needed m among rows places) where
+  rounds : (n left : ℕ) → left < 2 ^ places → ((j : ℕ) → j < places → isAmong left j ≡ true → isAmong among j ≡ true)
+      → noneWaiting n rows left ≡ noneLeftAfter n (heldIn m left)
+  unfolding noneWaiting noneLeftAfter
+  rounds zero left small within = sym (length-held (isAmong left) places m 0 ∙ ap (λ x. eqb x 0) (bits-word left places small))
+  rounds (suc n) left small within =
+      let next = wordOf (waitsAt rows left) places 0 in
+      rounds n next (word-lt (waitsAt rows left) places 0)
+      (λ j l y. within j l (both (isAmong left j) _ (sym (among-word (waitsAt rows left) j l) ∙ y) .0))
+      ∙ ap (noneLeftAfter n) (round-word m among rows needed left small within next refl)
 
--- What is left where n rounds are left to go.
-pub record Left (m : List ℕ) (among left n : ℕ) : Type 0 where
-  pub small : left < 2 ^ places
-  pub within : (j : ℕ) → j < places → isAmong left j ≡ true → isAmong among j ≡ true
-  pub goes : noCycles (plugins (view m)) ≡ noneLeftAfter n (heldIn m left)
+  pub rounds-all : among ≡ wordOf (runsAt m) places 0 → noneWaiting places rows among ≡ noCycles (plugins (view m))
+  unfolding view
+  rounds-all e =
+      let s : only running (held (placesFrom places m 0)) ≡ heldIn m among =
+      ap (only running) (held-taken places m 0) ∙ only-held running (taken m) places m 0
+      ∙ held-same (runsAt m) (isAmong among) places m 0 (λ j l. sym (ap (λ x. isAmong x j) e ∙ among-word (runsAt m) j l)) in
+      rounds places among (rw e (word-lt (runsAt m) places 0)) (λ j l t. t) ∙ sym (ap (noneLeftAfter places) s)
 
-pub left-begin : (m : List ℕ) (among : ℕ) → among ≡ wordOf (runsAt m) places 0 → Left m among among places
-unfolding view
-left-begin m among e =
-    let s : only running (held (placesFrom places m 0)) ≡ heldIn m among =
-    ap (only running) (held-taken places m 0) ∙ only-held running (taken m) places m 0
-    ∙ held-same (runsAt m) (isAmong among) places m 0 (λ j l. sym (ap (λ x. isAmong x j) e ∙ among-word (runsAt m) j l)) in
-    record { small = rw e (word-lt (runsAt m) places 0); within = λ j l t. t; goes = ap (noneLeftAfter places) s }
+-- Where none is left none comes back, and places that stay as they are stay for ever.
+pub none-over : (n : ℕ) (rows : List ℕ) (left : ℕ) → left ≡ 0 → noneWaiting n rows left ≡ true
+unfolding noneWaiting
+none-over zero rows left z = rw z
+none-over (suc n) rows left z =
+    none-over n rows (wordOf (waitsAt rows left) places 0) (sym (word-none (waitsAt rows left) (λ j. rw (z, bit-none j)) places 0))
 
-module _ (m : List ℕ) (among left n : ℕ) (t : Left m among left n) where
-  left-none : eqb (length (heldIn m left)) 0 ≡ eqb left 0
-  left-none = length-held (isAmong left) places m 0 ∙ ap (λ x. eqb x 0) (bits-word left places (t .small))
+pub none-still : (n : ℕ) (rows : List ℕ) (left : ℕ) → left ≡ wordOf (waitsAt rows left) places 0 → noneWaiting n rows left ≡ eqb left 0
+unfolding noneWaiting
+none-still zero rows left e = refl
+none-still (suc n) rows left e = ap (noneWaiting n rows) (sym e) ∙ none-still n rows left e
 
-  pub left-end : n ≤ 0 → eqb left 0 ≡ noCycles (plugins (view m))
-  unfolding noneLeftAfter
-  left-end h = let s : n ≡ 0 = omega arith in sym (t .goes ∙ rw s left-none)
+module _ (rows : List ℕ) (left n : ℕ) where
+  pub none-next : 0 < n → noneWaiting n rows left ≡ noneWaiting (n - 1) rows (wordOf (waitsAt rows left) places 0)
+  unfolding noneWaiting
+  none-next h = let s : n ≡ suc (n - 1) = omega arith in ap (λ k. noneWaiting k rows left) s
 
-  pub left-over : left ≡ 0 → true ≡ noCycles (plugins (view m))
-  left-over z =
-      let e : heldIn m left ≡ [] = none-held (heldIn m left) (eqb-true (length (heldIn m left)) 0 (left-none ∙ eq-eqb left 0 z)) in
-      sym (t .goes ∙ ap (noneLeftAfter n) e ∙ for-ever n [] refl)
-    where
-      none-held : (l : List Plugin) → length l ≡ 0 → l ≡ []
-      none-held [] h = refl
-      none-held (p ∷ l) h = absurd (omega arith)
-
-  module _ (rows : List ℕ) (needed : Needed m among rows places) (next : ℕ) (e : next ≡ wordOf (waitsAt rows left) places 0) where
-    again : heldIn m next ≡ stillWaiting (heldIn m left)
-    again = round-word m among rows needed left (t .small) (t .within) next e
-
-    pub left-still : next ≡ left → eqb left 0 ≡ noCycles (plugins (view m))
-    left-still s = sym (t .goes ∙ for-ever n (heldIn m left) (sym again ∙ ap (heldIn m) s) ∙ left-none)
-
-    pub left-next : 0 < n → Left m among next (n - 1)
-    unfolding noneLeftAfter
-    left-next h =
-        let s : n ≡ suc (n - 1) = omega arith in
-        record {
-          small = rw e (word-lt (waitsAt rows left) places 0);
-          within = λ j l y. t .within j l (both (isAmong left j) _ (sym (ap (λ x. isAmong x j) e ∙ among-word (waitsAt rows left) j l) ∙ y) .0);
-          goes = t .goes ∙ ap (λ k. noneLeftAfter k (heldIn m left)) s ∙ ap (noneLeftAfter (n - 1)) (sym again);
-        }
+  pub none-end : n ≤ 0 → noneWaiting n rows left ≡ eqb left 0
+  unfolding noneWaiting
+  none-end h = let s : n ≡ 0 = omega arith in ap (λ k. noneWaiting k rows left) s

@@ -1,5 +1,5 @@
 -- Of the places of a word, those whose plugin needs that of another one.
-use Prim.Native.Nat.{ℕ, _<_}
+use Prim.Native.Nat.{ℕ, zero, suc, _<_}
 use mathlib.Core.Path.{_≡_}
 use mathlib.Core.Bool.{Bool, true, not, _&&_}
 use mathlib.Core.List.{List}
@@ -23,3 +23,8 @@ waiting row left i = isAmong left i && not (eqb (bitAnd row left) 0)
 
 abbrev pub waitsAt : List ℕ → ℕ → ℕ → Bool
 waitsAt rows left i = waiting (word rows i) left i
+
+-- n rounds, each of which takes away whoever needs none that is left: none is left
+unfoldable pub noneWaiting : ℕ → List ℕ → ℕ → Bool
+noneWaiting zero rows left = eqb left 0
+noneWaiting (suc n) rows left = noneWaiting n rows (wordOf (waitsAt rows left) places 0)

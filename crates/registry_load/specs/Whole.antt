@@ -16,6 +16,7 @@ use Rattle.rules.specs.Text.{Said, header, withCount, block, text, readText}
 use Rattle.rules.specs.Conditions.{claimsOf, portsDiffer, dependenciesServed, noCycles, loadable}
 use Rattle.rules.specs.Load.{unqueued, loaded, opening, load}
 use Rattle.rules.specs.Outcomes.{Refused, Accepted}
+use Rattle.registry_cycles.specs.Hold.{allHold}
 use Rattle.registry_load.specs.Words.{leavesLoad, Opens}
 use Rattle.rules_load.specs.Joining.{behindIds}
 use Rattle.rules_load.specs.Joins.{joined-loadable, served-unqueued, cycles-unqueued, available-served}
@@ -67,13 +68,6 @@ pub record HeaderRead (t : List ℕ) (h : Header) : Type 0 where
   pub first-read : Reads (line "first" number .read) t domain-end (h .first) first-end
   pub next-read : Reads (line "next" number .read) t first-end (h .next) next-end
   pub count-read : Reads (line "plugins" number .read) t next-end (h .count) (h .behind)
-
--- What is asked of all plugins at the end: their ports differ, and those that run are served, without cycles.
-unfoldable pub allHold : Registry → Bool
-allHold r =
-    portsDiffer (plugins r)
-    && all (λ (p : Plugin). running p ⊃ all (available r) (p .dependencies)) (plugins r)
-    && noCycles (plugins r)
 
 module _ (t : List ℕ) (h : Header) (x : HeaderRead t h) where
   abbrev said : List Plugin → Said

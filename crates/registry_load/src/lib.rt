@@ -7,12 +7,11 @@ ghost use Rattle.rules.specs.Limits.{maxPlugins};
 ghost use Rattle.rules.specs.Load.{load};
 ghost use Rattle.rules.specs.Answers.{doneAnswer};
 ghost use Rattle.memory.specs.Layout.{places};
-ghost use Rattle.memory.specs.View.{view};
 ghost use Rattle.memory.specs.Writes.{openedWith};
 ghost use Rattle.memory_load.specs.Loading.{zeros};
 ghost use Rattle.registry_load.specs.Join.{Rooms};
 ghost use Rattle.registry_load.specs.Plugins.{JoinRead, PluginsRead};
-ghost use Rattle.registry_load.specs.Whole.{HeaderRead, allHold, TextRead};
+ghost use Rattle.registry_load.specs.Whole.{HeaderRead, TextRead};
 ghost use Rattle.registry_load.specs.Words.{Opens};
 use memory::WORDS;
 use registry_block::Joined;
@@ -167,19 +166,6 @@ fn read_header(text: &[u8]) -> Header
     }
 }
 
-// What is asked of all plugins at the end: their ports differ, and those that run are served, without cycles.
-fn holds(w: &[u64; WORDS]) -> bool
-    ensures { λ r. ⌜ r ≡ allHold (view (now (w .entry))) ⌝ }
-{
-    if !registry_claims::differ(w) {
-        return false;
-    }
-    if !registry_cycles::served(w) {
-        return false;
-    }
-    registry_cycles::acyclic(w)
-}
-
 // The whole text, read into words of zeros.
 fn read(w: &mut [u64; WORDS], domain: u64, text: &[u8]) -> Text
     requires { ⌜ now w ≡ zeros ⌝ }
@@ -204,7 +190,7 @@ fn read(w: &mut [u64; WORDS], domain: u64, text: &[u8]) -> Text
     if behind < text.len() {
         return Text::Bad;
     }
-    if !holds(w) {
+    if !registry_cycles::all_hold(w) {
         return Text::Bad;
     }
     Text::Of(h.domain)

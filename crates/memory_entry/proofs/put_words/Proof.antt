@@ -1,92 +1,49 @@
--- `put_words` meets its contract: to store the words from k on over what is stored is to store all, and past the end nothing is stored.
-use mathlib.Core.Path.{_≡_, refl, sym, _∙_}
-use Prim.Native.Nat.{_-_}
-use lib.ListN.{length, drop, length-set}
-use Rattle.memory.specs.Writes.{puts}
-use Rattle.memory.specs.Layout.{memoryWords}
-use Rattle.memory_entry.proofs.Laws.{puts-past, puts-next, puts-end}
+-- `put_words` meets its contract: what is stored in the tail is stored in the whole, and past the end nothing is.
 use native.Mathlib.Omega.{arith}
+use mathlib.Core.Path.{sym}
+use Rattle.memory_entry.proofs.Laws.{puts-past, tail-put}
 use borrow.Author.Needs.{needs}
 use Rattle.memory_entry.proofs.put_words.Statement.{statement}
 use Rattle.memory_entry.proofs.put_words.Tie as tie
 
-abbrev Inv-loop : tie.InvT-loop
-Inv-loop m₀ from words k₀ m k = (length m ≡ memoryWords) × (puts m₀ from 0 words ≡ puts m from k (drop k words))
+mul-put-front : tie.Need-mul-put-front
+mul-put-front c = search needs
 
-abbrev μ-loop : tie.MeasureT-loop
-μ-loop m₀ from words k₀ m k = length words - k
+sub-put-front : tie.Need-sub-put-front
+sub-put-front c = search needs
 
-known-requires : tie.Need-known-requires Inv-loop μ-loop
-known-requires c κs = search needs
+part-put-front-start : tie.Need-part-put-front-start
+part-put-front-start c = search needs
 
-loop-holds : tie.Need-loop-holds Inv-loop μ-loop
-loop-holds c = (c .known .ensures, refl)
+part-put-front-end : tie.Need-part-put-front-end
+part-put-front-end c = search needs
 
-returns : tie.Need-returns Inv-loop μ-loop
+put-front-requires : tie.Need-put-front-requires
+put-front-requires c κs = search needs
+
+same-length : tie.Need-same-length
+same-length c = search needs
+
+returns : tie.Need-returns
 returns c =
-    let l = c .before .before .loop in
-    let args = c .before .before .before .before .before .before .args in
-    sym (l .inv .1 ∙ puts-past (drop (l .k) (args .words .now)) (l .m) (args .from) (l .k) (omega arith))
+    let a = c .before .before .before .before .before .before .before .args in
+    let w = c .before .before .put-front in
+    tail-put (a .m .now) (w .last .0) (a .words .now) (a .from) (omega arith) (w .ensures)
 
-sub-if2 : tie.Need-sub-if2 Inv-loop μ-loop
-sub-if2 c = search needs
-
-returns-2 : tie.Need-returns-2 Inv-loop μ-loop
+returns-2 : tie.Need-returns-2
 returns-2 c =
-    let l = c .before .before .before .loop in
-    let args = c .before .before .before .before .before .before .before .args in
-    sym (l .inv .1 ∙ puts-past (drop (l .k) (args .words .now)) (l .m) (args .from) (l .k) (omega arith))
-
-mul-m : tie.Need-mul-m Inv-loop μ-loop
-mul-m c = search needs
-
-shared-slice-read-m : tie.Need-shared-slice-read-m Inv-loop μ-loop
-shared-slice-read-m c = search needs
-
-add-m : tie.Need-add-m Inv-loop μ-loop
-add-m c = search needs
-
-mul-m-2 : tie.Need-mul-m-2 Inv-loop μ-loop
-mul-m-2 c = search needs
-
-element-write-m : tie.Need-element-write-m Inv-loop μ-loop
-element-write-m c = search needs
-
-add-k : tie.Need-add-k Inv-loop μ-loop
-add-k c = search needs
-
-loop-less : tie.Need-loop-less Inv-loop μ-loop
-loop-less c = search needs
-
-loop-again : tie.Need-loop-again Inv-loop μ-loop
-loop-again c =
-    let l = c .before .before .before .before .loop in
-    let args = c .before .before .before .before .before .before .before .before .args in
-    (simp length-set (l .inv .0), l .inv .1 ∙ puts-next (l .m) (args .words .now) (args .from) (l .k) (omega arith))
-
-returns-3 : tie.Need-returns-3 Inv-loop μ-loop
-returns-3 c =
-    let l = c .before .loop in
-    let args = c .before .before .before .before .before .args in
-    sym (l .inv .1 ∙ puts-end (l .m) (args .words .now) (args .from) (l .k) (omega arith))
+    let a = c .before .before .before .args in
+    sym (puts-past (a .words .now) (a .m .now) (a .from) 0 (omega arith))
 
 pub put-words-spec : {M : Type 1} → statement M
 put-words-spec =
     tie.close
     (tie.spec
-    Inv-loop
-    μ-loop
-    known-requires
-    loop-holds
+    mul-put-front
+    sub-put-front
+    part-put-front-start
+    part-put-front-end
+    put-front-requires
+    same-length
     returns
-    sub-if2
-    returns-2
-    mul-m
-    shared-slice-read-m
-    add-m
-    mul-m-2
-    element-write-m
-    add-k
-    loop-less
-    loop-again
-    returns-3)
+    returns-2)

@@ -89,8 +89,8 @@ returns-5 c =
     let g = plugins-all _ (e .before .before .plugins .ensures) (e .end .given .1) in
     bad _ (too-long t _ x _ start (a .domain) (g .2) (omega (arith, few .if1 .left)) (omega (arith, c .if3 .taken)))
 
-holds-requires : tie.Need-holds-requires
-holds-requires c κs = search needs
+all-hold-requires : tie.Need-all-hold-requires
+all-hold-requires c κs = search needs
 
 returns-6 : tie.Need-returns-6
 returns-6 c =
@@ -105,7 +105,7 @@ returns-6 c =
     let few = e .before .before .before .before .before .before .before .before in
     let g = plugins-all _ (e .before .before .plugins .ensures) (e .end .given .1) in
     bad _ (unfit t _ x _ start (a .domain) (g .2) (omega (arith, few .if1 .left)) (omega (arith, g .2 .reads .fits, f .if3 .left))
-    (sym (c .before .holds .ensures) ∙ not-true _ (c .if4 .taken)))
+    (sym (c .before .all-hold .ensures) ∙ not-true _ (c .if4 .taken)))
 
 returns-7 : tie.Need-returns-7
 returns-7 c =
@@ -120,7 +120,7 @@ returns-7 c =
     let few = e .before .before .before .before .before .before .before .before in
     let g = plugins-all _ (e .before .before .plugins .ensures) (e .end .given .1) in
     accepted t _ x _ start (a .domain) (g .2) (omega (arith, few .if1 .left)) (omega (arith, g .2 .reads .fits, f .if3 .left))
-    (sym (c .before .holds .ensures) ∙ not-false _ (c .if4 .left))
+    (sym (c .before .all-hold .ensures) ∙ not-false _ (c .if4 .left))
 
 pub read-spec : {M : Type 1} → statement M
 read-spec =
@@ -138,6 +138,6 @@ read-spec =
     enum-told-2
     returns-4
     returns-5
-    holds-requires
+    all-hold-requires
     returns-6
     returns-7)
