@@ -13,9 +13,9 @@ use borrow.Author.Tests.{eq-eqb, ne-eqb}
 use Rattle.rules.specs.Holds.{port, isIn, samePort, provides, provided}
 use Rattle.rules.specs.Ports.{pairs}
 use Rattle.rules_types.specs.declared.Port.{Port}
-use Rattle.ports.specs.Places.{pairs-at, pairs-end, in-hit, in-miss, in-later, not-same}
+use Rattle.ports.specs.Places.{pairs-before, pairs-end, in-hit, in-miss, in-later, not-same}
 use Rattle.ports_bits.specs.Bits.{withBit, hasBit}
-use Rattle.ports_bits.specs.Keys.{keyWord}
+use Rattle.ports_bits.specs.Keys.{WordFrom, word-none, word-next}
 use Rattle.rules.specs.Basics.{pick}
 use Rattle.memory.specs.Layout.{word, taken, provPart, places}
 use Rattle.memory.specs.View.{anchorAt, pluginAt}
@@ -33,11 +33,10 @@ module _ (w : ℕ) (l : List ℕ) (q : Port) where
   pub record Seen (row bits : ℕ) : Type 0 where
     pub within : row * 2 ≤ length l
     pub not-there : isIn q (pairs (drop (row * 2) l)) ≡ false
-    pub word : bits ≡ keyWord w (pairs (drop (row * 2) l))
+    pub word : WordFrom w l row bits
 
   pub seen-none : (row : ℕ) → row * 2 ≤ length l → length l ≤ row * 2 + 1 → Seen row w
-  unfolding keyWord
-  seen-none row h g = let e = pairs-end l (row * 2) g in record { within = h; not-there = rw e; word = rw e }
+  seen-none row h g = record { within = h; not-there = rw (pairs-end l (row * 2) g); word = word-none w l row g }
 
   pub seen-all : (bits : ℕ) → Seen 0 bits → some bits ≡ bitsWithout w (pairs l) q
   seen-all bits s = rw (s .not-there) (ap some (s .word))
@@ -47,20 +46,16 @@ module _ (w : ℕ) (l : List ℕ) (q : Port) where
     at = (row - 1) * 2
 
     here : pairs (drop at l) ≡ port (getD l at 0) (getD l (at + 1) 0) ∷ pairs (drop (row * 2) l)
-    here =
-        let a = pairs-at l at (omega (arith, s .within)) in
-        let e : at + 2 ≡ row * 2 = omega arith in
-        rw e at a
+    here = pairs-before l row at (at + 1) (omega arith) refl (s .within)
 
     pub seen-there : getD l at 0 ≡ q .key → getD l (at + 1) 0 ≡ q .realm → none ≡ bitsWithout w (pairs l) q
     seen-there e f = rw (in-later q (row - 1) l (in-hit here q e f))
 
     pub seen-next : (getD l at 0 ≡ q .key → getD l (at + 1) 0 ≡ q .realm → ⊥) → (b : ℕ) → b ≡ withBit bits (getD l at 0) → Seen (row - 1) b
-    unfolding keyWord
     seen-next n b e = record {
       within = omega (arith, s .within);
       not-there = in-miss here q n ∙ s .not-there;
-      word = e ∙ rw here (ap (λ x. withBit x (getD l at 0)) (s .word));
+      word = e ∙ word-next w l row bits here (s .word);
     }
 
 -- a place's ports: the anchor, then the provisions

@@ -9,7 +9,7 @@ use lib.Dec.{eqb}
 use lib.ListN.{length, set, length-set, replicate, getD-replicate}
 use lib.Seq.{getD-set-same, getD-set-other}
 use borrow.Author.Tests.{eqb-true, eqb-false}
-use Rattle.rules.specs.Holds.{Plugin, isIn, provides, provided, samePort}
+use Rattle.rules.specs.Holds.{Plugin, isIn, provides, provided}
 use Rattle.rules.specs.Ports.{pairs}
 use Rattle.rules_types.specs.declared.Port.{Port}
 use Rattle.rules_laws.specs.Laws.Tests.{by-test, both}
@@ -17,8 +17,8 @@ use Rattle.memory.specs.Layout.{word, taken, provPart, places}
 use Rattle.memory.specs.View.{anchorAt, pluginAt}
 use Rattle.memory.specs.Lookups.{searchFrom}
 use Rattle.memory_lists.specs.Listed.{provided-at}
-use Rattle.ports_bits.specs.Bits.{withBit, hasBit, bit-comes}
-use Rattle.ports_bits.specs.Keys.{key-stays, key-comes}
+use Rattle.ports_bits.specs.Bits.{withBit, hasBit}
+use Rattle.ports_bits.specs.Keys.{key-stays, same-key, key-comes}
 use Rattle.memory_providers.specs.Providers.{providerAt}
 use Rattle.memory_keys.specs.Tables.{placeKeys, offersBy, keptBy, foundFrom, tableFrom, providerBy, tableBy}
 
@@ -35,10 +35,7 @@ offered-key : (m : List ℕ) (i : ℕ) (q : Port) → provides (pluginAt m i) q 
 unfolding placeKeys pluginAt
 offered-key m i q e = by-test (isIn q (provided (pluginAt m i)))
     (λ t. key-comes (withBit 0 (anchorAt m i .key)) (pairs (provPart m i)) q (ap (isIn q) (sym (provided-at m i)) ∙ t))
-    (λ f.
-    let s : samePort q (anchorAt m i) ≡ true = rw f at e in
-    let k : q .key ≡ anchorAt m i .key = eqb-true _ _ (both _ _ s .0) in
-    key-stays (withBit 0 (anchorAt m i .key)) (pairs (provPart m i)) (q .key) (rw k (bit-comes 0 (anchorAt m i .key))))
+    (λ f. key-stays (withBit 0 (anchorAt m i .key)) (pairs (provPart m i)) (q .key) (same-key 0 (anchorAt m i) q (rw f at e)))
 
 -- by what is so, a place offers what it provides
 offers-is : (m : List ℕ) (w i : ℕ) (q : Port) → Says m i w → offersBy m w i q ≡ (taken m i && provides (pluginAt m i) q)

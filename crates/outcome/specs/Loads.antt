@@ -51,6 +51,9 @@ ports-bits-with-bit κs a r s ms ns p q = by-equation p q
 pub ports-bits-has-bit : One ports_bits.«has_bit».ended ports_bits.«has_bit».Reads.Learnt
 ports-bits-has-bit κs a r s ms ns p q = by-equation p q
 
+pub ports-bits-key-word : One ports_bits.«key_word».ended ports_bits.«key_word».Reads.Learnt
+ports-bits-key-word κs a r s ms ns p q = by-equation p q
+
 pub memory-providers-key-bits : One memory_providers.«key_bits».ended memory_providers.«key_bits».Reads.Learnt
 memory-providers-key-bits κs a r s ms ns p q = by-equation p q
 

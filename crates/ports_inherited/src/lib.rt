@@ -5,6 +5,7 @@ ghost use Prim.Native.Nat.{_+_};
 ghost use lib.ListN.{take};
 ghost use Rattle.rules.specs.Holds.{port, isIn};
 ghost use Rattle.rules.specs.Ports.{pairs};
+ghost use Rattle.ports_bits.specs.Keys.{Covers};
 ghost use Rattle.ports_realms.specs.Halving.{reachedWith};
 ghost use Rattle.rules.specs.Dependencies.{ownPorts, dependencyList};
 ghost use Rattle.rules.specs.Limits.{maxDependencyKeys, maxDependencies};
@@ -41,9 +42,20 @@ fn is_own(provisions: &[u64], anchor: Port, key: u64, realm: u64) -> bool
     realm == own_realm
 }
 
+// Whether a port is in the list so far; a key that lacks its bit is not looked for.
+fn is_listed(list: &[u64], bits: u64, key: u64, realm: u64) -> bool
+    requires { ⌜ Covers bits (pairs (now list)) ⌝ }
+    ensures { λ r. ⌜ r ≡ isIn (port key realm) (pairs (now (list .entry))) ⌝ }
+{
+    if !ports_bits::has_bit(bits, key) {
+        return false;
+    }
+    ports::has_port(list, key, realm)
+}
+
 // The list of a new plugin: the first 16 declared keys resolved, then for each port of the parent's list itself and its
 // key resolved again, each appended if it is neither one of the plugin's own nor in the list so far. A port that resolves to
-// itself takes both turns at once.
+// itself takes both turns at once. Where nothing is inherited, no word of key bits is made.
 pub fn dependency_list(
     other: u64,
     anchor: Port,
@@ -56,9 +68,13 @@ pub fn dependency_list(
         (take maxDependencyKeys (now (keys .entry))) (pairs (now (parents .entry)))) ⌝ }
 {
     let mut list = [0u64; LIST_ROOM];
-    let mut n = ports_resolved::declared(other, rows, keys, &mut list);
+    let mut count = ports_resolved::declared(other, rows, keys, &mut list);
+    if parents.len() < 2 {
+        return Dependencies { count, ports: list };
+    }
+    let mut bits = ports_bits::key_word(0, &list[..count * 2]);
     let mut c: usize = 0;
-    'next: while c / 2 < parents.len() / 2 {
+    while c / 2 < parents.len() / 2 {
         let at = c / 2 * 2;
         let key = parents[at];
         let turn = ports_resolved::candidate(other, c % 2, key, parents[at + 1], rows);
@@ -67,26 +83,18 @@ pub fn dependency_list(
         if is_own(provisions, anchor, key, realm) {
             continue;
         }
-        let mut k: usize = 0;
-        while k < n {
-            if list[k * 2] == key {
-                if list[k * 2 + 1] == realm {
-                    continue 'next;
-                }
-            }
-            k += 1;
+        if is_listed(&list[..count * 2], bits, key, realm) {
+            continue;
         }
-        if n == limits::DEPENDENCIES {
+        if count == limits::DEPENDENCIES {
             return longer();
         }
-        list[n * 2] = key;
-        list[n * 2 + 1] = realm;
-        n += 1;
+        list[count * 2] = key;
+        list[count * 2 + 1] = realm;
+        bits = ports_bits::with_bit(bits, key);
+        count += 1;
     }
-    Dependencies {
-        count: n,
-        ports: list,
-    }
+    Dependencies { count, ports: list }
 }
 
 // What a list of more than 48 ports answers.

@@ -1,26 +1,16 @@
 -- The port is not among those from a row on.
-use Prim.Native.Nat.{ℕ, _+_, _-_, _*_, _/_, _<_, _≤_}
+use Prim.Native.Nat.{_-_, _*_, _/_, _≤_}
 use native.Mathlib.Omega.{arith}
 use mathlib.Core.Logic.{⊎-elim}
 use mathlib.Core.Path.{_≡_, sym, ap, _∙_}
 use mathlib.Core.Bool.{false}
-use mathlib.Core.List.{List, _∷_}
-use lib.ListN.{length, getD, drop}
+use lib.ListN.{length, drop}
 use borrow.Author.Needs.{needs}
 use Rattle.rules.specs.Holds.{port, isIn}
 use Rattle.rules.specs.Ports.{pairs}
-use Rattle.ports.specs.Places.{pairs-at, pairs-end, in-hit, in-miss, in-later}
+use Rattle.ports.specs.Places.{pairs-before, pairs-end, in-hit, in-miss, in-later}
 use Rattle.ports.proofs.has_port.Statement.{statement}
 use Rattle.ports.proofs.has_port.Tie as tie
-
--- the row before n, and those from n on
-row-before : (l : List ℕ) (n : ℕ) → 0 < n → n ≤ length l / 2
-    → pairs (drop ((n - 1) * 2) l) ≡ port (getD l (n * 2 - 2) 0) (getD l (n * 2 - 1) 0) ∷ pairs (drop (n * 2) l)
-row-before l n h k =
-    let start : (n - 1) * 2 ≡ n * 2 - 2 = omega arith in
-    let realm : n * 2 - 2 + 1 ≡ n * 2 - 1 = omega arith in
-    let rest : n * 2 - 2 + 2 ≡ n * 2 = omega arith in
-    rw start (rw (realm, rest) at (pairs-at l (n * 2 - 2) (omega arith)))
 
 abbrev Inv-loop : tie.InvT-loop
 Inv-loop ports key realm row₀ row = (row ≤ length ports / 2) × (isIn (port key realm) (pairs (drop (row * 2) ports)) ≡ false)
@@ -64,7 +54,7 @@ returns c =
     let a = at .before .args in
     let n = at .loop .row in
     let q = port (a .key) (a .realm) in
-    let s = row-before (a .ports .now) n (omega arith) (at .loop .inv .0) in
+    let s = pairs-before (a .ports .now) n (n * 2 - 2) (n * 2 - 1) (omega arith) (omega arith) (omega arith) in
     sym (in-later q (n - 1) (a .ports .now) (in-hit s q (c .before .before .if1 .taken) (c .if2 .taken)))
 
 sub-row : tie.Need-sub-row Inv-loop μ-loop
@@ -77,8 +67,9 @@ loop-again : tie.Need-loop-again Inv-loop μ-loop
 loop-again c =
     let at = c .before .before .before in
     let a = at .before .args in
+    let n = at .loop .row in
     let q = port (a .key) (a .realm) in
-    let s = row-before (a .ports .now) (at .loop .row) (omega arith) (at .loop .inv .0) in
+    let s = pairs-before (a .ports .now) n (n * 2 - 2) (n * 2 - 1) (omega arith) (omega arith) (omega arith) in
     (omega arith, in-miss s q (⊎-elim (λ w e f. w .2 .left f) (λ w e f. w .left e) (c .if1 .came)) ∙ at .loop .inv .1)
 
 returns-2 : tie.Need-returns-2 Inv-loop μ-loop

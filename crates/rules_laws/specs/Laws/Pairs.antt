@@ -27,6 +27,13 @@ pairs-behind l i p h =
     let f : i - 1 + 2 ≡ i + 2 - 1 = omega arith in
     rw (e, f) at (pairs-at l (i - 1) (omega arith))
 
+-- the row before one, by the places of its numbers, and those from that one on
+pub pairs-before : (l : List ℕ) (n a b : ℕ) → a + 2 ≡ n * 2 → b ≡ a + 1 → n * 2 ≤ length l
+    → pairs (drop ((n - 1) * 2) l) ≡ port (getD l a 0) (getD l b 0) ∷ pairs (drop (n * 2) l)
+pairs-before l n a b e f h =
+    let start : (n - 1) * 2 ≡ a = omega arith in
+    rw (start, f, ← e) (pairs-at l a (omega arith))
+
 short : (l : List ℕ) → length l ≤ 1 → pairs l ≡ []
 short [] h = refl
 short (k ∷ []) h = refl
@@ -109,10 +116,6 @@ pairs-get (k ∷ r ∷ l) zero h = refl
 pairs-get (k ∷ r ∷ l) (suc i) h =
     let e : suc (suc (i * 2)) + 1 ≡ suc (suc (i * 2 + 1)) = omega arith in
     rw (two-more i, e) (pairs-get l i (omega arith))
-
-pub flat-get : (ps : List Port) (i : ℕ) → i < length ps → port (getD (flat ps) (i * 2) 0) (getD (flat ps) (i * 2 + 1) 0) ≡ getD ps i (port 0 0)
-flat-get ps i h =
-    sym (pairs-get (flat ps) i (omega (arith, length-flat ps))) ∙ ap (λ (qs : List Port). getD qs i (port 0 0)) (pairs-flat ps)
 
 -- how many numbers equal ports have, and which
 pub pairs-same-length : (l m : List ℕ) → pairs l ≡ pairs m → length l / 2 ≡ length m / 2
