@@ -9,7 +9,7 @@ pub use Rattle.rules_laws.specs.Laws.Pairs.{pairs-at, pairs-behind, pairs-befor
 pub use Rattle.rules_laws.specs.Laws.Pairs.{even-length, flat-pairs, flat-pairs-even, pairs-flat, flat-append, pairs-take, pairs-drop, pairs-whole, pairs-get}
 pub use Rattle.rules_laws.specs.Laws.Pairs.{pairs-same-length, pairs-same}
 use Rattle.rules_types.specs.declared.Port.{Port}
-use Rattle.rules.specs.Basics.{any}
+use Rattle.rules.specs.Basics.{all, any}
 use Rattle.rules.specs.Holds.{samePort, isIn}
 use Rattle.rules.specs.Ports.{pairs, samePorts}
 use Rattle.rules.specs.Registration.{repeats}
@@ -23,13 +23,19 @@ not-same p q n = by-test (samePort p q)
     (λ t. let e = same-port p q t in absurd (n (ap (λ (v : Port). v .key) (sym e)) (ap (λ (v : Port). v .realm) (sym e))))
     (λ f. f)
 
--- a lookup, at a list that starts with p: a hit ends it, a miss goes on with the rest
+-- a lookup, at a list that starts with p: a hit ends it, a miss goes on with the rest; a test of all is ended by a miss
 module _ {l ps : List Port} {p : Port} (s : l ≡ p ∷ ps) where
   pub in-hit : (q : Port) → p .key ≡ q .key → p .realm ≡ q .realm → isIn q l ≡ true
   in-hit q e f = rw (s, eq-eqb (q .key) (p .key) (sym e), eq-eqb (q .realm) (p .realm) (sym f))
 
   pub in-miss : (q : Port) → (p .key ≡ q .key → p .realm ≡ q .realm → ⊥) → isIn q l ≡ isIn q ps
   in-miss q n = rw (s, not-same q p (λ e f. n (sym e) (sym f)))
+
+  pub all-hit : (f : Port → Bool) → f p ≡ true → all f l ≡ all f ps
+  all-hit f t = rw (s, t)
+
+  pub all-miss : (f : Port → Bool) → f p ≡ false → all f l ≡ false
+  all-miss f t = rw (s, t)
 
   pub first-hit : (i k : ℕ) → p .key ≡ k → firstFrom i k l ≡ At i
   unfolding firstFrom

@@ -1,48 +1,24 @@
--- The steps of both searches, at a list that starts with q.
+-- A port that is available by its provider, and the users of what a place offers.
 use Prim.Native.Nat.{ℕ, _%_, _<_}
 use native.Mathlib.Nat.{mod-eq-of-lt}
 use mathlib.Core.Path.{_≡_, sym, ap, _∙_}
 use mathlib.Core.Bool.{Bool, true, false, _&&_, _||_}
-use mathlib.Core.List.{List, _∷_}
+use mathlib.Core.List.{List}
 use lib.ListN.{length}
-use Rattle.rules.specs.Basics.{all, any}
+use Rattle.rules.specs.Basics.{any}
 use Rattle.rules.specs.Holds.{isActive, isLoading, running}
 use Rattle.rules_types.specs.declared.Port.{Port}
-use Rattle.rules.specs.Orders.{named, inTime}
 use Rattle.rules.specs.Phases.{available}
 use Rattle.rules.specs.Ports.{pairs}
-use Rattle.memory.specs.Layout.{idAt, depPart, memoryWords, places}
+use Rattle.memory.specs.Layout.{depPart, memoryWords, places}
 use Rattle.memory.specs.View.{lifeAt, pluginAt, view}
 use Rattle.memory.specs.declared.Life.{Life}
 use Rattle.memory.specs.declared.Place.{Place}
 use Rattle.memory.specs.declared.Place.the-variants.{At, None}
 use Rattle.memory_providers.specs.declared.KeyBits.{KeyBits}
 use Rattle.memory_providers.specs.Claimed.{meets-provides}
-use Rattle.memory_providers.specs.Providers.{providerAt, provider-view, provider-place, provider-active, offeredPart, noBits, keyBits, wanted}
+use Rattle.memory_providers.specs.Providers.{providerAt, provider-view, provider-active, offeredPart, noBits, keyBits, wanted}
 use Rattle.registry_needs.specs.Users.{uses, userAt}
-
--- a test of a list that starts with q
-module _ (f : Port → Bool) {l ps : List Port} {q : Port} (s : l ≡ q ∷ ps) where
-  pub all-hit : f q ≡ true → all f l ≡ all f ps
-  all-hit t = rw (s, t)
-
-  pub all-miss : f q ≡ false → all f l ≡ false
-  all-miss t = rw (s, t)
-
--- a provider's phase decides, or its id
-module _ (m before : List ℕ) (q : Port) (x : Place) (e : x ≡ providerAt m q) where
-  pub in-time-none : x ≡ None → false ≡ inTime (view m) before q
-  in-time-none f = rw (provider-view m q, sym e ∙ f)
-
-  module _ (i : ℕ) (f : x ≡ At i) (l : Life) (g : l ≡ lifeAt m (i % places)) (b : Bool) (h : b ≡ isActive (l .phase)) where
-    pub in-time-active : b ≡ true → true ≡ inTime (view m) before q
-    in-time-active t = rw (provider-view m q, sym e ∙ f) (rw (provider-active m q x e i f l g b h ∙ t))
-
-    pub in-time-named : b ≡ false → (id : ℕ) → id ≡ idAt m (i % places) → (d : Bool) → d ≡ named id before → d ≡ inTime (view m) before q
-    unfolding pluginAt
-    in-time-named n id k d j =
-        let s : id ≡ idAt m i = k ∙ ap (idAt m) (provider-place m q x e i f) in
-        rw (provider-view m q, sym e ∙ f) (rw (provider-active m q x e i f l g b h ∙ n) (j ∙ ap (λ z. named z before) s))
 
 -- a port is available exactly if its provider is Active
 module _ (m : List ℕ) (q : Port) (x : Place) (e : x ≡ providerAt m q) where

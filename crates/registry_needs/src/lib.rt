@@ -4,7 +4,6 @@ ghost use mathlib.Core.Bool.{_||_};
 ghost use Prim.Native.Nat.{_%_, _<_};
 ghost use Rattle.rules.specs.Basics.{all};
 ghost use Rattle.rules.specs.Holds.{port, isActive, isLoading};
-ghost use Rattle.rules.specs.Orders.{inTime};
 ghost use Rattle.rules.specs.Phases.{available, inUse};
 ghost use Rattle.rules.specs.Ports.{pairs};
 ghost use Rattle.memory.specs.View.{pluginAt, view};
@@ -42,34 +41,6 @@ pub fn is_running(life: Life) -> bool
         Phase::Active => true,
         Phase::Unloading => false,
     }
-}
-
-// Whether the port's provider is Active, or one of those before.
-fn is_in_time(m: &[u64; WORDS], before: &[u64], key: u64, realm: u64) -> bool
-    ensures { λ r. ⌜ r ≡ inTime (view (now (m .entry))) (now (before .entry)) (port key realm) ⌝ }
-{
-    let Place::At(at) = memory_providers::provider(m, key, realm) else {
-        return false;
-    };
-    if is_active(memory_life::load(m, at)) {
-        return true;
-    }
-    ports::has_number(before, memory::id(m, at))
-}
-
-// Whether each port of the list is provided in time.
-pub fn all_in_time(m: &[u64; WORDS], before: &[u64], list: &[u64]) -> bool
-    ensures { λ r. ⌜ r ≡ all (inTime (view (now (m .entry))) (now (before .entry))) (pairs (now (list .entry))) ⌝ }
-{
-    let mut i: usize = 1;
-    while i < list.len() {
-        if is_in_time(m, before, list[i - 1], list[i]) {
-            i += 2;
-        } else {
-            return false;
-        }
-    }
-    true
 }
 
 // Whether the port's provider is Active, by a table of the keys that places offer.

@@ -1,4 +1,4 @@
--- What the checks of an id and of a set come to, and the steps of an order.
+-- What the checks of an id and of a set come to, a provider in time, and the steps of an order.
 use Prim.Native.Nat.{ℕ, _+_, _%_, _≤_, _<_}
 use native.Mathlib.Numerals.{add-one}
 use mathlib.Core.Path.{_≡_, sym, ap, _∙_}
@@ -8,21 +8,24 @@ use lib.ListN.{length, getD, take, drop, drop-of-length-le}
 use lib.Seq.{drop-cons, take-suc}
 use borrow.Author.Tests.{eq-eqb, ne-eqb}
 use Rattle.rules.specs.Basics.{all, yesNo, last}
-use Rattle.rules.specs.Holds.{Registry, isIdle}
+use Rattle.rules.specs.Holds.{Registry, isActive, isIdle}
 use Rattle.rules.specs.Answers.{verdict}
 use Rattle.rules.specs.Outcomes.{Refused, Accepted, answers, answerOf}
 use Rattle.rules.specs.Orders.{named, idChecks, checksBehind, setChecks, inTime, supplied, canCome, passes, checkOrder}
 use Rattle.rules.specs.Ports.{pairs}
 use Rattle.rules_types.specs.declared.Done.{Done}
 use Rattle.rules_types.specs.declared.Done.the-variants as done
+use Rattle.rules_types.specs.declared.Port.{Port}
 use Rattle.rules_laws.specs.Laws.Verdicts.{verdict-first, verdict-then, checked-pass, checked-refuses, refused-answer}
 use Rattle.rules_orders.specs.Follows.{follow, passes-other, passes-same}
-use Rattle.memory.specs.Layout.{depPart, places}
+use Rattle.memory.specs.Layout.{idAt, depPart, places}
 use Rattle.memory.specs.View.{lifeAt, pluginAt, view}
 use Rattle.memory.specs.Writes.{findAt}
 use Rattle.memory.specs.Known.{at-place, at-lookup, none-lookup}
 use Rattle.memory.specs.declared.Life.{Life}
+use Rattle.memory.specs.declared.Place.{Place}
 use Rattle.memory.specs.declared.Place.the-variants.{At, None}
+use Rattle.memory_providers.specs.Providers.{providerAt, provider-view, provider-place, provider-active}
 use Rattle.registry_order.specs.Checks.{lifeChecks}
 
 -- 2, 3, 16 of a life
@@ -79,6 +82,21 @@ module _ (r : Registry) (ids : List ℕ) (i : ℕ) where
 
     pub set-next : v ≡ done.Accepted → verdict (checksBehind r (take i ids) (drop i ids)) ≡ verdict (checksBehind r (take (i + 1) ids) (drop (i + 1) ids))
     set-next z = ap verdict checks-at ∙ verdict-then _ _ (sym e ∙ z)
+
+-- a provider's phase decides, or its id
+module _ (m before : List ℕ) (q : Port) (x : Place) (e : x ≡ providerAt m q) where
+  pub in-time-none : x ≡ None → false ≡ inTime (view m) before q
+  in-time-none f = rw (provider-view m q, sym e ∙ f)
+
+  module _ (i : ℕ) (f : x ≡ At i) (l : Life) (g : l ≡ lifeAt m (i % places)) (b : Bool) (h : b ≡ isActive (l .phase)) where
+    pub in-time-active : b ≡ true → true ≡ inTime (view m) before q
+    in-time-active t = rw (provider-view m q, sym e ∙ f) (rw (provider-active m q x e i f l g b h ∙ t))
+
+    pub in-time-named : b ≡ false → (id : ℕ) → id ≡ idAt m (i % places) → (d : Bool) → d ≡ named id before → d ≡ inTime (view m) before q
+    unfolding pluginAt
+    in-time-named n id k d j =
+        let s : id ≡ idAt m i = k ∙ ap (idAt m) (provider-place m q x e i f) in
+        rw (provider-view m q, sym e ∙ f) (rw (provider-active m q x e i f l g b h ∙ n) (j ∙ ap (λ z. named z before) s))
 
 -- a plugin's dependencies
 module _ (m before : List ℕ) (id : ℕ) where

@@ -2,14 +2,18 @@
 ghost use mathlib.Core.Path.{_≡_};
 ghost use mathlib.Core.Bool.{_&&_};
 ghost use Rattle.rules.specs.Answers.{verdict, whetherAnswer};
-ghost use Rattle.rules.specs.Holds.{isIdle};
-ghost use Rattle.rules.specs.Orders.{named, supplied, canCome, idChecks, setChecks, passes, checkOrder};
+ghost use Rattle.rules.specs.Basics.{all};
+ghost use Rattle.rules.specs.Holds.{port, isIdle};
+ghost use Rattle.rules.specs.Orders.{named, inTime, supplied, canCome, idChecks, setChecks, passes, checkOrder};
 ghost use Rattle.rules.specs.Outcomes.{answerOf};
+ghost use Rattle.rules.specs.Ports.{pairs};
 ghost use Rattle.memory.specs.View.{view};
+ghost use Rattle.memory_index.specs.Indexed.{Indexed};
 ghost use Rattle.registry_order.specs.Checks.{lifeChecks};
 use memory::Life;
 use memory::Place;
 use memory::WORDS;
+use memory_index::REMAINDERS;
 use rules::Done;
 use rules::Generation;
 use rules::Phase;
@@ -71,18 +75,62 @@ pub fn set_verdict(m: &[u64; WORDS], set: &[u64]) -> Done
     Done::Accepted
 }
 
+// Whether the port's provider is Active, or one of those before.
+fn is_in_time(
+    m: &[u64; WORDS],
+    index: &[u32; REMAINDERS],
+    before: &[u64],
+    key: u64,
+    realm: u64,
+) -> bool
+    requires { ⌜ Indexed (now m) (now index) ⌝ }
+    ensures { λ r. ⌜ r ≡ inTime (view (now (m .entry))) (now (before .entry)) (port key realm) ⌝ }
+{
+    let Place::At(at) = memory_index::provider_by(m, index, key, realm) else {
+        return false;
+    };
+    if registry_needs::is_active(memory_life::load(m, at)) {
+        return true;
+    }
+    ports::has_number(before, memory::id(m, at))
+}
+
+// Whether each port of the list is provided in time.
+fn all_in_time(m: &[u64; WORDS], index: &[u32; REMAINDERS], before: &[u64], list: &[u64]) -> bool
+    requires { ⌜ Indexed (now m) (now index) ⌝ }
+    ensures { λ r. ⌜ r ≡ all (inTime (view (now (m .entry))) (now (before .entry))) (pairs (now (list .entry))) ⌝ }
+{
+    let mut i: usize = 1;
+    while i < list.len() {
+        if is_in_time(m, index, before, list[i - 1], list[i]) {
+            i += 2;
+        } else {
+            return false;
+        }
+    }
+    true
+}
+
 // Whether every dependency of a plugin is provided by an Active one or by one of those before.
-fn is_supplied(m: &[u64; WORDS], before: &[u64], id: u64) -> bool
+fn is_supplied(m: &[u64; WORDS], index: &[u32; REMAINDERS], before: &[u64], id: u64) -> bool
+    requires { ⌜ Indexed (now m) (now index) ⌝ }
     ensures { λ r. ⌜ r ≡ supplied (view (now (m .entry))) (now (before .entry)) id ⌝ }
 {
     let Place::At(at) = memory::find(m, id) else {
         return false;
     };
-    registry_needs::all_in_time(m, before, memory_lists::dependency_words(m, at))
+    all_in_time(m, index, before, memory_lists::dependency_words(m, at))
 }
 
 // Whether an id is the set's, is not among those before, and is supplied.
-fn follows(m: &[u64; WORDS], set: &[u64], before: &[u64], id: u64) -> bool
+fn follows(
+    m: &[u64; WORDS],
+    index: &[u32; REMAINDERS],
+    set: &[u64],
+    before: &[u64],
+    id: u64,
+) -> bool
+    requires { ⌜ Indexed (now m) (now index) ⌝ }
     ensures { λ r. ⌜ r ≡ (named id (now (set .entry)) && canCome (view (now (m .entry))) (now (before .entry)) id) ⌝ }
 {
     if !ports::has_number(set, id) {
@@ -91,19 +139,21 @@ fn follows(m: &[u64; WORDS], set: &[u64], before: &[u64], id: u64) -> bool
     if ports::has_number(before, id) {
         return false;
     }
-    is_supplied(m, before, id)
+    is_supplied(m, index, before, id)
 }
 
-// Whether the order names the set's ids, each once, and each is supplied by those before it.
+// Whether the order names the set's ids, each once, and each is supplied by those before it. One index serves all lookups.
 fn is_passing(m: &[u64; WORDS], set: &[u64], order: &[u64]) -> bool
     ensures { λ r. ⌜ r ≡ passes (view (now (m .entry))) (now (set .entry)) (now (order .entry)) ⌝ }
 {
     if order.len() != set.len() {
         return false;
     }
+    memory::known(m);
+    let index = memory_index::index(m);
     let mut i: usize = 0;
     while i < order.len() {
-        if !follows(m, set, &order[..i], order[i]) {
+        if !follows(m, &index, set, &order[..i], order[i]) {
             return false;
         }
         i += 1;

@@ -10,8 +10,7 @@ use Rattle.rules.specs.Phases.{available}
 use Rattle.rules.specs.Ports.{pairs}
 use Rattle.memory.specs.View.{view}
 use Rattle.memory_keys.specs.Known.{Known, none-known}
-use Rattle.ports.specs.Places.{pairs-behind, pairs-end}
-use Rattle.registry_needs.proofs.Laws.{all-hit, all-miss}
+use Rattle.ports.specs.Places.{pairs-behind, pairs-end, all-hit, all-miss}
 use borrow.Author.Needs.{needs}
 use Rattle.registry_needs.proofs.all_available.Statement.{statement}
 use Rattle.registry_needs.proofs.all_available.Tie as tie
@@ -63,7 +62,7 @@ loop-again c =
     let f : Port → Bool = available (view (a .m .now)) in
     let s = pairs-behind (a .list .now) (at .loop .i) (at .loop .inv .0) (n .loop-test .taken) in
     let e = c .before .is-available .ensures in
-    (omega arith, e .1, at .loop .inv .2 ∙ all-hit f s (sym (e .0) ∙ c .if2 .taken))
+    (omega arith, e .1, at .loop .inv .2 ∙ all-hit s f (sym (e .0) ∙ c .if2 .taken))
 
 returns-2 : tie.Need-returns-2 Inv-loop μ-loop
 returns-2 c =
@@ -73,7 +72,7 @@ returns-2 c =
     let f : Port → Bool = available (view (a .m .now)) in
     let s = pairs-behind (a .list .now) (at .loop .i) (at .loop .inv .0) (n .loop-test .taken) in
     let e = c .before .is-available .ensures in
-    sym (at .loop .inv .2 ∙ all-miss f s (sym (e .0) ∙ c .if2 .left))
+    sym (at .loop .inv .2 ∙ all-miss s f (sym (e .0) ∙ c .if2 .left))
 
 returns-3 : tie.Need-returns-3 Inv-loop μ-loop
 returns-3 c =

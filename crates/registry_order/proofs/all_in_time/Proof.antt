@@ -9,17 +9,16 @@ use Rattle.rules_types.specs.declared.Port.{Port}
 use Rattle.rules.specs.Orders.{inTime}
 use Rattle.rules.specs.Ports.{pairs}
 use Rattle.memory.specs.View.{view}
-use Rattle.ports.specs.Places.{pairs-behind, pairs-end}
-use Rattle.registry_needs.proofs.Laws.{all-hit, all-miss}
+use Rattle.ports.specs.Places.{pairs-behind, pairs-end, all-hit, all-miss}
 use borrow.Author.Needs.{needs}
-use Rattle.registry_needs.proofs.all_in_time.Statement.{statement}
-use Rattle.registry_needs.proofs.all_in_time.Tie as tie
+use Rattle.registry_order.proofs.all_in_time.Statement.{statement}
+use Rattle.registry_order.proofs.all_in_time.Tie as tie
 
 abbrev Inv-loop : tie.InvT-loop
-Inv-loop m before ports i₀ i = (1 ≤ i) × (all (inTime (view m) before) (pairs ports) ≡ all (inTime (view m) before) (pairs (drop (i - 1) ports)))
+Inv-loop m index before list i₀ i = (1 ≤ i) × (all (inTime (view m) before) (pairs list) ≡ all (inTime (view m) before) (pairs (drop (i - 1) list)))
 
 abbrev μ-loop : tie.MeasureT-loop
-μ-loop m before ports i₀ i = length ports - i
+μ-loop m index before list i₀ i = length list - i
 
 loop-holds : tie.Need-loop-holds Inv-loop μ-loop
 loop-holds c = search needs
@@ -54,7 +53,7 @@ loop-again c =
     let a = at .before .before .before .args in
     let f : Port → Bool = inTime (view (a .m .now)) (a .before .now) in
     let s = pairs-behind (a .list .now) (at .loop .i) (at .loop .inv .0) (c .before .before .before .before .loop-test .taken) in
-    (omega arith, at .loop .inv .1 ∙ all-hit f s (sym (c .before .is-in-time .ensures) ∙ c .if1 .taken))
+    (omega arith, at .loop .inv .1 ∙ all-hit s f (sym (c .before .is-in-time .ensures) ∙ c .if1 .taken))
 
 returns : tie.Need-returns Inv-loop μ-loop
 returns c =
@@ -62,7 +61,7 @@ returns c =
     let a = at .before .before .before .args in
     let f : Port → Bool = inTime (view (a .m .now)) (a .before .now) in
     let s = pairs-behind (a .list .now) (at .loop .i) (at .loop .inv .0) (c .before .before .before .before .loop-test .taken) in
-    sym (at .loop .inv .1 ∙ all-miss f s (sym (c .before .is-in-time .ensures) ∙ c .if1 .left))
+    sym (at .loop .inv .1 ∙ all-miss s f (sym (c .before .is-in-time .ensures) ∙ c .if1 .left))
 
 returns-2 : tie.Need-returns-2 Inv-loop μ-loop
 returns-2 c =
