@@ -6,9 +6,9 @@ use native.Mathlib.Omega.{arith}
 use mathlib.Core.Path.{_≡_, refl, sym, ap, _∙_}
 use mathlib.Core.Logic.{_≢_}
 use mathlib.Core.Bool.{Bool, true, false, _&&_}
-use mathlib.Core.List.{List, [], _∷_}
+use mathlib.Core.List.{List, _∷_}
 use lib.Bits.{bitAnd, bitOr, and-step, and-self, and-le-l, and-le-r}
-use lib.Count.{under, trailingZeros, trailing-le}
+use lib.Count.{trailingZeros}
 use lib.Dec.{eqb}
 use lib.ListN.{length, drop, getD, set}
 use lib.Pow.{shr-shr}
@@ -23,7 +23,6 @@ use Rattle.memory.specs.View.{pluginAt}
 use Rattle.memory.specs.declared.Place.{Place}
 use Rattle.memory.specs.declared.Place.the-variants.{At, None}
 use Rattle.memory_providers.specs.Providers.{offeredPart}
-use Rattle.memory_providers.specs.Words.{isAmong}
 use Rattle.memory_index.specs.Index.{wordFor, noted, indexFrom, firstAmong}
 
 -- the rows from one on are noted

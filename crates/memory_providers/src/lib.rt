@@ -8,7 +8,6 @@ ghost use Rattle.rules.specs.Ports.{pairs};
 ghost use Rattle.memory.specs.Layout.{taken, places};
 ghost use Rattle.memory.specs.View.{pluginAt, view};
 ghost use Rattle.memory_providers.specs.Providers.{providerAt, offeredPart, noBits, keyBits, wanted};
-ghost use Rattle.memory_providers.specs.Words.{isAmong, wordOf};
 use memory::Place;
 use memory::WORDS;
 use memory::layout::PLACES;

@@ -91,9 +91,6 @@ registry-needs-is-active κs a r s ms ns p q = by-equation p q
 pub registry-needs-is-running : One registry_needs.«is_running».ended registry_needs.«is_running».Reads.Learnt
 registry-needs-is-running κs a r s ms ns p q = by-equation p q
 
-pub registry-needs-all-in-time : One registry_needs.«all_in_time».ended registry_needs.«all_in_time».Reads.Learnt
-registry-needs-all-in-time κs a r s ms ns p q = by-equation p q
-
 pub registry-needs-all-available : One registry_needs.«all_available».ended registry_needs.«all_available».Reads.Learnt
 registry-needs-all-available κs a r s ms ns p q = by-equation p q
 

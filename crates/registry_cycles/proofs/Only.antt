@@ -3,13 +3,13 @@ use Prim.Native.Nat.{ℕ, zero, suc, _+_, _<_, _≤_}
 use native.Mathlib.Omega.{arith}
 use mathlib.Core.Path.{_≡_, refl, sym, ap, _∙_}
 use mathlib.Core.Logic.{inl, inr}
-use mathlib.Core.Bool.{Bool, true, false, not, _&&_, _||_, or-true, and-false, true≢false}
+use mathlib.Core.Bool.{Bool, true, false, _&&_, _||_, or-true, and-false, true≢false}
 use mathlib.Core.List.{List, [], _∷_}
 use lib.Dec.{eqb}
 use borrow.Author.Tests.{eqb-true, eqb-false, eq-eqb, not-true}
 use Rattle.rules.specs.Basics.{any, all}
 use Rattle.rules.specs.Holds.{Plugin, held, plugins, provides, running, isLoading, isActive}
-use Rattle.rules.specs.Conditions.{claims, claimsOf, portsDiffer, needs}
+use Rattle.rules.specs.Conditions.{claims, claimsOf, portsDiffer}
 use Rattle.rules.specs.Phases.{available}
 use Rattle.rules.specs.Registration.{repeats}
 use Rattle.rules_types.specs.declared.Port.{Port}

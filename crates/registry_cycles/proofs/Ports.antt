@@ -12,7 +12,7 @@ use Rattle.rules.specs.Holds.{isActive}
 use Rattle.rules.specs.Phases.{available}
 use Rattle.rules_types.specs.declared.Port.{Port}
 use Rattle.memory.specs.Layout.{places}
-use Rattle.memory.specs.View.{lifeAt, pluginAt, view}
+use Rattle.memory.specs.View.{lifeAt, view}
 use Rattle.memory.specs.declared.Life.{Life}
 use Rattle.memory.specs.declared.Place.{Place}
 use Rattle.memory.specs.declared.Place.the-variants.{At, None}
@@ -20,7 +20,6 @@ use Rattle.memory_index.specs.Among.{among-or}
 use Rattle.memory_places.specs.Bits.{bit-none, one-shl}
 use Rattle.memory_providers.specs.Providers.{providerAt, provider-view, provider-active, provider-below}
 use Rattle.memory_providers.specs.Words.{isAmong, wordOf}
-use Rattle.registry_cycles.specs.declared.Row.{Row}
 use Rattle.registry_cycles.specs.declared.Row.the-variants.{Of, Unserved}
 use Rattle.registry_cycles.specs.Rows.{isAt, providesOne, rowOf}
 use Rattle.registry_cycles.proofs.Words.{bits-word, word-same}

@@ -3,13 +3,11 @@ use Prim.Native.Nat.{ℕ, zero, suc, _-_, _^_, _<_, _≤_}
 use native.Mathlib.Omega.{arith}
 use mathlib.Core.Path.{_≡_, refl, sym, ap, _∙_}
 use mathlib.Core.Bool.{Bool, true, false, not, _&&_, and-true, and-false}
-use mathlib.Core.List.{List, [], _∷_}
+use mathlib.Core.List.{List}
 use lib.Bits.{bitAnd}
 use lib.Dec.{eqb}
-use lib.ListN.{length}
-use borrow.Author.Tests.{eqb-true, eq-eqb}
 use Rattle.rules.specs.Basics.{any, only}
-use Rattle.rules.specs.Holds.{Plugin, held, plugins, running}
+use Rattle.rules.specs.Holds.{held, plugins, running}
 use Rattle.rules.specs.Conditions.{needs, stillWaiting, noneLeftAfter, noCycles}
 use Rattle.rules_laws.specs.Laws.Tests.{by-test, both}
 use Rattle.memory.specs.Layout.{word, taken, places}

@@ -2,14 +2,14 @@
 use Prim.Native.Nat.{ℕ, _≤_, _<_}
 use native.Mathlib.Omega.{arith}
 use mathlib.Core.Path.{_≡_, refl, sym, ap, _∙_, subst}
-use mathlib.Core.Bool.{Bool, true, false, not, _&&_}
+use mathlib.Core.Bool.{true, false, not, _&&_}
 use mathlib.Core.List.{List, [], _∷_, map}
 use mathlib.Core.Option.{Option, none, some}
 use lib.ListN.{length}
 use borrow.Author.Tests.{le-leb, eq-eqb, ne-eqb}
 use Rattle.rules.specs.Basics.{all, _⊃_}
 use Rattle.rules.specs.Limits.{maxPlugins}
-use Rattle.rules.specs.Holds.{Plugin, Registry, plugins, running}
+use Rattle.rules.specs.Holds.{Plugin, plugins, running}
 use Rattle.rules.specs.Phases.{available}
 use Rattle.rules.specs.Registration.{repeats}
 use Rattle.rules.specs.Text.{Said, header, withCount, block, text, readText}

@@ -1,5 +1,4 @@
 -- `fill_rows` meets its contract: the rows of the places before i are there, and these are served.
-use native.Mathlib.Omega.{arith}
 use Prim.Native.Nat.{_-_}
 use mathlib.Core.Path.{_≡_, refl, sym, _∙_}
 use mathlib.Core.Bool.{true≢false}

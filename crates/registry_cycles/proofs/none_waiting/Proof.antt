@@ -1,5 +1,4 @@
 -- `none_waiting` meets its contract: n rounds over those that are left answer what all rounds do.
-use native.Mathlib.Omega.{arith}
 use mathlib.Core.Path.{_≡_, refl, sym, ap, _∙_}
 use Rattle.memory.specs.Layout.{places}
 use Rattle.registry_cycles.specs.Left.{noneWaiting}
