@@ -7,7 +7,7 @@ use lib.ListN.{drop}
 use borrow.Author.Tests.{eq-eqb, ne-eqb}
 pub use Rattle.rules_laws.specs.Laws.Pairs.{pairs-at, pairs-behind, pairs-before, pairs-end, part-end, length-pairs, length-flat, odd-length, length-odd, length-even}
 pub use Rattle.rules_laws.specs.Laws.Pairs.{even-length, flat-pairs, flat-pairs-even, pairs-flat, flat-append, pairs-take, pairs-drop, pairs-whole, pairs-get}
-pub use Rattle.rules_laws.specs.Laws.Pairs.{pairs-same-length, pairs-same}
+pub use Rattle.rules_laws.specs.Laws.Pairs.{flat-get, pairs-same-length, pairs-same}
 use Rattle.rules_types.specs.declared.Port.{Port}
 use Rattle.rules.specs.Basics.{all, any}
 use Rattle.rules.specs.Holds.{samePort, isIn}

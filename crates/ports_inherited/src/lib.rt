@@ -3,9 +3,10 @@ ghost use mathlib.Core.Path.{_≡_};
 ghost use mathlib.Core.List.{[]};
 ghost use Prim.Native.Nat.{_+_};
 ghost use lib.ListN.{take};
+ghost use Rattle.rules.specs.Basics.{pick};
 ghost use Rattle.rules.specs.Holds.{port, isIn};
 ghost use Rattle.rules.specs.Ports.{pairs};
-ghost use Rattle.ports_bits.specs.Keys.{Covers};
+ghost use Rattle.ports_bits.specs.Bits.{hasBit};
 ghost use Rattle.ports_realms.specs.Halving.{reachedWith};
 ghost use Rattle.rules.specs.Dependencies.{ownPorts, dependencyList};
 ghost use Rattle.rules.specs.Limits.{maxDependencyKeys, maxDependencies};
@@ -42,15 +43,15 @@ fn is_own(provisions: &[u64], anchor: Port, key: u64, realm: u64) -> bool
     realm == own_realm
 }
 
-// Whether a port is in the list so far; a key that lacks its bit is not looked for.
-fn is_listed(list: &[u64], bits: u64, key: u64, realm: u64) -> bool
-    requires { ⌜ Covers bits (pairs (now list)) ⌝ }
-    ensures { λ r. ⌜ r ≡ isIn (port key realm) (pairs (now (list .entry))) ⌝ }
+// Where the comparison with the list so far begins: a key that lacks its bit is compared with none of it.
+fn compared_from(bits: u64, key: u64, count: usize) -> usize
+    ensures { λ r. ⌜ r ≡ pick (hasBit bits key) 0 count ⌝ }
 {
-    if !ports_bits::has_bit(bits, key) {
-        return false;
+    if ports_bits::has_bit(bits, key) {
+        0
+    } else {
+        count
     }
-    ports::has_port(list, key, realm)
 }
 
 // The list of a new plugin: the first 16 declared keys resolved, then for each port of the parent's list itself and its
@@ -74,7 +75,7 @@ pub fn dependency_list(
     }
     let mut bits = ports_bits::key_word(0, &list[..count * 2]);
     let mut c: usize = 0;
-    while c / 2 < parents.len() / 2 {
+    'next: while c / 2 < parents.len() / 2 {
         let at = c / 2 * 2;
         let key = parents[at];
         let turn = ports_resolved::candidate(other, c % 2, key, parents[at + 1], rows);
@@ -83,8 +84,14 @@ pub fn dependency_list(
         if is_own(provisions, anchor, key, realm) {
             continue;
         }
-        if is_listed(&list[..count * 2], bits, key, realm) {
-            continue;
+        let mut k = compared_from(bits, key, count);
+        while k < count {
+            if list[k * 2] == key {
+                if list[k * 2 + 1] == realm {
+                    continue 'next;
+                }
+            }
+            k += 1;
         }
         if count == limits::DEPENDENCIES {
             return longer();

@@ -4,11 +4,12 @@ use native.Mathlib.Numerals.{add-one}
 use native.Mathlib.Omega.{arith}
 use mathlib.Core.Path.{_≡_, sym, ap, _∙_, subst}
 use mathlib.Core.List.{List, [], _∷_, _++_, map, map-append, append-assoc}
-use lib.ListN.{length, getD, take, set, replicate, length-append}
-use lib.Seq.{set-at, take-at, take-suc}
+use lib.ListN.{length, getD, take, drop, set, replicate, length-append, drop-of-length-le, List·getD-append}
+use lib.Seq.{set-at, take-at, take-suc, drop-cons}
 use Rattle.rules_types.specs.declared.Port.{Port}
+use Rattle.rules.specs.Holds.{port}
 use Rattle.rules.specs.Ports.{pairs, flat}
-use Rattle.ports.specs.Places.{length-flat, pairs-flat, flat-append}
+use Rattle.ports.specs.Places.{length-flat, pairs-flat, flat-append, flat-get}
 
 -- these numbers, and then zeros up to a size
 abbrev pub filled : ℕ → List ℕ → List ℕ
@@ -40,6 +41,19 @@ module _ {size count : ℕ} {array : List ℕ} {ps : List Port} (r : Lists size 
   -- the array lists what is read off it
   pub lists-own : Lists size count array (pairs (take (count * 2) array))
   lists-own = subst (λ (qs : List Port). Lists size count array qs) (sym listed) r
+
+  -- the port at a place, and the rest
+  pub lists-at : (k : ℕ) → k < count → drop k ps ≡ port (getD array (k * 2) 0) (getD array (k * 2 + 1) 0) ∷ drop (k + 1) ps
+  lists-at k h =
+      let zeros : List ℕ = replicate (size - length (flat ps)) 0 in
+      let i : k < length ps = omega (arith, r .counted) in
+      let a : k * 2 < length (flat ps) = omega (arith, length-flat ps) in
+      let b : k * 2 + 1 < length (flat ps) = omega (arith, length-flat ps) in
+      let put = List·getD-append (flat ps) zeros 0 in
+      rw (r .numbers, put (k * 2) a, put (k * 2 + 1) b, flat-get ps k i, add-one k) (drop-cons ps k (port 0 0) i)
+
+  pub lists-end : (k : ℕ) → count ≤ k → drop k ps ≡ []
+  lists-end k h = drop-of-length-le ps {i = k} (omega (arith, r .counted))
 
   -- the array has room for them
   pub lists-within : count * 2 ≤ length array

@@ -117,6 +117,10 @@ pairs-get (k ∷ r ∷ l) (suc i) h =
     let e : suc (suc (i * 2)) + 1 ≡ suc (suc (i * 2 + 1)) = omega arith in
     rw (two-more i, e) (pairs-get l i (omega arith))
 
+pub flat-get : (ps : List Port) (i : ℕ) → i < length ps → port (getD (flat ps) (i * 2) 0) (getD (flat ps) (i * 2 + 1) 0) ≡ getD ps i (port 0 0)
+flat-get ps i h =
+    sym (pairs-get (flat ps) i (omega (arith, length-flat ps))) ∙ ap (λ (qs : List Port). getD qs i (port 0 0)) (pairs-flat ps)
+
 -- how many numbers equal ports have, and which
 pub pairs-same-length : (l m : List ℕ) → pairs l ≡ pairs m → length l / 2 ≡ length m / 2
 pairs-same-length l m e = sym (length-pairs l) ∙ ap length e ∙ length-pairs m
