@@ -10,7 +10,8 @@ use crate::sides::{EMPTY, Measured, SIDES, Side};
 use crate::timing::{copies, prepared, run, text};
 
 /// Worlds that lie ready in either run. Now and then the start of a program takes a
-/// few instructions more or less: with so many worlds that doesn't show.
+/// few instructions more or less: with so many worlds that is a hundredth of an
+/// instruction for an operation, and counts are told to a tenth.
 const WORLDS: usize = 64;
 
 /// The inner run: makes the worlds ready and uses so many of them.
@@ -58,7 +59,10 @@ fn used(side: &Side, case: usize) -> u64 {
 fn count(case: usize) -> Measured {
     let driver = used(&EMPTY, case);
     let operations = CASES[case].operations * WORLDS as u64;
-    SIDES.map(|side| (used(side, case) as f64 - driver as f64) / operations as f64)
+    SIDES.map(|side| {
+        let count = (used(side, case) as f64 - driver as f64) / operations as f64;
+        (count * 10.0).round() / 10.0
+    })
 }
 
 /// Counts these cases, several at a time: a count doesn't depend on what else runs.

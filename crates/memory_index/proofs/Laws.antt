@@ -34,14 +34,14 @@ module _ (t : List ℕ) (i : ℕ) (l : List ℕ) where
   unfolding noted
   noted-none row h g = (h, rw (pairs-end l (row * 2) g))
 
-  pub noted-next : (row : ℕ) (u : List ℕ) → NotedFrom row u → 0 < row → (b : ℕ) → b ≡ (1 * 2 ^ i) % 2 ^ 32
-      → NotedFrom (row - 1) (set u (wordFor (getD l ((row - 1) * 2) 0)) (bitOr (word u (wordFor (getD l ((row - 1) * 2) 0))) b))
+  pub noted-next : (row : ℕ) (u : List ℕ) → NotedFrom row u → 0 < row → (a b : ℕ) → a ≡ wordFor (getD l ((row - 1) * 2) 0) → b ≡ (1 * 2 ^ i) % 2 ^ 32
+      → NotedFrom (row - 1) (set u a (bitOr (word u a) b))
   unfolding noted
-  noted-next row u s h b e =
+  noted-next row u s h a b e f =
       let at = (row - 1) * 2 in
-      let f : at + 2 ≡ row * 2 = omega arith in
-      let a : pairs (drop at l) ≡ port (getD l at 0) (getD l (at + 1) 0) ∷ pairs (drop (row * 2) l) = rw f at (pairs-at l at (omega (arith, s .0))) in
-      (omega (arith, s .0), rw (a, e, s .1))
+      let g : at + 2 ≡ row * 2 = omega arith in
+      let p : pairs (drop at l) ≡ port (getD l at 0) (getD l (at + 1) 0) ∷ pairs (drop (row * 2) l) = rw g at (pairs-at l at (omega (arith, s .0))) in
+      (omega (arith, s .0), rw (p, e, f, s .1))
 
 -- the places from i on are indexed
 module _ (m t : List ℕ) (i : ℕ) (h : i < places) where

@@ -1,8 +1,8 @@
 -- An index of the places by the keys that they offer, and a lookup by it.
-use Prim.Native.Nat.{ℕ, zero, suc, _+_, _*_, _%_, _^_}
+use Prim.Native.Nat.{ℕ, zero, suc, _+_, _*_, _/_, _%_, _^_}
 use mathlib.Core.Bool.{_&&_}
 use mathlib.Core.List.{List, [], _∷_}
-use lib.Bits.{bitOr}
+use lib.Bits.{bitOr, bitXor}
 use lib.ListN.{set, replicate}
 use Rattle.rules.specs.Basics.{pick}
 use Rattle.rules.specs.Holds.{provides}
@@ -18,9 +18,9 @@ use Rattle.memory_providers.specs.Words.{isAmong}
 abbrev pub remainders : ℕ
 remainders = 64
 
--- the word of a key
+-- the word of a key: by its remainder and that of its quotient
 abbrev pub wordFor : ℕ → ℕ
-wordFor k = k % remainders
+wordFor k = bitXor k (k / remainders) % remainders
 
 -- an index in which a place has its bit in the word of each port's key beside
 unfoldable pub noted : List ℕ → ℕ → List Port → List ℕ

@@ -5,12 +5,19 @@ ghost use Prim.Native.Nat.{_<_, _^_};
 ghost use Rattle.rules.specs.Holds.{port};
 ghost use Rattle.rules.specs.Ports.{pairs};
 ghost use Rattle.memory.specs.Layout.{places};
-ghost use Rattle.memory_index.specs.Index.{noted, indexOf, providerBy};
+ghost use Rattle.memory_index.specs.Index.{remainders, wordFor, noted, indexOf, providerBy};
 use memory::Place;
 use memory::WORDS;
 use memory::layout::PLACES;
 
 pub const REMAINDERS: usize = 64;
+
+// The word of a key: its remainder, with that of its quotient, so that keys a power of 2 apart do not share one.
+fn word_for(key: u64) -> usize
+    ensures { λ r. ⌜ (r ≡ wordFor key) × (r < remainders) ⌝ }
+{
+    ((key ^ key / 64) % 64) as usize
+}
 
 // A place gets its bit in the word of each port's key.
 fn note(index: &mut [u32; REMAINDERS], place: usize, ports: &[u64])
@@ -21,7 +28,7 @@ fn note(index: &mut [u32; REMAINDERS], place: usize, ports: &[u64])
     let mut row = ports.len() / 2;
     while 0 < row {
         row -= 1;
-        let at = (ports[row * 2] % REMAINDERS as u64) as usize;
+        let at = word_for(ports[row * 2]);
         index[at] = index[at] | bit;
     }
 }
@@ -52,7 +59,7 @@ fn bounded(word: u32) -> u32
 pub fn provider_by(m: &[u64; WORDS], index: &[u32; REMAINDERS], key: u64, realm: u64) -> Place
     ensures { λ r. ⌜ r ≡ providerBy (now (m .entry)) (now (index .entry)) (port key realm) ⌝ }
 {
-    let mut left = bounded(index[(key % REMAINDERS as u64) as usize]);
+    let mut left = bounded(index[word_for(key)]);
     while left != 0 {
         let i = u32::trailing_zeros(left) as usize;
         if memory_providers::provides(m, i, key, realm) {

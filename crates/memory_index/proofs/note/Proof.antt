@@ -24,37 +24,38 @@ loop-holds c = noted-none _ _ _ _ (omega arith) (omega arith)
 sub-row : tie.Need-sub-row Inv-loop μ-loop
 sub-row c = search needs
 
-mul-at : tie.Need-mul-at Inv-loop μ-loop
-mul-at c = search needs
+mul-word-for : tie.Need-mul-word-for Inv-loop μ-loop
+mul-word-for c = search needs
 
-mul-at-2 : tie.Need-mul-at-2 Inv-loop μ-loop
-mul-at-2 c = search needs
+mul-word-for-2 : tie.Need-mul-word-for-2 Inv-loop μ-loop
+mul-word-for-2 c = search needs
 
-shared-slice-read-at : tie.Need-shared-slice-read-at Inv-loop μ-loop
-shared-slice-read-at c = search needs
+shared-slice-read-word-for : tie.Need-shared-slice-read-word-for Inv-loop μ-loop
+shared-slice-read-word-for c = search needs
 
-rem-at : tie.Need-rem-at Inv-loop μ-loop
-rem-at c = search needs
+word-for-requires : tie.Need-word-for-requires Inv-loop μ-loop
+word-for-requires c κs = search needs
 
 mul-index : tie.Need-mul-index Inv-loop μ-loop
-mul-index c = search needs
+mul-index c = record { fits = omega (arith, c .word-for .ensures .1) }
 
 element-copy-out-index : tie.Need-element-copy-out-index Inv-loop μ-loop
-element-copy-out-index c = search needs
+element-copy-out-index c = c .word-for .ensures .1
 
 mul-index-2 : tie.Need-mul-index-2 Inv-loop μ-loop
-mul-index-2 c = search needs
+mul-index-2 c = record { fits = omega (arith, c .before .word-for .ensures .1) }
 
 element-write-index : tie.Need-element-write-index Inv-loop μ-loop
-element-write-index c = search needs
+element-write-index c = c .before .word-for .ensures .1
 
 loop-less : tie.Need-loop-less Inv-loop μ-loop
 loop-less c = search needs
 
 loop-again : tie.Need-loop-again Inv-loop μ-loop
 loop-again c =
-    let at = c .before .before .before in
-    noted-next _ _ _ _ _ (at .loop .inv) (c .before .before .loop-test .taken) _ refl
+    let w = c .before in
+    let t = w .before .before in
+    noted-next _ _ _ _ _ (t .before .loop .inv) (t .loop-test .taken) _ _ (w .word-for .ensures .0) refl
 
 returns : tie.Need-returns Inv-loop μ-loop
 returns c =
@@ -72,10 +73,10 @@ note-spec =
     shl-bit
     loop-holds
     sub-row
-    mul-at
-    mul-at-2
-    shared-slice-read-at
-    rem-at
+    mul-word-for
+    mul-word-for-2
+    shared-slice-read-word-for
+    word-for-requires
     mul-index
     element-copy-out-index
     mul-index-2
