@@ -1,5 +1,6 @@
 -- What this crate's functions leave in the words.
-use Prim.Native.Nat.{ℕ, zero, suc, _+_, _*_}
+use Prim.Native.Nat.{ℕ, zero, suc, _+_, _-_, _*_, _≤_, _<_}
+use mathlib.Core.Path.{_≡_}
 use mathlib.Core.Bool.{Bool, _&&_}
 use mathlib.Core.List.{List, [], _∷_}
 use mathlib.Core.Option.{Option, none, some}
@@ -33,6 +34,10 @@ findFrom (suc n) m id i = pick (namesAt m id i) (At i) (findFrom n m id (i + 1))
 
 unfoldable pub findAt : List ℕ → ℕ → Place
 findAt m id = findFrom places m id 0
+
+-- no place before i has the id, and place i has it, if there is one
+abbrev pub SameId : List ℕ → ℕ → ℕ → Type 0
+SameId m id i = (i ≤ places) × (findAt m id ≡ findFrom (places - i) m id i) × (i < places → idAt m i ≡ id)
 
 -- numbers stored from word b + k on, one after the other
 abbrev pub puts : List ℕ → ℕ → ℕ → List ℕ → List ℕ

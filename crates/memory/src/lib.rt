@@ -1,13 +1,13 @@
 // The registry's memory: one array of words that the caller lends. Every function takes any words; a place is read modulo 32.
 ghost use mathlib.Core.Path.{_≡_};
-ghost use Prim.Native.Nat.{_%_, _<_};
+ghost use Prim.Native.Nat.{_-_, _%_, _≤_, _<_};
 ghost use lib.Dec.{eqb};
 ghost use lib.ListN.{length};
 ghost use Rattle.rules.specs.Basics.{holds};
 ghost use Rattle.memory.specs.Layout.{word, occupancy, taken, idAt, memoryWords, places, domainWord, firstWord, nextWord};
 ghost use Rattle.memory.specs.Lives.{changedLife, movedLife, begunLife, finishedLife, rootedLife, markedLife};
 ghost use Rattle.memory.specs.View.{parentOf, parentAt};
-ghost use Rattle.memory.specs.Writes.{parentId, namesAt, findAt, openedWith};
+ghost use Rattle.memory.specs.Writes.{parentId, namesAt, findFrom, findAt, SameId, openedWith};
 use layout::LOW_HALF;
 use layout::PLACE_WORDS;
 use layout::PLACES;
@@ -171,16 +171,46 @@ fn names(m: &[u64; WORDS], place: usize, id: u64) -> bool
     }
 }
 
-// The place of the plugin with the id.
-pub fn find(m: &[u64; WORDS], id: u64) -> Place
-    ensures { λ r. ⌜ r ≡ findAt (now (m .entry)) id ⌝ }
+// The first place whose word has the id, taken or not; past the last where there is none. Its loop has one test, and goes straight on
+// where that fails, as it does at all places but one.
+fn same_id(m: &[u64; WORDS], id: u64) -> usize
+    ensures { λ r. ⌜ SameId (now (m .entry)) id r ⌝ }
 {
     let mut i: usize = 0;
+    while i < PLACES {
+        if m[i * PLACE_WORDS + layout::ID] == id {
+            return i;
+        }
+        i += 1;
+    }
+    i
+}
+
+// The place of the plugin with the id, from a place on.
+fn find_from(m: &[u64; WORDS], id: u64, from: usize) -> Place
+    requires { ⌜ from ≤ places ⌝ }
+    ensures { λ r. ⌜ r ≡ findFrom (places - from) (now (m .entry)) id from ⌝ }
+{
+    let mut i = from;
     while i < PLACES {
         if names(m, i, id) {
             return Place::At(i);
         }
         i += 1;
+    }
+    Place::None
+}
+
+// The place of the plugin with the id. A free place may have the id of a plugin that went.
+pub fn find(m: &[u64; WORDS], id: u64) -> Place
+    ensures { λ r. ⌜ r ≡ findAt (now (m .entry)) id ⌝ }
+{
+    let at = same_id(m, id);
+    if is_taken(m, at) {
+        return Place::At(at);
+    }
+    if at < PLACES {
+        return find_from(m, id, at + 1);
     }
     Place::None
 }

@@ -1,59 +1,46 @@
--- `find` meets its contract: the search from place i on finds what the whole search does, as no place before i has the id.
-use mathlib.Core.Path.{_≡_, refl, sym, _∙_}
-use Prim.Native.Nat.{_≤_, _-_}
-use Rattle.memory.specs.Writes.{findAt, findFrom}
-use Rattle.memory.proofs.Search.{find-here, find-next, find-end}
+-- `find` meets its contract: the first place with the id, or one behind it.
 use native.Mathlib.Omega.{arith}
+use mathlib.Core.Path.{sym, _∙_}
+use Rattle.memory.proofs.Search.{same-taken, same-free, same-none}
 use borrow.Author.Needs.{needs}
 use Rattle.memory.proofs.find.Statement.{statement}
 use Rattle.memory.proofs.find.Tie as tie
-use Rattle.memory.specs.Layout.{places}
 
-abbrev Inv-loop : tie.InvT-loop
-Inv-loop m id i₀ i = (i ≤ places) × (findAt m id ≡ findFrom (places - i) m id i)
+same-id-requires : tie.Need-same-id-requires
+same-id-requires c κs = search needs
 
-abbrev μ-loop : tie.MeasureT-loop
-μ-loop m id i₀ i = places - i
+is-taken-requires : tie.Need-is-taken-requires
+is-taken-requires c κs = search needs
 
-loop-holds : tie.Need-loop-holds Inv-loop μ-loop
-unfolding findAt
-loop-holds c = (omega arith, refl)
+returns : tie.Need-returns
+returns c = let t = c .before in same-taken _ _ _ (t .before .same-id .ensures) (sym (t .is-taken .ensures) ∙ c .if1 .taken)
 
-names-requires : tie.Need-names-requires Inv-loop μ-loop
-names-requires c κs = search needs
+add-find-from : tie.Need-add-find-from
+add-find-from c = search needs
 
-returns : tie.Need-returns Inv-loop μ-loop
-returns c =
-    sym
-    (c .before .before .before .loop .inv .1
-    ∙ find-here _ _ _ (omega arith) (sym (c .before .names .ensures) ∙ c .if1 .taken))
+find-from-requires : tie.Need-find-from-requires
+find-from-requires c κs = search needs
 
-add-i : tie.Need-add-i Inv-loop μ-loop
-add-i c = search needs
+returns-2 : tie.Need-returns-2
+returns-2 c =
+    let h = c .before in
+    let n = h .before in
+    let t = n .before in
+    c .find-from .ensures ∙ same-free _ _ _ (t .before .same-id .ensures) (sym (t .is-taken .ensures) ∙ n .if1 .left) (h .if2 .taken)
 
-loop-less : tie.Need-loop-less Inv-loop μ-loop
-loop-less c = search needs
-
-loop-again : tie.Need-loop-again Inv-loop μ-loop
-loop-again c = (
-  omega arith,
-  c .before .before .before .loop .inv .1
-      ∙ find-next _ _ _ (omega arith) (sym (c .before .names .ensures) ∙ c .if1 .left),
-)
-
-returns-2 : tie.Need-returns-2 Inv-loop μ-loop
-returns-2 c = sym (c .before .loop .inv .1 ∙ find-end _ _ _ (omega arith))
+returns-3 : tie.Need-returns-3
+returns-3 c =
+    let t = c .before .before in
+    same-none _ _ _ (t .before .same-id .ensures) (omega (arith, c .if2 .left))
 
 pub find-spec : {M : Type 1} → statement M
 find-spec =
     tie.close
     (tie.spec
-    Inv-loop
-    μ-loop
-    loop-holds
-    names-requires
+    same-id-requires
+    is-taken-requires
     returns
-    add-i
-    loop-less
-    loop-again
-    returns-2)
+    add-find-from
+    find-from-requires
+    returns-2
+    returns-3)
