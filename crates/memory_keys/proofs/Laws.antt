@@ -3,13 +3,12 @@ use Prim.Native.Nat.{ℕ, suc, _+_, _-_, _*_, _<_, _≤_, _%_}
 use native.Mathlib.Omega.{arith}
 use native.Mathlib.Nat.{mod-eq-of-lt}
 use mathlib.Core.Path.{_≡_, refl, sym, ap, _∙_}
-use mathlib.Core.Logic.{_≢_}
 use mathlib.Core.Bool.{Bool, true, false, _||_, or-false}
 use mathlib.Core.List.{List, _∷_}
 use mathlib.Core.Option.{Option, none, some}
 use lib.ListN.{length, drop, getD, set}
 use lib.Seq.{set-getD}
-use borrow.Author.Tests.{eq-eqb, ne-eqb}
+use borrow.Author.Tests.{eq-eqb}
 use Rattle.rules.specs.Holds.{port, isIn, samePort, provides, provided}
 use Rattle.rules.specs.Ports.{pairs}
 use Rattle.rules_types.specs.declared.Port.{Port}
@@ -78,32 +77,25 @@ module _ (m : List ℕ) (i : ℕ) (q : Port) (a : Port) (g : a ≡ anchorAt m i)
       h ∙ rw (e, f, g) (sym y)
 
 -- a place, by the table's word of it
-module _ (m t : List ℕ) (i : ℕ) (q : Port) (h : i < places) where
+module _ (m t : List ℕ) (i : ℕ) (q : Port) where
   abbrev Offered : Bool → List ℕ → Type 0
   Offered b u = (b ≡ offersBy m (word t i) i q) × (u ≡ set t i (keptBy m (word t i) i q))
 
-  own : i % places ≡ i
-  own = mod-eq-of-lt h
+  pub bit-not-there : hasBit (word t i) (q .key) ≡ false → Offered false t
+  bit-not-there f = (rw f, rw f (sym (set-getD t i 0)))
 
-  module _ (n : word t i ≢ 0) where
-    stays : t ≡ set t i (keptBy m (word t i) i q)
-    stays = rw (ne-eqb (word t i) 0 n) (sym (set-getD t i 0))
+  module _ (b : hasBit (word t i) (q .key) ≡ true) where
+    pub free-place : taken m i ≡ false → Offered false (set t i 0)
+    free-place f = (rw (b, f), rw (b, f))
 
-    pub known-has : hasBit (word t i) (q .key) ≡ true → (b : Bool) → b ≡ provides (pluginAt m (i % places)) q → Offered b t
-    known-has e b f = (rw (ne-eqb (word t i) 0 n, e) (f ∙ ap (λ j. provides (pluginAt m j) q) own), stays)
+    module _ (h : i < places) (y : taken m i ≡ true) where
+      own : i % places ≡ i
+      own = mod-eq-of-lt h
 
-    pub known-lacks : hasBit (word t i) (q .key) ≡ false → Offered false t
-    known-lacks e = (rw (ne-eqb (word t i) 0 n, e), stays)
-
-  module _ (z : word t i ≡ 0) where
-    pub free-place : taken m i ≡ false → Offered false t
-    free-place f = (rw (eq-eqb (word t i) 0 z, f), rw (eq-eqb (word t i) 0 z, f) (sym (set-getD t i 0)))
-
-    module _ (y : taken m i ≡ true) where
       pub port-there : none ≡ keysWithout m (i % places) q → Offered true t
       port-there e =
           let p : provides (pluginAt m i) q ≡ true = found (provides (pluginAt m i) q) (e ∙ ap (λ j. keysWithout m j q) own) in
-          (rw (eq-eqb (word t i) 0 z, y, p), rw (eq-eqb (word t i) 0 z, y, p) (sym (set-getD t i 0)))
+          (rw (b, y, p), rw (b, y, p) (sym (set-getD t i 0)))
         where
           found : (b : Bool) → none ≡ pick b none (some (placeKeys m i)) → b ≡ true
           found true e = refl
@@ -112,7 +104,7 @@ module _ (m t : List ℕ) (i : ℕ) (q : Port) (h : i < places) where
       pub port-not-there : (k : ℕ) → some k ≡ keysWithout m (i % places) q → Offered false (set t i k)
       port-not-there k e =
           let r = found (provides (pluginAt m i) q) (e ∙ ap (λ j. keysWithout m j q) own) in
-          (rw (eq-eqb (word t i) 0 z, y, r .0), rw (eq-eqb (word t i) 0 z, y, r .0) (ap (set t i) (r .1)))
+          (rw (b, y, r .0), rw (b, y, r .0) (ap (set t i) (r .1)))
         where
           found : (b : Bool) → some k ≡ pick b none (some (placeKeys m i)) → (b ≡ false) × (k ≡ placeKeys m i)
           found true e = (cc, cc)

@@ -1,9 +1,8 @@
 -- What a table says is so: then a lookup by it finds a port's provider, and what it says afterwards is so.
-use Prim.Native.Nat.{ℕ, zero, suc, _+_, _<_, _≤_}
+use Prim.Native.Nat.{ℕ, zero, suc, _+_, _-_, _^_, _<_, _≤_}
 use native.Mathlib.Omega.{arith}
 use mathlib.Core.Path.{_≡_, refl, sym, ap, _∙_}
-use mathlib.Core.Logic.{_≢_}
-use mathlib.Core.Bool.{Bool, true, false, not, _&&_}
+use mathlib.Core.Bool.{true, _&&_}
 use mathlib.Core.List.{List}
 use lib.Dec.{eqb}
 use lib.ListN.{length, set, length-set, replicate, getD-replicate}
@@ -17,14 +16,14 @@ use Rattle.memory.specs.Layout.{word, taken, provPart, places}
 use Rattle.memory.specs.View.{anchorAt, pluginAt}
 use Rattle.memory.specs.Lookups.{searchFrom}
 use Rattle.memory_lists.specs.Listed.{provided-at}
-use Rattle.ports_bits.specs.Bits.{withBit, hasBit}
+use Rattle.ports_bits.specs.Bits.{withBit, hasBit, all-bits}
 use Rattle.ports_bits.specs.Keys.{key-stays, same-key, key-comes}
 use Rattle.memory_providers.specs.Providers.{providerAt}
 use Rattle.memory_keys.specs.Tables.{placeKeys, offersBy, keptBy, foundFrom, tableFrom, providerBy, tableBy}
 
--- a word of the table says nothing, or the place's keys
+-- what a place offers has its bit
 abbrev pub Says : List ℕ → ℕ → ℕ → Type 0
-Says m i w = w ≢ 0 → (taken m i ≡ true) × (w ≡ placeKeys m i)
+Says m i w = (q : Port) → taken m i ≡ true → provides (pluginAt m i) q ≡ true → hasBit w (q .key) ≡ true
 
 pub record Known (m t : List ℕ) : Type 0 where
   pub size : length t ≡ places
@@ -39,26 +38,19 @@ offered-key m i q e = by-test (isIn q (provided (pluginAt m i)))
 
 -- by what is so, a place offers what it provides
 offers-is : (m : List ℕ) (w i : ℕ) (q : Port) → Says m i w → offersBy m w i q ≡ (taken m i && provides (pluginAt m i) q)
-offers-is m w i q s = by-test (eqb w 0)
+offers-is m w i q s = by-test (hasBit w (q .key))
     (λ t. rw t)
-    (λ f.
-    let k = s (eqb-false w 0 f) in
-    by-test (provides (pluginAt m i) q)
-    (λ p. rw (f, k .0, p) (ap (λ x. hasBit x (q .key) && true) (k .1) ∙ rw (offered-key m i q p)))
-    (λ n. rw (f, k .0, n) (both-false (hasBit w (q .key)))))
-  where
-    both-false : (b : Bool) → (b && false) ≡ false
-    both-false true = refl
-    both-false false = refl
+    (λ f. by-test (taken m i && provides (pluginAt m i) q)
+    (λ y. let b = both (taken m i) (provides (pluginAt m i) q) y in let x = s q (b .0) (b .1) in cc)
+    (λ n. rw (f, n)))
 
 -- and what is kept is so
 kept-says : (m : List ℕ) (w i : ℕ) (q : Port) → Says m i w → Says m i (keptBy m w i q)
-kept-says m w i q s = by-test (eqb w 0 && (taken m i && not (provides (pluginAt m i) q)))
-    (λ t.
-    let b = both (eqb w 0) (taken m i && not (provides (pluginAt m i) q)) t in
-    let c = both (taken m i) (not (provides (pluginAt m i) q)) (b .1) in
-    rw t (λ z. (c .0, refl)))
-    (λ f. rw f s)
+kept-says m w i q s p y z = by-test (hasBit w (q .key))
+    (λ t. by-test (provides (pluginAt m i) q)
+    (λ o. rw (t, y, o) (s p y z))
+    (λ n. rw (t, y, n) (offered-key m i p z)))
+    (λ f. rw f (s p y z))
 
 module _ (m : List ℕ) (q : Port) where
   pub kept-known : (t : List ℕ) (i : ℕ) → i < places → Known m t → Known m (set t i (keptBy m (word t i) i q))
@@ -97,6 +89,6 @@ module _ (m : List ℕ) (q : Port) where
     pub by-known : Known m (tableBy m t q)
     by-known = table-known places t 0 (omega arith) k
 
--- a table that says nothing
-pub none-known : (m : List ℕ) → Known m (replicate places 0)
-none-known m = record { size = cc; says = λ i h z. absurd (z (getD-replicate places i 0 0 h)) }
+-- a table with all bits
+pub all-known : (m : List ℕ) → Known m (replicate places (2 ^ 64 - 1))
+all-known m = record { size = cc; says = λ i h q y z. rw (getD-replicate places i (2 ^ 64 - 1) 0 h) (all-bits (q .key)) }

@@ -1,9 +1,8 @@
 -- A lookup by a table of keys: what is found, and what the table keeps.
 use Prim.Native.Nat.{ℕ, zero, suc, _+_}
-use mathlib.Core.Bool.{Bool, not, _&&_}
+use mathlib.Core.Bool.{Bool, _&&_}
 use mathlib.Core.List.{List}
 use mathlib.Core.Option.{Option, none, some}
-use lib.Dec.{eqb}
 use lib.ListN.{set}
 use Rattle.rules.specs.Basics.{pick}
 use Rattle.rules.specs.Holds.{isIn, provides}
@@ -27,13 +26,13 @@ placeKeys m i = keyWord (withBit 0 (anchorAt m i .key)) (pairs (provPart m i))
 abbrev pub keysWithout : List ℕ → ℕ → Port → Option ℕ
 keysWithout m i q = pick (provides (pluginAt m i) q) none (some (placeKeys m i))
 
--- whether a place's plugin provides the port, by the table's word of the place
+-- whether a place's plugin provides the port, by the table's word of the place: the bits of the keys that it may offer
 abbrev pub offersBy : List ℕ → ℕ → ℕ → Port → Bool
-offersBy m w i q = pick (eqb w 0) (taken m i) (hasBit w (q .key)) && provides (pluginAt m i) q
+offersBy m w i q = hasBit w (q .key) && (taken m i && provides (pluginAt m i) q)
 
--- that word afterwards: the keys of a taken place that was looked at in vain
+-- that word afterwards: of a place that was looked at in vain the keys that it offers
 abbrev pub keptBy : List ℕ → ℕ → ℕ → Port → ℕ
-keptBy m w i q = pick (eqb w 0 && (taken m i && not (provides (pluginAt m i) q))) (placeKeys m i) w
+keptBy m w i q = pick (hasBit w (q .key)) (pick (taken m i) (pick (provides (pluginAt m i) q) w (placeKeys m i)) 0) w
 
 -- n places from i on: the first that provides the port, and the table afterwards
 unfoldable pub foundFrom : ℕ → List ℕ → List ℕ → Port → ℕ → Place

@@ -1,5 +1,5 @@
-// A port's provider, looked up many times in one operation. A table that the operation lends keeps the keys that a place offers, a bit for
-// each one's remainder by 64, once the place was looked at in vain; 0 says that it was not.
+// A port's provider, looked up many times in one operation. A table that the operation lends keeps the keys that a place may offer, a bit
+// for each one's remainder by 64: at first all bits, and once the place was looked at in vain those of the keys that it offers.
 ghost use mathlib.Core.Path.{_≡_};
 ghost use Prim.Native.Nat.{_<_, _%_};
 ghost use lib.ListN.{set};
@@ -46,27 +46,25 @@ fn keys_without(m: &[u64; WORDS], place: usize, key: u64, realm: u64) -> Optiona
     bits_without(word, memory_lists::provision_words(m, place), key, realm)
 }
 
-// Whether a place's plugin provides the port. Where its keys are kept and this one's bit is not among them, its ports are not read.
+// Whether a place's plugin provides the port. A word has the bits of the keys that its place may offer: at first all, and once the place
+// was looked at in vain those that it offers.
 fn offers(m: &[u64; WORDS], table: &mut [u64; PLACES], place: usize, key: u64, realm: u64) -> bool
     requires { ⌜ place < places ⌝ }
     ensures { λ r. ⌜ (r ≡ offersBy (now (m .entry)) (word (now (table .entry)) place) place (port key realm))
         × (now (table .exit) ≡ set (now (table .entry)) place
         (keptBy (now (m .entry)) (word (now (table .entry)) place) place (port key realm))) ⌝ }
 {
-    let known = table[place];
-    if known != 0 {
-        if ports_bits::has_bit(known, key) {
-            return memory_providers::provides(m, place, key, realm);
-        }
+    if !ports_bits::has_bit(table[place], key) {
         return false;
     }
-    if memory::is_taken(m, place) {
-        if let Optional::Is(keys) = keys_without(m, place, key, realm) {
-            table[place] = keys;
-            return false;
-        }
-        return true;
+    if !memory::is_taken(m, place) {
+        table[place] = 0;
+        return false;
     }
+    let Optional::Is(keys) = keys_without(m, place, key, realm) else {
+        return true;
+    };
+    table[place] = keys;
     false
 }
 

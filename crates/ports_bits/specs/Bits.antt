@@ -1,12 +1,12 @@
 -- A word with a bit for each number's remainder by 64: a bit that is there stays, and a number's own comes.
-use Prim.Native.Nat.{ℕ, _*_, _/_, _%_, _^_, _<_, max}
+use Prim.Native.Nat.{ℕ, suc, _+_, _-_, _*_, _/_, _%_, _^_, _<_, max}
 use native.Mathlib.Omega.{arith}
-use native.Mathlib.Nat.{one-mul, mod-eq-of-lt, div-self}
-use mathlib.Core.Path.{_≡_, ap, _∙_}
+use native.Mathlib.Nat.{one-mul, mod-eq-of-lt, div-self, pow-suc}
+use mathlib.Core.Path.{_≡_, sym, ap, _∙_}
 use mathlib.Core.Bool.{Bool, true}
 use lib.Bits.{bitOr, or-step, or-shr}
 use lib.Dec.{eqb}
-use lib.Pow.{pow-lt, pow-pos}
+use lib.Pow.{pow-lt, pow-pos, high, ones-lt, ones-split}
 use borrow.Author.Tests.{eqb-true, eq-eqb}
 
 abbrev pub withBit : ℕ → ℕ → ℕ
@@ -40,3 +40,13 @@ bit-stays w x n e =
 
 pub bit-comes : (w n : ℕ) → hasBit (withBit w n) n ≡ true
 bit-comes w n = eq-eqb _ 1 (bit-or w ((1 * 2 ^ (n % 64)) % 2 ^ 64) (n % 64) ∙ omega (arith, own-bit n))
+
+-- the greatest word has every bit
+pub all-bits : (n : ℕ) → hasBit (2 ^ 64 - 1) n ≡ true
+all-bits n =
+    let e : suc (63 - n % 64) + n % 64 ≡ 64 = omega arith in
+    eq-eqb _ 1 (ap (λ k. bit (2 ^ k - 1) (n % 64)) (sym e) ∙ ones-bit (63 - n % 64) (n % 64))
+  where
+    ones-bit : (k j : ℕ) → bit (2 ^ (suc k + j) - 1) j ≡ 1
+    ones-bit k j =
+        ap (λ x. x / 2 ^ j % 2) (ones-split (suc k) j) ∙ ap (λ x. x % 2) (high (2 ^ suc k - 1) j (ones-lt j)) ∙ omega (arith, pow-suc 2 k, pow-pos k)

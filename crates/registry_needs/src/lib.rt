@@ -61,7 +61,7 @@ pub fn all_available(m: &[u64; WORDS], list: &[u64]) -> bool
     if list.len() < ROW_WORDS {
         return true;
     }
-    let mut table = [0u64; PLACES];
+    let mut table = [u64::MAX; PLACES];
     let mut i: usize = 1;
     while i < list.len() {
         if is_available(m, &mut table, list[i - 1], list[i]) {

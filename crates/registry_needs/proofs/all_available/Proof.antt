@@ -9,7 +9,7 @@ use Rattle.rules_types.specs.declared.Port.{Port}
 use Rattle.rules.specs.Phases.{available}
 use Rattle.rules.specs.Ports.{pairs}
 use Rattle.memory.specs.View.{view}
-use Rattle.memory_keys.specs.Known.{Known, none-known}
+use Rattle.memory_keys.specs.Known.{Known, all-known}
 use Rattle.ports.specs.Places.{pairs-behind, pairs-end, all-hit, all-miss}
 use borrow.Author.Needs.{needs}
 use Rattle.registry_needs.proofs.all_available.Statement.{statement}
@@ -28,7 +28,7 @@ returns c =
     sym (ap (all (available (view (a .m .now)))) (pairs-end (a .list .now) 0 (omega arith)))
 
 loop-holds : tie.Need-loop-holds Inv-loop μ-loop
-loop-holds c = (omega arith, none-known _, refl)
+loop-holds c = (omega arith, all-known _, refl)
 
 sub-is-available : tie.Need-sub-is-available Inv-loop μ-loop
 sub-is-available c = search needs
