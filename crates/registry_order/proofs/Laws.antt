@@ -48,24 +48,6 @@ module _ (l : Life) where
       unfolding verdict
       life-passes g = rw (n, sym e ∙ t, ne-eqb _ _ g)
 
--- 27, 1, then a life's
-module _ (m earlier : List ℕ) (id : ℕ) (b : Bool) (e : b ≡ named id earlier) where
-  pub id-27 : b ≡ true → done.Refused 27 ≡ verdict (idChecks (view m) earlier id)
-  unfolding verdict
-  id-27 t = rw (sym e ∙ t)
-
-  module _ (f : b ≡ false) where
-    pub id-1 : findAt m id ≡ None → done.Refused 1 ≡ verdict (idChecks (view m) earlier id)
-    unfolding verdict
-    id-1 g = rw (sym e ∙ f) (rw (none-lookup m id g))
-
-    pub id-life : (i : ℕ) → findAt m id ≡ At i → (l : Life) → l ≡ lifeAt m (i % places) → (v : Done) → v ≡ verdict (lifeChecks l)
-        → v ≡ verdict (idChecks (view m) earlier id)
-    unfolding verdict pluginAt
-    id-life i g l h v j =
-        let same : l ≡ lifeAt m i = h ∙ ap (lifeAt m) (at-place m id i g) in
-        j ∙ rw (sym e ∙ f) (rw (at-lookup m id i g) (rw same))
-
 -- the set's, id by id
 module _ (r : Registry) (ids : List ℕ) (i : ℕ) where
   pub set-end : length ids ≤ i → verdict (checksBehind r (take i ids) (drop i ids)) ≡ done.Accepted

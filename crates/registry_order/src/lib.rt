@@ -4,12 +4,12 @@ ghost use mathlib.Core.Bool.{_&&_};
 ghost use Rattle.rules.specs.Answers.{verdict, whetherAnswer};
 ghost use Rattle.rules.specs.Basics.{all};
 ghost use Rattle.rules.specs.Holds.{port, isIdle};
-ghost use Rattle.rules.specs.Orders.{named, inTime, supplied, canCome, idChecks, setChecks, passes, checkOrder};
+ghost use Rattle.rules.specs.Orders.{named, inTime, supplied, canCome, setChecks, passes, checkOrder};
 ghost use Rattle.rules.specs.Outcomes.{answerOf};
 ghost use Rattle.rules.specs.Ports.{pairs};
 ghost use Rattle.memory.specs.View.{view};
 ghost use Rattle.memory_index.specs.Indexed.{Indexed};
-ghost use Rattle.registry_order.specs.Checks.{lifeChecks};
+ghost use Rattle.registry_order.specs.Checks.{lifeChecks, checkedBy};
 use memory::Life;
 use memory::Place;
 use memory::WORDS;
@@ -19,6 +19,12 @@ use rules::Generation;
 use rules::Phase;
 use rules::Whether;
 use rules::refusal;
+
+// What an id's checks come to: passed, with its place; or the refusal's number.
+enum Checked {
+    Passed(usize),
+    Refused(u64),
+}
 
 fn is_idle(life: Life) -> bool
     ensures { λ r. ⌜ r ≡ isIdle (life .phase) ⌝ }
@@ -48,28 +54,34 @@ fn life_verdict(life: Life) -> Done
     Done::Accepted
 }
 
-// 27, 1, then those.
-fn id_verdict(m: &[u64; WORDS], earlier: &[u64], id: u64) -> Done
-    ensures { λ r. ⌜ r ≡ verdict (idChecks (view (now (m .entry))) (now (earlier .entry)) id) ⌝ }
+// 1, 27, then those of its life. A repeated id is found where it was found before.
+fn id_verdict(m: &[u64; WORDS], seen: u32, id: u64) -> Checked
+    ensures { λ r. ⌜ r ≡ checkedBy (now (m .entry)) seen id ⌝ }
 {
-    if ports::has_number(earlier, id) {
-        return Done::Refused(refusal::REPEATED);
-    }
     let Place::At(at) = memory::find(m, id) else {
-        return Done::Refused(refusal::UNKNOWN);
+        return Checked::Refused(refusal::UNKNOWN);
     };
-    life_verdict(memory_life::load(m, at))
+    if (seen >> at) % 2 == 1 {
+        return Checked::Refused(refusal::REPEATED);
+    }
+    if let Done::Refused(why) = life_verdict(memory_life::load(m, at)) {
+        return Checked::Refused(why);
+    }
+    Checked::Passed(at)
 }
 
-// The same of each id, in list order.
+// The same of each id, in list order; the places of those before are kept, a bit for each.
 pub fn set_verdict(m: &[u64; WORDS], set: &[u64]) -> Done
     ensures { λ r. ⌜ r ≡ verdict (setChecks (view (now (m .entry))) (now (set .entry))) ⌝ }
 {
+    let mut seen: u32 = 0;
     let mut i: usize = 0;
     while i < set.len() {
-        if let Done::Refused(why) = id_verdict(m, &set[..i], set[i]) {
-            return Done::Refused(why);
-        }
+        let at = match id_verdict(m, seen, set[i]) {
+            Checked::Passed(place) => place,
+            Checked::Refused(why) => return Done::Refused(why),
+        };
+        seen = seen | 1 << at;
         i += 1;
     }
     Done::Accepted
