@@ -74,7 +74,8 @@ pub fn put(text: &mut [u8], at: usize, bytes: &[u8]) -> usize
     put_each(text, at, bytes)
 }
 
-// A number, and the byte that ends it. Past the text's end its digits are counted and not made.
+// A number, and the byte that ends it. Past the text's end its digits are counted and not made. A few are moved one by one: what was
+// just stored by bytes is soon loaded by bytes, and late as a whole.
 pub fn number(text: &mut [u8], at: usize, n: u64, end: u8) -> usize
     ensures { λ r. ⌜ Laid (ended n end) at (now (text .entry)) (now (text .exit)) r ⌝ }
 {
@@ -85,6 +86,10 @@ pub fn number(text: &mut [u8], at: usize, n: u64, end: u8) -> usize
     let digits = text_decimal::write_decimal(n, &mut scratch);
     if digits.len() == 1 {
         let place = put_byte(text, at, digits[0]);
+        return put_byte(text, place, end);
+    }
+    if digits.len() < 5 {
+        let place = put_each(text, at, digits);
         return put_byte(text, place, end);
     }
     let place = put(text, at, digits);

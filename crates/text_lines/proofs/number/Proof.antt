@@ -54,8 +54,8 @@ returns-2 c =
     let one = c .before .before .before .before .before .before .before .before .before .before .if2 .taken in
     laid-then (one-laid told one (c .before .before .before .before .before .before .put-byte .ensures)) (c .before .before .put-byte2 .ensures)
 
-put-requires : tie.Need-put-requires
-put-requires c κs = search needs
+put-each-requires : tie.Need-put-each-requires
+put-each-requires c κs = search needs
 
 put-byte-requires-3 : tie.Need-put-byte-requires-3
 put-byte-requires-3 c κs = search needs
@@ -65,8 +65,22 @@ same-length-2 c = search needs
 
 returns-3 : tie.Need-returns-3
 returns-3 c =
-    let told = c .before .before .before .before .before .before .before .before .before .before .before .write-decimal .ensures in
-    laid-then (rw told at (c .before .before .before .before .before .before .before .put .ensures)) (c .before .before .put-byte3 .ensures)
+    let told = c .before .before .before .before .before .before .before .before .before .before .before .before .write-decimal .ensures in
+    laid-then (rw told at (c .before .before .before .before .before .before .before .put-each .ensures)) (c .before .before .put-byte3 .ensures)
+
+put-requires : tie.Need-put-requires
+put-requires c κs = search needs
+
+put-byte-requires-4 : tie.Need-put-byte-requires-4
+put-byte-requires-4 c κs = search needs
+
+same-length-3 : tie.Need-same-length-3
+same-length-3 c = search needs
+
+returns-4 : tie.Need-returns-4
+returns-4 c =
+    let told = c .before .before .before .before .before .before .before .before .before .before .before .before .write-decimal .ensures in
+    laid-then (rw told at (c .before .before .before .before .before .before .before .put .ensures)) (c .before .before .put-byte4 .ensures)
 
 pub number-spec : {M : Type 1} → statement M
 number-spec =
@@ -83,7 +97,11 @@ number-spec =
     put-byte-requires-2
     same-length
     returns-2
-    put-requires
+    put-each-requires
     put-byte-requires-3
     same-length-2
-    returns-3)
+    returns-3
+    put-requires
+    put-byte-requires-4
+    same-length-3
+    returns-4)
