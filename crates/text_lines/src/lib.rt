@@ -74,8 +74,8 @@ pub fn put(text: &mut [u8], at: usize, bytes: &[u8]) -> usize
     put_each(text, at, bytes)
 }
 
-// A number, and the byte that ends it. Past the text's end its digits are counted and not made. A few are moved one by one: what was
-// just stored by bytes is soon loaded by bytes, and late as a whole.
+// A number, and the byte that ends it. Past the text's end its digits are counted and not made. A few are moved one by one, in
+// less time than at once.
 pub fn number(text: &mut [u8], at: usize, n: u64, end: u8) -> usize
     ensures { λ r. ⌜ Laid (ended n end) at (now (text .entry)) (now (text .exit)) r ⌝ }
 {
