@@ -1,4 +1,6 @@
 // An answer's line, byte by byte, in a lent text. A function gives the place up to which the text is written then.
+#![tactic(auto)]
+
 ghost use Rattle.std.specs.Prelude.{◌≡◌, length, take};
 ghost use Rattle.rules.specs.Answers.{option_of};
 ghost use Rattle.slot_child.specs.Slots.{identity_of, decision_of, slot_of, decided_of};

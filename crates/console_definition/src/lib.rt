@@ -1,4 +1,6 @@
 // The line of a registration: parent, anchor, payload, the realm list's edition and default, and three lists, each behind its word.
+#![tactic(auto)]
+
 ghost use Rattle.std.specs.Prelude.{◌≡◌, ◌&&◌, eqb};
 ghost use Rattle.console_definition.specs.Definitions.{under_in, number_in, head_in, list_behind, lists_in};
 ghost use Rattle.console_definition.specs.Found.{Behind, Three};
@@ -6,7 +8,7 @@ ghost use Rattle.console_definition.specs.Found.{Behind, Three};
 use text_decimal::Decimal;
 
 // A parent's id, the word `none`, or a word that is neither.
-#[derive(Drop)]
+#[derive(Clone, Copy)]
 pub enum Parent {
     Of(u64),
     None,
@@ -14,14 +16,14 @@ pub enum Parent {
 }
 
 // The parent's word, and the place behind it.
-#[derive(Drop)]
+#[derive(Clone, Copy)]
 pub struct Under {
     pub parent: Parent,
     pub stop: usize,
 }
 
 // The next word as a number, and the place behind it.
-#[derive(Drop)]
+#[derive(Clone, Copy)]
 struct Number {
     is: bool,
     value: u64,
@@ -29,7 +31,7 @@ struct Number {
 }
 
 // Anchor, payload, and the realm list's edition and default, if there are five numbers, and the place behind them.
-#[derive(Drop)]
+#[derive(Clone, Copy)]
 pub struct Head {
     pub found: bool,
     pub key: u64,
@@ -41,7 +43,7 @@ pub struct Head {
 }
 
 // A list behind its word: how many numbers, and where they stop.
-#[derive(Drop)]
+#[derive(Clone, Copy)]
 pub struct Counted {
     pub found: bool,
     pub count: usize,
@@ -49,7 +51,7 @@ pub struct Counted {
 }
 
 // How many numbers the three lists have; found if each is and nothing stands behind them.
-#[derive(Drop)]
+#[derive(Clone, Copy)]
 pub struct Lists {
     pub found: bool,
     pub realms: usize,

@@ -1,4 +1,6 @@
 // A line of the console: what it says in a lent text, and what it leaves of the registry, the buffer and the slot.
+#![tactic(auto)]
+
 ghost use Rattle.std.specs.Prelude.{◌≡◌};
 ghost use Rattle.slot_child.specs.Slots.{slot_of};
 ghost use Rattle.console_answer.specs.Pages.{up_to};

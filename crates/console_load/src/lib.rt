@@ -1,4 +1,6 @@
 // A load from the console: which line awaits a text, and what is said and left once the text has come.
+#![tactic(auto)]
+
 ghost use Rattle.std.specs.Prelude.{◌≡◌};
 ghost use Rattle.console_answer.specs.Pages.{up_to};
 ghost use Rattle.console_names.specs.Behind.{numbers_behind};
@@ -13,7 +15,7 @@ use host_answers::ANSWER;
 use memory::WORDS;
 
 // What a line awaits behind it: a text of so many bytes, for a registry in this domain, or nothing.
-#[derive(Drop)]
+#[derive(Clone, Copy)]
 pub enum Awaited {
     Text(u64, u64),
     Nothing,

@@ -1,4 +1,6 @@
 // The table of the console's operations, and the numbers behind a name.
+#![tactic(auto)]
+
 ghost use Rattle.std.specs.Prelude.{◌≡◌, get_or, drop};
 ghost use Rattle.console_words.specs.Parted.{words};
 ghost use Rattle.console_names.specs.Names.{place_among};
@@ -7,14 +9,14 @@ ghost use Rattle.console_names.specs.Rows.{kind_of, row_of};
 ghost use Rattle.console_names.specs.Behind.{Numbered};
 
 // How many numbers stand behind a name: so many, or so many and then as many as wished.
-#[derive(Drop)]
+#[derive(Clone, Copy)]
 pub enum Count {
     Exactly(usize),
     AtLeast(usize),
 }
 
 // The values behind `ok`: nothing, numbers, numbers or `none`, `yes` or `no`.
-#[derive(Drop)]
+#[derive(Clone, Copy)]
 pub enum Values {
     None,
     Numbers,
@@ -23,7 +25,7 @@ pub enum Values {
 }
 
 // A list that a plugin holds.
-#[derive(Drop)]
+#[derive(Clone, Copy)]
 pub enum Held {
     Deps,
     Provs,
@@ -32,7 +34,7 @@ pub enum Held {
 
 // What is done with the numbers: a plugin or the buffer is shown, a list goes to the buffer, the registry is asked, its text is
 // written, a text is awaited that it is loaded from, or a start order is planned.
-#[derive(Drop)]
+#[derive(Clone, Copy)]
 pub enum Kind {
     Show,
     Buffer,
@@ -44,7 +46,7 @@ pub enum Kind {
 }
 
 // What stands behind an operation's name: words of its own, or numbers.
-#[derive(Drop)]
+#[derive(Clone, Copy)]
 pub enum Row {
     Slot,
     Register,
@@ -204,7 +206,7 @@ const TABLE: [[usize; 3]; OPERATIONS] = [
 ];
 
 // How many numbers stand behind a name, and whether nothing else does.
-#[derive(Drop)]
+#[derive(Clone, Copy)]
 pub struct Behind {
     pub only: bool,
     pub count: usize,

@@ -1,4 +1,6 @@
 // The console's operations on one registry. Each is told by its place among the names, and gives a status.
+#![tactic(auto)]
+
 ghost use Rattle.std.specs.Prelude.{◌≡◌, [], ◌∷◌};
 ghost use Rattle.host_answers.specs.Told.{counted as told};
 ghost use Rattle.demands.specs.Starts.{blank};

@@ -1,4 +1,6 @@
 // The console's start orders: what stands behind the word `check`, and what the line of `plan` says.
+#![tactic(auto)]
+
 ghost use Rattle.std.specs.Prelude.{◌≡◌};
 ghost use Rattle.console_answer.specs.Pages.{up_to};
 ghost use Rattle.console_operations.specs.Carried.{Answers};
@@ -12,7 +14,7 @@ use memory::WORDS;
 use memory::layout::PLACES;
 
 // How many numbers the two lists have; found if each is and nothing stands behind them.
-#[derive(Drop)]
+#[derive(Clone, Copy)]
 struct Sets {
     found: bool,
     set: usize,

@@ -1,4 +1,6 @@
 // The console's registration: the definition that a line holds goes to the registry.
+#![tactic(auto)]
+
 ghost use Rattle.std.specs.Prelude.{◌≤◌, ◌≡◌, ◌∷◌, length, take};
 ghost use Rattle.rules.specs.Holds.{port};
 ghost use Rattle.console_words.specs.Fronts.{Front};

@@ -1,4 +1,6 @@
 // The console's answer lines: of an operation, of the buffer and of a plugin. A function gives the place behind the line.
+#![tactic(auto)]
+
 ghost use Rattle.std.specs.Prelude.{◌≡◌};
 ghost use Rattle.console_answer.specs.Pages.{up_to, put_on, numbers_on};
 ghost use Rattle.console_answer.specs.Answers.{ok_word, told_in};

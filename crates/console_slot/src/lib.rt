@@ -1,4 +1,6 @@
 // The slot's operations: a new slot, or a decision of the one that is there.
+#![tactic(auto)]
+
 ghost use Rattle.std.specs.Prelude.{◌≡◌};
 ghost use Rattle.std.proofs.Math.Option.{some};
 ghost use Rattle.slot_child.specs.Slots.{identity_of, slot_of};
@@ -11,13 +13,13 @@ use rules::Done;
 use slot_child::{Decided, Identity, Slot};
 
 // The place behind what was said, and the slot.
-#[derive(Drop)]
+#[derive(Clone, Copy)]
 pub struct Said {
     pub stop: usize,
     pub slot: Slot,
 }
 
-#[derive(Drop)]
+#[derive(Clone, Copy)]
 pub enum Decides {
     Bad,
     Now(Decided),

@@ -1,4 +1,6 @@
 // The words of a line, parted by one or more spaces. No other byte parts words. Every function takes any bytes and any place.
+#![tactic(auto)]
+
 ghost use Rattle.std.specs.Prelude.{◌≡◌, ◌≤◌, ◌+◌, length, drop};
 ghost use Rattle.rules.specs.Basics.{same_numbers};
 ghost use Rattle.console_words.specs.Words.{spaces, word_length, Spanned};
@@ -11,14 +13,14 @@ use text_decimal::Decimal;
 pub const LINE: usize = 4096;
 
 // A word stands from start up to but without stop.
-#[derive(Drop)]
+#[derive(Clone, Copy)]
 pub struct Span {
     pub start: usize,
     pub stop: usize,
 }
 
 // How many numbers were read, and the place of the first word that is no number.
-#[derive(Drop)]
+#[derive(Clone, Copy)]
 pub struct Run {
     pub count: usize,
     pub stop: usize,
@@ -26,8 +28,8 @@ pub struct Run {
 
 // One more byte of a line of which so many came. Of a line that is too long, only that is kept.
 pub fn longer(line: &mut [u8; LINE], filled: usize, byte: u8) -> usize
-    ensures fact_1 { result ≡ longer_count filled }
-    ensures fact_2 { line.new ≡ longer_bytes line.old filled byte }
+    ensures count { result ≡ longer_count filled }
+    ensures bytes { line.new ≡ longer_bytes line.old filled byte }
 {
     if filled < LINE {
         line[filled] = byte;

@@ -1,6 +1,8 @@
 // What a host in C or Rust calls, over one lent memory. Each function answers a status, 0 for an acceptance or the refusal's
 // number; the numbers of an answer go to `out` behind their count. A refusal leaves the memory, the slot, the buffer and
 // `out` as they were, but that a refused replacement answers its payload.
+#![tactic(auto)]
+
 ghost use Rattle.std.specs.Prelude.{◌≡◌};
 ghost use Rattle.demands.specs.Starts.{blank};
 

@@ -1,4 +1,6 @@
 // What a host is told: a status, 0 for an acceptance or the refusal's number, and the answer's numbers behind their count.
+#![tactic(auto)]
+
 ghost use Rattle.std.specs.Prelude.{◌≡◌, [], ◌∷◌};
 ghost use Rattle.rules.specs.Queries.{root_numbers};
 ghost use Rattle.rules.specs.Answers.{done_answer, whether_answer, number_answer, option_answer};
@@ -238,8 +240,8 @@ pub fn reading(a: registry_values::Reading, out: &mut [u64; ANSWER]) -> u64
 }
 
 fn issued(root: rules::Root, out: &mut [u64; ANSWER]) -> u64
-    ensures fact_1 { result ≡ 0 }
-    ensures fact_2 { out.new ≡ counted (root_numbers root) out.old }
+    ensures status { result ≡ 0 }
+    ensures told { out.new ≡ counted (root_numbers root) out.old }
 {
     match root {
         rules::Root::Unissued => one(0, out),

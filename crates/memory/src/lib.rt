@@ -1,4 +1,6 @@
 // The registry's memory: one array of words that the caller lends. Every function takes any words; a place is read modulo 32.
+#![tactic(auto)]
+
 ghost use Rattle.std.specs.Prelude.{◌≡◌, ◌-◌, ◌%◌, ◌≤◌, ◌<◌, eqb, length};
 ghost use Rattle.rules.specs.Basics.{holds};
 ghost use Rattle.memory.specs.Layout.{word, occupancy, taken, id_at, memory_words, places, domain_word, first_word, next_word};
@@ -15,21 +17,21 @@ pub mod layout;
 pub const WORDS: usize = 4488;
 
 // A place among the 32.
-#[derive(Drop)]
+#[derive(Clone, Copy)]
 pub enum Place {
     At(usize),
     None,
 }
 
 // A parent's id, or none.
-#[derive(Drop)]
+#[derive(Clone, Copy)]
 pub enum Parent {
     Of(u64),
     None,
 }
 
 // What operations on one plugin change, but for its values.
-#[derive(Drop)]
+#[derive(Clone, Copy)]
 pub struct Life {
     pub revision: u64,
     pub payload: u64,
@@ -96,7 +98,7 @@ impl Life {
 }
 
 // A plugin's life as it stands in the words.
-#[derive(Drop)]
+#[derive(Clone, Copy)]
 pub struct Words {
     pub revision: u64,
     pub payload: u64,

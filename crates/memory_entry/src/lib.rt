@@ -1,4 +1,6 @@
 // A new plugin in the registry's memory: its rows behind all others, its words at its place, and the place taken.
+#![tactic(auto)]
+
 ghost use Rattle.std.specs.Prelude.{◌≡◌, ◌∷◌, ◌+◌, ◌*◌, ◌%◌, ◌<◌};
 ghost use Rattle.memory.specs.Writes.{puts};
 ghost use Rattle.memory.specs.Layout.{place_words, places, id_word, edition_word};
@@ -12,7 +14,7 @@ use rules::{Generation, limits};
 const LIST_WORDS: usize = limits::DEPENDENCIES * ROW_WORDS;
 
 // What is written of a new plugin beside its lists. A tag of 0 says that it has no parent.
-#[derive(Drop)]
+#[derive(Clone, Copy)]
 pub struct Entry {
     pub id: u64,
     pub tag: u64,

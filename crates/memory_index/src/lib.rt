@@ -1,5 +1,7 @@
 // A port's provider, looked up for many plugins in one operation: an index has, for each remainder of a key by 64, the places whose
 // plugins offer such a key, a bit for each. A lookup reads the ports of these places alone.
+#![tactic(auto)]
+
 ghost use Rattle.std.specs.Prelude.{◌≡◌, ◌<◌, ◌^◌};
 ghost use Rattle.rules.specs.Holds.{port};
 ghost use Rattle.rules.specs.Ports.{pairs};

@@ -1,5 +1,7 @@
 // A port's provider, looked up many times in one operation. A table that the operation lends keeps the keys that a place may offer, a bit
 // for each one's remainder by 64: at first all bits, and once the place was looked at in vain those of the keys that it offers.
+#![tactic(auto)]
+
 ghost use Rattle.std.specs.Prelude.{◌≡◌, ◌<◌, ◌%◌, set};
 ghost use Rattle.rules.specs.Answers.{option_of};
 ghost use Rattle.rules.specs.Holds.{port};

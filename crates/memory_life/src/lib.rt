@@ -1,4 +1,6 @@
 // A plugin's life, loaded from its words and stored to them. A place is read modulo 32.
+#![tactic(auto)]
+
 ghost use Rattle.std.specs.Prelude.{◌≡◌, ◌%◌, ◌<◌};
 ghost use Rattle.memory.specs.View.{phase_of, root_of, words_at, decoded, life_at};
 ghost use Rattle.memory.specs.Writes.{root_tag, root_revision, root_argument, put_words, encoded, put_life, renewed_at};

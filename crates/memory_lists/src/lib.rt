@@ -1,4 +1,6 @@
 // A plugin's lists, read off its rows. Every function takes any words; a place is read modulo 32.
+#![tactic(auto)]
+
 ghost use Rattle.std.specs.Prelude.{◌≡◌, ◌%◌, min};
 ghost use Rattle.memory.specs.Layout.{part, start_at, deps_at, provs_at, realms_at, dep_part, prov_part, realm_part, places};
 ghost use Rattle.memory.specs.View.{anchor_at};

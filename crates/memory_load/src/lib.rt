@@ -1,4 +1,6 @@
 // Words that are read from a text: a plugin with its life and values at its place, and the whole copied.
+#![tactic(auto)]
+
 ghost use Rattle.std.specs.Prelude.{◌≡◌, ◌%◌};
 ghost use Rattle.memory.specs.Layout.{places};
 ghost use Rattle.memory_load.specs.Loading.{loaded_place};

@@ -1,4 +1,6 @@
 // The 32 plugin places: one occupancy word. Its ones are the registered count, the trailing zeros of its complement the lowest free place.
+#![tactic(auto)]
+
 ghost use Rattle.std.specs.Prelude.{◌≡◌, ◌<◌, ◌≤◌, ◌*◌, ◌/◌, ◌%◌, ◌^◌};
 ghost use Rattle.rules.specs.Holds.{count, rows_in_use};
 ghost use Rattle.rules.specs.Outcomes.{answer_of};

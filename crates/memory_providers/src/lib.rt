@@ -1,4 +1,6 @@
 // A port's provider is the registered plugin that has it as provision or anchor.
+#![tactic(auto)]
+
 ghost use Rattle.std.specs.Prelude.{◌≡◌, ◌&&◌, ◌<◌, ◌%◌};
 ghost use Rattle.rules.specs.Basics.{any, is_some};
 ghost use Rattle.rules.specs.Holds.{port, provides, provider};
@@ -11,7 +13,7 @@ use memory::layout::{PLACES, ROW_WORDS, ROWS_START};
 use memory::{Place, WORDS};
 
 // The claimed keys: a bit for each key's remainder by 64, and one for that of its quotient by 64. Two plugins' ports rarely share both.
-#[derive(Drop)]
+#[derive(Clone, Copy)]
 pub struct KeyBits {
     pub low: u64,
     pub high: u64,

@@ -1,4 +1,6 @@
 // The rows of the registry's memory. A plugin's rows stand together; where one goes, those behind it come down.
+#![tactic(auto)]
+
 ghost use Rattle.std.specs.Prelude.{◌≡◌, ◌<◌, ◌≤◌, ◌+◌, ◌%◌};
 ghost use Rattle.rules.specs.Limits.{max_rows, max_plugin_rows};
 ghost use Rattle.memory.specs.Layout.{places};
@@ -10,7 +12,7 @@ use memory::{WORDS, layout};
 use rules::limits;
 
 // A place, and the start of its rows before it came down.
-#[derive(Drop)]
+#[derive(Clone, Copy)]
 struct Last {
     place: usize,
     start: usize,

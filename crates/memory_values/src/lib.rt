@@ -1,4 +1,6 @@
 // A plugin's values: one for each provision, or none. Every function takes any words; a place is read modulo 32, and there are 15 provisions.
+#![tactic(auto)]
+
 ghost use Rattle.std.specs.Prelude.{◌≡◌, ◌+◌, ◌*◌, ◌%◌, set};
 ghost use Rattle.rules.specs.Holds.{port};
 ghost use Rattle.rules.specs.Ports.{pairs};

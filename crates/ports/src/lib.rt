@@ -1,4 +1,6 @@
 // Document 01, "Ports and realms": lists of ports, lent as key, realm, key, realm. Every function takes any list.
+#![tactic(auto)]
+
 ghost use Rattle.std.specs.Prelude.{◌≡◌, not, ◌&&◌, eqb, get_or};
 ghost use Rattle.rules.specs.Basics.{any};
 ghost use Rattle.rules.specs.Holds.{port, is_in};
@@ -8,7 +10,7 @@ ghost use Rattle.ports.specs.Answers.{first_from};
 
 use rules::Port;
 
-#[derive(Drop)]
+#[derive(Clone, Copy)]
 pub enum Found {
     At(usize),
     None,

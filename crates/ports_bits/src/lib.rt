@@ -1,4 +1,6 @@
 // A word with a bit for each number's remainder by 64: what lacks its bit is not there, and need not be looked for.
+#![tactic(auto)]
+
 ghost use Rattle.std.specs.Prelude.{◌≡◌};
 ghost use Rattle.rules.specs.Ports.{pairs};
 ghost use Rattle.ports_bits.specs.Bits.{with_bit, has_bit};

@@ -1,4 +1,6 @@
 // Document 02 [4], of a text's ports: realms that keys resolve to, and dependency lists that document 01's rule gives.
+#![tactic(auto)]
+
 ghost use Rattle.std.specs.Prelude.{◌≡◌, ◌≤◌, length, take};
 ghost use Rattle.rules.specs.Basics.{all};
 ghost use Rattle.rules.specs.Holds.{port};
@@ -14,7 +16,7 @@ use rules::{Port, limits};
 const KEYS: usize = limits::DEPENDENCY_KEYS;
 
 // The keys of so many ports in front of a dependency list.
-#[derive(Drop)]
+#[derive(Clone, Copy)]
 struct FrontKeys {
     count: usize,
     keys: [u64; KEYS],
@@ -85,8 +87,8 @@ fn gives(
     parents: &[u64],
     list: &[u64],
 ) -> bool
-    requires fact_1 { length keys.now ≤ max_dependency_keys }
-    requires fact_2 { length (pairs list.now) ≤ max_dependencies }
+    requires keys_fit { length keys.now ≤ max_dependency_keys }
+    requires list_fits { length (pairs list.now) ≤ max_dependencies }
     ensures { result ≡ same_ports (dependency_list (reached_with other rows.now) (pairs provisions.now) anchor
         keys.now (pairs parents.now)) (pairs list.now) }
 {

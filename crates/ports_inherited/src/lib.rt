@@ -1,4 +1,6 @@
 // Document 01, "Dependency list", as document 02 [3] amends it.
+#![tactic(auto)]
+
 ghost use Rattle.std.specs.Prelude.{◌≡◌, [], ◌+◌, take};
 ghost use Rattle.rules.specs.Basics.{pick};
 ghost use Rattle.rules.specs.Holds.{port, is_in};
@@ -18,7 +20,7 @@ use rules::{Port, limits};
 pub const LONGER: usize = limits::DEPENDENCIES + 1;
 
 // A finished dependency list of at most 48 ports, or that it is longer.
-#[derive(Drop)]
+#[derive(Clone, Copy)]
 pub struct Dependencies {
     pub count: usize,
     pub ports: [u64; LIST_ROOM],

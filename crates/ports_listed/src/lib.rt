@@ -1,4 +1,6 @@
 // Document 01, "Lists": ports are listed from the place in the lent buffer that the caller names.
+#![tactic(auto)]
+
 ghost use Rattle.std.specs.Prelude.{◌≡◌, ◌++◌, ◌≤◌, length, drop};
 ghost use Rattle.rules.specs.Ports.{pairs, flat};
 ghost use Rattle.rules.specs.Answers.{number_answer};

@@ -1,5 +1,7 @@
 // Document 01, "Ports and realms", with document 02 [5]'s editions: realm lists, and keys looked up in them by halving. A realm list
 // is edition, default, key, realm, key, realm; its rows are the numbers behind the first two. Every function takes any list.
+#![tactic(auto)]
+
 ghost use Rattle.std.specs.Prelude.{◌≡◌, get_or};
 ghost use Rattle.rules.specs.Outcomes.{answer_of};
 ghost use Rattle.rules.specs.Answers.{verdict};
@@ -12,14 +14,14 @@ use rules::{Done, Edition, Port, limits, refusal};
 // The most numbers of a realm list's rows.
 const REALM_NUMBERS: usize = limits::REALM_ROWS * 2;
 
-#[derive(Drop)]
+#[derive(Clone, Copy)]
 pub enum Resolved {
     To(Port),
     Refused(u64),
 }
 
 // A port that was looked up, and how many keys were compared.
-#[derive(Drop)]
+#[derive(Clone, Copy)]
 struct Lookup {
     port: Port,
     comparisons: usize,

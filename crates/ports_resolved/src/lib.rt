@@ -1,5 +1,7 @@
 // What keys resolve to: the ports that a registration claims, and those of document 01's "Dependency list", the declared ones and
 // the candidates of the parent's list.
+#![tactic(auto)]
+
 ghost use Rattle.std.specs.Prelude.{◌≡◌};
 ghost use Rattle.rules.specs.Ports.{pairs};
 ghost use Rattle.ports_realms.specs.Halving.{reached};
@@ -18,7 +20,7 @@ pub const CLAIM_ROOM: usize = CLAIMS * 2;
 pub const LIST_ROOM: usize = limits::DEPENDENCIES * 2;
 
 // The anchor, then the resolved provisions.
-#[derive(Drop)]
+#[derive(Clone, Copy)]
 pub struct Claimed {
     pub count: usize,
     pub ports: [u64; CLAIM_ROOM],
@@ -85,7 +87,7 @@ pub fn declared(other: u64, rows: &[u64], keys: &[u64], list: &mut [u64; LIST_RO
 }
 
 // A candidate's realm, and how many turns it takes: where a port resolves to itself, its second turn is known from the first.
-#[derive(Drop)]
+#[derive(Clone, Copy)]
 pub struct Turn {
     pub realm: u64,
     pub turns: usize,

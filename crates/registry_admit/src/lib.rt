@@ -1,4 +1,6 @@
 // Document 01, "Admission and call", over the registry's memory.
+#![tactic(auto)]
+
 ghost use Rattle.std.specs.Prelude.{◌≡◌};
 ghost use Rattle.rules.specs.Outcomes.{answer_of, Meets};
 ghost use Rattle.rules.specs.Admission.{admit, admits, call};
@@ -13,14 +15,14 @@ use rules::{Root, refusal};
 pub const ROOT_REQUEST: u64 = 0;
 
 // Domain, id, generation, revision and argument, or a refusal.
-#[derive(Drop)]
+#[derive(Clone, Copy)]
 pub enum Admitted {
     Is(u64, u64, u64, u64, u64),
     Refused(u64),
 }
 
 // Domain, id, generation, request, payload and argument, or a refusal.
-#[derive(Drop)]
+#[derive(Clone, Copy)]
 pub enum Called {
     Receipt(u64, u64, u64, u64, u64, u64),
     Refused(u64),

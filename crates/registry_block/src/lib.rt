@@ -1,5 +1,7 @@
 // A plugin of a text, read from its block: what is asked of it beside the plugins before it, and how it is written. Any numbers may
 // be handed in.
+#![tactic(auto)]
+
 ghost use Rattle.std.specs.Prelude.{◌≡◌, ◌%◌};
 ghost use Rattle.memory.specs.Layout.{places};
 ghost use Rattle.memory.specs.View.{view, decoded};
@@ -14,7 +16,7 @@ use text_read_block::{Block, CLAIM_WORDS, DEPENDENCY_WORDS, REALM_WORDS, VALUE_W
 use text_read_number::Next;
 
 // The place behind a block whose plugin joined, the rows in use then, and the lowest id that may follow; Torn where it did not join.
-#[derive(Drop)]
+#[derive(Clone, Copy)]
 pub struct Joined {
     pub next: Next,
     pub rows: usize,

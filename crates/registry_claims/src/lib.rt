@@ -1,4 +1,6 @@
 // Document 02 [4]: all provisions and anchors of all plugins are different ports.
+#![tactic(auto)]
+
 ghost use Rattle.std.specs.Prelude.{◌≡◌, ◌&&◌, ◌++◌, ◌+◌, ◌<◌};
 ghost use Rattle.rules.specs.Holds.{port, is_in, plugins};
 ghost use Rattle.rules.specs.Ports.{pairs};

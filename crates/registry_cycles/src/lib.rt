@@ -1,5 +1,7 @@
 // Document 02 [4]: what is asked of all plugins of a text at the end. Their ports differ, and what running ones depend on is provided by
 // Active ones, without cycles. Each dependency's provider is looked up once.
+#![tactic(auto)]
+
 ghost use Rattle.std.specs.Prelude.{◌≡◌, ◌<◌, ◌%◌, length};
 ghost use Rattle.rules.specs.Ports.{pairs};
 ghost use Rattle.memory.specs.Layout.{places};
@@ -16,7 +18,7 @@ use memory::{Place, WORDS};
 use memory_index::REMAINDERS;
 
 // The places of the providers of some ports, a bit for each, all of them Active; or that one port has no such provider.
-#[derive(Drop)]
+#[derive(Clone, Copy)]
 enum Row {
     Of(u32),
     Unserved,
@@ -68,8 +70,8 @@ fn row_of(m: &[u64; WORDS], index: &[u32; REMAINDERS], ports: &[u64]) -> Row
 
 // The row of what a place's plugin depends on, if the place is among those of a word.
 fn row_at(m: &[u64; WORDS], index: &[u32; REMAINDERS], among: u32, place: usize) -> Row
-    requires fact_1 { Indexed m.now index.now }
-    requires fact_2 { place < places }
+    requires indexed { Indexed m.now index.now }
+    requires in_places { place < places }
     ensures { result ≡ row_at m.now among place }
 {
     if (among >> place) % 2 == 1 {

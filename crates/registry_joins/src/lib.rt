@@ -1,4 +1,6 @@
 // Document 02 [4]: whether the ports of a text's plugin fit those that stand in the registry's memory already.
+#![tactic(auto)]
+
 ghost use Rattle.std.specs.Prelude.{◌≡◌};
 ghost use Rattle.rules.specs.Ports.{pairs};
 ghost use Rattle.memory.specs.View.{view};

@@ -1,4 +1,6 @@
 // Document 01, "Admission and call": what they ask of a found plugin's life.
+#![tactic(auto)]
+
 ghost use Rattle.std.specs.Prelude.{◌≡◌};
 ghost use Rattle.rules.specs.Admission.{is_queued};
 ghost use Rattle.registry_live.specs.Lives.{is_current, verdict_of, live_of};

@@ -1,5 +1,7 @@
 // Document 02 [4]: the text read back. It is read into words of the function's own, and nothing is written to the registry before
 // the last check has passed.
+#![tactic(auto)]
+
 ghost use Rattle.std.specs.Prelude.{◌≡◌, ◌≤◌, ◌<◌, length};
 ghost use Rattle.rules.specs.Limits.{max_plugins};
 ghost use Rattle.rules.specs.Load.{load};
@@ -19,7 +21,7 @@ use text_read_block::{CLAIM_WORDS, DEPENDENCY_WORDS, REALM_WORDS, VALUE_WORDS};
 use text_read_number::Next;
 
 // What the lines before the plugins say, and the place behind them.
-#[derive(Drop)]
+#[derive(Clone, Copy)]
 struct Header {
     domain: u64,
     first: u64,
@@ -29,7 +31,7 @@ struct Header {
 }
 
 // The domain that a text says; or that it says no registry.
-#[derive(Drop)]
+#[derive(Clone, Copy)]
 enum Text {
     Of(u64),
     Bad,
@@ -104,8 +106,8 @@ fn plugins(
     first: u64,
     next: u64,
 ) -> Next
-    requires fact_1 { w.old ≡ opened_with zeros domain first next }
-    requires fact_2 { (at ≤ length text.now) × (count ≤ max_plugins) × (first ≤ next) }
+    requires opened { w.old ≡ opened_with zeros domain first next }
+    requires in_text { (at ≤ length text.now) × (count ≤ max_plugins) × (first ≤ next) }
     ensures { PluginsRead text.now at count domain first next result w.new }
 {
     let mut realms = [0u64; REALM_WORDS];

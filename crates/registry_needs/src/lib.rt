@@ -1,4 +1,6 @@
 // What a plugin needs of others, and others of it: an Active provider for each dependency, and no running plugin that depends on it.
+#![tactic(auto)]
+
 ghost use Rattle.std.specs.Prelude.{◌≡◌, ◌||◌, ◌%◌, ◌<◌};
 ghost use Rattle.rules.specs.Basics.{all};
 ghost use Rattle.rules.specs.Holds.{port, is_active, is_loading};

@@ -1,4 +1,6 @@
 // Document 01, "Values": offering one, over the registry's memory.
+#![tactic(auto)]
+
 ghost use Rattle.std.specs.Prelude.{◌≡◌, not, ◌&&◌};
 ghost use Rattle.rules.specs.Basics.{is_some};
 ghost use Rattle.rules.specs.Holds.{port, is_loading};

@@ -1,4 +1,6 @@
 // Document 02 [6]: the checks of a set of ids, and the checker of an order. The registry isn't changed.
+#![tactic(auto)]
+
 ghost use Rattle.std.specs.Prelude.{◌≡◌, ◌&&◌};
 ghost use Rattle.rules.specs.Answers.{verdict, whether_answer};
 ghost use Rattle.rules.specs.Basics.{all};
@@ -15,7 +17,7 @@ use memory_index::REMAINDERS;
 use rules::{Done, Generation, Phase, Whether, refusal};
 
 // What an id's checks come to: passed, with its place; or the refusal's number.
-#[derive(Drop)]
+#[derive(Clone, Copy)]
 enum Checked {
     Passed(usize),
     Refused(u64),

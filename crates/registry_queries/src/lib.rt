@@ -1,4 +1,6 @@
 // R's getters as questions by id, the lookup of a dependency key, and document 01's "Lists", over the registry's memory. Nothing is changed.
+#![tactic(auto)]
+
 ghost use Rattle.std.specs.Prelude.{◌≡◌};
 ghost use Rattle.rules.specs.Dependencies.{dependency_port};
 ghost use Rattle.rules.specs.Lists.{list, Dependencies, Provisions, RealmRows};
@@ -11,27 +13,27 @@ ghost use Rattle.registry_queries.specs.Answers.{perhaps_answer, port_answer, ro
 use memory::{Place, WORDS};
 use rules::{Edition, Number, Port, Root, refusal};
 
-#[derive(Drop)]
+#[derive(Clone, Copy)]
 pub enum Perhaps {
     Is(u64),
     None,
     Refused(u64),
 }
 
-#[derive(Drop)]
+#[derive(Clone, Copy)]
 pub enum PortAnswer {
     Is(Port),
     None,
     Refused(u64),
 }
 
-#[derive(Drop)]
+#[derive(Clone, Copy)]
 pub enum RootAnswer {
     Is(Root),
     Refused(u64),
 }
 
-#[derive(Drop)]
+#[derive(Clone, Copy)]
 pub enum EditionAnswer {
     Is(Edition),
     Refused(u64),

@@ -1,4 +1,6 @@
 // Document 01, "Phases": ready, which asks for every value, and finish, which drops them.
+#![tactic(auto)]
+
 ghost use Rattle.std.specs.Prelude.{◌≡◌};
 ghost use Rattle.rules.specs.Outcomes.{Meets};
 ghost use Rattle.rules.specs.Phases.{is_spent, ready, finish};

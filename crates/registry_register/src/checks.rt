@@ -11,7 +11,7 @@ use memory::{Parent, Place, WORDS};
 use rules::{Done, Phase, limits, refusal};
 
 // What the first run comes to: passed, with the parent's place, which is nowhere without a parent; or the refusal's number.
-#[derive(Drop)]
+#[derive(Clone, Copy)]
 pub enum Early {
     Passed(Place),
     Refused(u64),

@@ -1,4 +1,6 @@
 // Document 01, "Registration", over the registry's memory: nothing is written before the last check has passed.
+#![tactic(auto)]
+
 ghost use Rattle.std.specs.Prelude.{◌≡◌, ◌≢◌, ◌*◌, ◌-◌, take};
 ghost use Rattle.rules.specs.Outcomes.{Meets};
 ghost use Rattle.rules.specs.Basics.{last};
@@ -79,8 +81,8 @@ fn entry(
     provisions: usize,
     realms: usize,
 ) -> Entry
-    requires fact_1 { word m.now next_word ≢ last }
-    requires fact_2 { start ≡ rows_in_use (view m.now) }
+    requires not_last { word m.now next_word ≢ last }
+    requires at_end { start ≡ rows_in_use (view m.now) }
     ensures { result ≡ new_entry m.now (parent_id parent) payload edition dependencies provisions realms }
 {
     let id = memory::next_id(m);

@@ -1,4 +1,6 @@
 // Opening, which frees every place, and document 01's removal, which frees one and its rows.
+#![tactic(auto)]
+
 ghost use Rattle.std.specs.Prelude.{◌≡◌, ◌&&◌};
 ghost use Rattle.rules.specs.Outcomes.{Meets};
 ghost use Rattle.rules.specs.Basics.{any};

@@ -1,4 +1,6 @@
 // Document 01, "Replacement", over the registry's memory.
+#![tactic(auto)]
+
 ghost use Rattle.std.specs.Prelude.{◌≡◌};
 ghost use Rattle.rules.specs.Outcomes.{answer_of, Meets};
 ghost use Rattle.rules.specs.Replacement.{replace, fits};
@@ -12,21 +14,21 @@ use memory::{Place, WORDS};
 use rules::{Whether, refusal};
 
 // What a replacement changes of a plugin.
-#[derive(Drop)]
+#[derive(Clone, Copy)]
 pub struct PayloadRecord {
     pub revision: u64,
     pub payload: u64,
 }
 
 // The former payload; or a refusal and the offered payload.
-#[derive(Drop)]
+#[derive(Clone, Copy)]
 pub enum Replaced {
     Former(u64),
     Refused(u64, u64),
 }
 
 // The record afterwards, and the answer.
-#[derive(Drop)]
+#[derive(Clone, Copy)]
 pub struct Change {
     pub next: PayloadRecord,
     pub answer: Replaced,

@@ -1,4 +1,6 @@
 // Document 01, "Retirement", over the registry's memory, but for removal.
+#![tactic(auto)]
+
 ghost use Rattle.std.specs.Prelude.{◌≡◌};
 ghost use Rattle.rules.specs.Outcomes.{answer_of, Meets};
 ghost use Rattle.rules.specs.Retirement.{retire, retire_child, child_identity};
@@ -11,7 +13,7 @@ use memory::{Place, WORDS};
 use rules::{Done, refusal};
 
 // A child identity, none, or a refusal.
-#[derive(Drop)]
+#[derive(Clone, Copy)]
 pub enum Child {
     Of(u64, u64, u64),
     None,

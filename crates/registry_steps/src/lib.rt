@@ -1,4 +1,6 @@
 // Document 01, "Phases": each step looks the id up once, and the table of phases and steps says where it leads.
+#![tactic(auto)]
+
 ghost use Rattle.rules.specs.Outcomes.{Meets};
 ghost use Rattle.rules.specs.Phases.{begin, fail, unload};
 ghost use Rattle.rules.specs.Answers.{done_answer};
@@ -11,7 +13,7 @@ use registry_table::{Cell, Step};
 use rules::{Done, Generation, refusal};
 
 // A ticket: domain, id, generation, kind.
-#[derive(Drop)]
+#[derive(Clone, Copy)]
 pub enum Begun {
     Ticket(u64, u64, u64, u64),
     Refused(u64),

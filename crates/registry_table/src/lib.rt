@@ -1,4 +1,6 @@
 // Document 01, "Phases": the table of phases and steps, which is the whole rule.
+#![tactic(auto)]
+
 ghost use Rattle.std.specs.Prelude.{◌≡◌, ◌<◌};
 ghost use Rattle.rules.specs.Phases.{column, cell};
 ghost use Rattle.rules.specs.Queries.{phase_number};
@@ -9,7 +11,7 @@ use rules::Phase;
 // The kind of a Setup ticket, which beginning answers and admission asks for.
 pub const SETUP: u64 = 1;
 
-#[derive(Drop)]
+#[derive(Clone, Copy)]
 pub enum Step {
     Begin,
     Ready,
@@ -19,7 +21,7 @@ pub enum Step {
 }
 
 // The phase that a step leads to; or an empty cell.
-#[derive(Drop)]
+#[derive(Clone, Copy)]
 pub enum Cell {
     To(Phase),
     None,
@@ -46,8 +48,8 @@ const NEXT: [[u64; 5]; 4] = [
 ];
 
 fn row(phase: Phase) -> usize
-    ensures fact_1 { result ≡ phase_number phase }
-    ensures fact_2 { result < 4 }
+    ensures number { result ≡ phase_number phase }
+    ensures small { result < 4 }
 {
     phase.number() as usize
 }

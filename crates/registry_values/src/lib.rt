@@ -1,4 +1,6 @@
 // Document 01, "Values": the questions, over the registry's memory. A read looks at the live provider; nothing is kept of it.
+#![tactic(auto)]
+
 ghost use Rattle.std.specs.Prelude.{◌≡◌, [], ◌∷◌, ◌%◌};
 ghost use Rattle.rules.specs.Basics.{yes_no};
 ghost use Rattle.rules.specs.Holds.{port};
@@ -17,7 +19,7 @@ use registry_queries::{Perhaps, PortAnswer};
 use rules::{Optional, Port, Whether, refusal};
 
 // The value and its provider's id, or a refusal.
-#[derive(Drop)]
+#[derive(Clone, Copy)]
 pub enum Reading {
     Is(u64, u64),
     Refused(u64),

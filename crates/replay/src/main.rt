@@ -1,4 +1,6 @@
 // The console: operations from standard input, one a line, are carried out on one registry, and each is answered by a line.
+#![tactic(auto)]
+
 ghost use Rattle.std.specs.Prelude.{◌≡◌, ◌<◌};
 ghost use Rattle.slot_child.specs.Slots.{slot_of};
 ghost use Rattle.console_load.specs.Awaited.{awaited};
@@ -13,7 +15,7 @@ use memory::WORDS;
 use slot_child::Slot;
 
 // What is due of a text: the domain that its registry gets, how many bytes it has, and how many of them came.
-#[derive(Drop)]
+#[derive(Clone, Copy)]
 struct Due {
     domain: u64,
     length: u64,
@@ -21,7 +23,7 @@ struct Due {
 }
 
 // What a line leaves to the next part of the input: how many bytes of it came, the slot, and the text that it awaits.
-#[derive(Drop)]
+#[derive(Clone, Copy)]
 struct State {
     filled: usize,
     slot: Slot,
@@ -203,7 +205,7 @@ fn feed(
     now
 }
 
-#[derive(Drop)]
+#[derive(Clone, Copy)]
 struct Fed {
     state: State,
     more: bool,

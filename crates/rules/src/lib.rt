@@ -1,4 +1,6 @@
 // Document 01's limits and refusal numbers. The types that the rules speak of come from crates/rules_types.
+#![tactic(auto)]
+
 pub mod limits;
 pub mod refusal;
 

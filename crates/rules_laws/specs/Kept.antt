@@ -21,7 +21,7 @@ use Rattle.rules_types.specs.declared.Root.TheVariants.{Queued}
 use Rattle.rules.specs.Holds.{Plugin, Registry, opened, lookup, provides, rows_in_use}
 use Rattle.rules.specs.Outcomes.{Accepted, Outcome, tells, refusing, accepting, writes, stores, adds, removes, answer_of, after}
 use Rattle.rules.specs.Steps.{Op, Run, step, after_step, go_on, go_on_with, run, run_fresh}
-use Rattle.rules_laws.specs.Acts.{Act, begins, stays, act}
+use Rattle.rules_laws.specs.Acts.{Act, begins, stays, act, joins, leaves}
 use Rattle.rules_laws.specs.Demand3.{Start}
 use Rattle.rules_laws.specs.Built.{Served, Wanted, Built}
 use Rattle.rules_laws.specs.Kept.Moves.{turn_built, join_built, leave_built, fresh}
@@ -88,6 +88,8 @@ outcome_rises m r o (writes place l vs) w ids i = none_issued m r.next ids _ i (
 outcome_rises m r o (stores q vs) w ids i = none_issued m r.next ids _ i (turned (act o) w.1)
   where
     turned : (a : Act) → Dated a w.0 q → issued_by (Accepted vs) a ≡ []
+    turned (joins _) h = elim h [ ]
+    turned (leaves id) h = elim h [ ]
     turned (begins id) d = refl
     turned stays d = refl
 outcome_rises m r o (adds q vs) w ids i = one_issued m r.next ids (issued_by (Accepted vs) (act o)) i (rw (w.1, w.2))

@@ -157,6 +157,8 @@ module _ (r : Registry) (b : Built r) (l : List Entry) (h : Booked l r) where
       }
 
       go : (a : Act) → Dated a p q → Booked (entered (Accepted vs) a l) (after r (stores q vs))
+      go (joins _) h = elim h [ ]
+      go (leaves id) h = elim h [ ]
       go (begins id) d = kept
       go stays d = kept
 

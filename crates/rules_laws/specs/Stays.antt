@@ -98,6 +98,8 @@ module _ (r : Registry) (b : Built r) (x g n : ℕ) (h : Begun x g n r) where
       some_is i = cc
 
   turned : (a : Act) (vs : List ℕ) (p q : Plugin) → lookup r q.id ≡ some p → Dated a p q → Begun x g (begun_by x (Accepted vs) a + n) (after r (stores q vs))
+  turned (joins _) vs p q e h = elim h [ ]
+  turned (leaves id) vs p q e h = elim h [ ]
   turned (begins id) vs p q e d = turns vs p q e (yes_no (eqb id x))
       (λ y. let i : eqb id x ≡ true = rw d.0 y in rw i d.1)
       (λ m. let i : eqb id x ≡ false = rw d.0 m in rw i)

@@ -1,1 +1,2 @@
 // What holds of the rules: theorems alone, in specs/. No code.
+#![tactic(auto)]

@@ -14,6 +14,7 @@ pub record Formed (s : Said) : Type 0 where
   pub generation : (a : Plugin) → In a s.plugins → a.generation ≤ last
 
 each_fits : {A : Type 0} (f : Form A) (l : List A) → FitAll f l → (a : A) → In a l → f.Fits a
+each_fits {A = A} f mathlib.Core.List.[] h a x'' = elim x'' [ ]
 each_fits f (b ∷ l) h a (inl i) = subst f.Fits i h.0
 each_fits f (b ∷ l) h a (inr m) = each_fits f l h.1 a m
 

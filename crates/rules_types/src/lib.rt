@@ -1,9 +1,11 @@
 // The types of document 01 that the rules and the code share, with their constants and constructors.
+#![tactic(auto)]
+
 ghost use Rattle.std.specs.Prelude.{◌≡◌};
 ghost use Rattle.rules_types.specs.Kinds.{port, default_realm, edition_number, default_of, phase_number};
 ghost use Rattle.rules_types.specs.Generations.{generation_of, next_generation};
 
-#[derive(Drop)]
+#[derive(Clone, Copy)]
 pub struct Port {
     pub key: u64,
     pub realm: u64,
@@ -29,7 +31,7 @@ impl Port {
 }
 
 // Document 02 [5]: in edition 1 absent keys get realm 0, in edition 2 a default realm that comes with the list.
-#[derive(Drop)]
+#[derive(Clone, Copy)]
 pub enum Edition {
     First,
     Second(u64),
@@ -66,7 +68,7 @@ impl Edition {
     }
 }
 
-#[derive(Drop)]
+#[derive(Clone, Copy)]
 pub struct Generation(pub u64);
 
 impl Generation {
@@ -92,14 +94,14 @@ impl Generation {
 }
 
 // What an operation without a value answers.
-#[derive(Drop)]
+#[derive(Clone, Copy)]
 pub enum Done {
     Accepted,
     Refused(u64),
 }
 
 // What a yes or no question answers.
-#[derive(Drop)]
+#[derive(Clone, Copy)]
 pub enum Whether {
     Yes,
     No,
@@ -107,20 +109,20 @@ pub enum Whether {
 }
 
 // What an operation with one number answers.
-#[derive(Drop)]
+#[derive(Clone, Copy)]
 pub enum Number {
     Is(u64),
     Refused(u64),
 }
 
 // A number or none.
-#[derive(Drop)]
+#[derive(Clone, Copy)]
 pub enum Optional {
     Is(u64),
     None,
 }
 
-#[derive(Drop)]
+#[derive(Clone, Copy)]
 pub enum Phase {
     Idle,
     Loading,
@@ -142,7 +144,7 @@ impl Phase {
 }
 
 // Queued holds the revision and the argument.
-#[derive(Drop)]
+#[derive(Clone, Copy)]
 pub enum Root {
     Unissued,
     Queued(u64, u64),

@@ -17,6 +17,7 @@ pub is_in_exactly : (k : Port) (l : List Port) → is_in k l ≡ true ↔ In k l
 is_in_exactly k l = (is_in_lem k l, into l)
   where
     into : (l : List Port) → In k l → is_in k l ≡ true
+    into [] h = elim h [ ]
     into (x ∷ l) (inl i) = rw (ap (same_port k) i ∙ same_self k)
     into (x ∷ l) (inr m) = rw (into l m, or-true)
 

@@ -10,6 +10,7 @@ use Rattle.rules_laws.specs.Laws.Members.{In}
 use Rattle.rules_laws.specs.Laws.Realms.{rising_drop}
 
 rising_above : (x : Port) (l : List Port) (row : Port) → rising (x ∷ l) ≡ true → In row l → x.key < row.key
+rising_above x [] row e h = elim h [ ]
 rising_above x (y ∷ l) row e (inl i) =
     let c = both (ltb x.key y.key) (rising (y ∷ l)) e in
     subst (λ (z : Port). x.key < z.key) i (ltb-true x.key y.key c.0)
@@ -20,6 +21,7 @@ rising_above x (y ∷ l) row e (inr m) =
     omega arith
 
 found_in : (other : ℕ) (l : List Port) (row : Port) → rising l ≡ true → In row l → resolve_in other l row.key ≡ row
+found_in other [] row e h = elim h [ ]
 found_in other (x ∷ l) row e (inl i) = subst (λ (z : Port). resolve_in other (x ∷ l) z.key ≡ z) i (rw (eq-eqb x.key x.key refl))
 found_in other (x ∷ l) row e (inr m) =
     let a = rising_above x l row e m in

@@ -31,11 +31,13 @@ abbrev pub ports : List Provision → List Port
 ports vs = map (λ (v : Provision). v.port) vs
 
 map_in : {A B : Type 0} (f : A → B) (l : List A) (a : A) → In a l → In (f a) (map f l)
+map_in {A = A} {B = B} f [] a h = elim h [ ]
 map_in f (x ∷ l) a (inl i) = inl (ap f i)
 map_in f (x ∷ l) a (inr m) = inr (map_in f l a m)
 
 -- S keeps values by port. So does value_in, where no two provisions are alike.
 pub value_of : (vs : List Provision) (v : Provision) → repeats (ports vs) ≡ false → In v vs → value_in v.port vs ≡ v.value
+value_of [] v e h = elim h [ ]
 value_of (w ∷ vs) v e (inl i) = subst (λ x. value_in x.port (w ∷ vs) ≡ x.value) i (rw (same_self w.port))
 value_of (w ∷ vs) v e (inr m) =
     let c = neither (is_in w.port (ports vs)) (repeats (ports vs)) e in

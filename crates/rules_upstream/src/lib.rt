@@ -1,1 +1,2 @@
 // Upstream's clauses follow from the rules: theorems alone, in specs/. No code.
+#![tactic(auto)]

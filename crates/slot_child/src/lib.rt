@@ -1,4 +1,6 @@
 // Document 01, "Child slot": a slot goes in and comes back as a plain value. A decision never changes.
+#![tactic(auto)]
+
 ghost use Rattle.std.specs.Prelude.{◌≡◌, true, []};
 ghost use Rattle.rules.specs.Outcomes.{Accepted};
 ghost use Rattle.rules.specs.Slot as rules;
@@ -7,7 +9,7 @@ ghost use Rattle.slot_child.specs.Slots.{slot_of, identity_of, is_of, decision_o
 use rules::{Done, Optional, refusal};
 
 // A child identity.
-#[derive(Drop)]
+#[derive(Clone, Copy)]
 pub struct Identity {
     pub domain: u64,
     pub parent: u64,
@@ -26,7 +28,7 @@ impl Identity {
     }
 }
 
-#[derive(Drop)]
+#[derive(Clone, Copy)]
 pub enum Decision {
     Pending,
     Assigned(Identity),
@@ -34,7 +36,7 @@ pub enum Decision {
     Cancelled,
 }
 
-#[derive(Drop)]
+#[derive(Clone, Copy)]
 pub struct Slot {
     pub domain: u64,
     pub parent: u64,
@@ -42,7 +44,7 @@ pub struct Slot {
     pub decision: Decision,
 }
 
-#[derive(Drop)]
+#[derive(Clone, Copy)]
 pub struct Decided {
     pub slot: Slot,
     pub verdict: Done,

@@ -1,4 +1,6 @@
 // A child slot as eight words that a host keeps. Any words are read as a slot; only the words that say something are written.
+#![tactic(auto)]
+
 ghost use Rattle.std.specs.Prelude.{◌≡◌};
 ghost use Rattle.rules.specs.Slot as rules;
 ghost use Rattle.rules.specs.Answers.{done_answer, option_of};

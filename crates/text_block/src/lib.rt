@@ -1,5 +1,7 @@
 // A plugin's block in the registry's text: the lines that say it, from its words. Every function takes any words; a place is read
 // modulo 32. Bytes past the text's end go nowhere and count all the same.
+#![tactic(auto)]
+
 ghost use Rattle.std.specs.Prelude.{◌≡◌, ◌%◌};
 ghost use Rattle.memory.specs.Layout.{places};
 ghost use Rattle.rules.specs.Answers.{option_of};

@@ -1,11 +1,13 @@
 // Numbers as the console and the text write and read them: decimal, without leading zeros, at most 2^64 − 1.
+#![tactic(auto)]
+
 ghost use Rattle.std.specs.Prelude.{◌≡◌, ◌≤◌, length};
 ghost use Rattle.text_form.specs.Digits.{decimal_of, over, shown, Written};
 ghost use Rattle.text_form.specs.Words.{value_from, number_of};
 ghost use Rattle.text_decimal.specs.Numbers.{read_of};
 
 // The number that a word is, if it is one.
-#[derive(Drop)]
+#[derive(Clone, Copy)]
 pub enum Decimal {
     Is(u64),
     None,
@@ -35,8 +37,8 @@ pub fn digit_count(n: u64) -> usize
 
 // The digits of the number, so many, at the front of the scratch, from the last to the first, two for each division.
 fn fill(n: u64, count: usize, scratch: &mut [u8])
-    requires fact_1 { count ≡ length (decimal_of n) }
-    requires fact_2 { count ≤ length scratch.old }
+    requires digits { count ≡ length (decimal_of n) }
+    requires room { count ≤ length scratch.old }
     ensures { scratch.new ≡ over (decimal_of n) scratch.old }
 {
     let mut left = n;

@@ -39,6 +39,7 @@ of_in x l p e = let r = first_in_lem (λ (q : Plugin). eqb q.id x) l p e in (r.0
 
 -- In a rising list each plugin is found by its id.
 rising_found : (l : List Plugin) (p : Plugin) → Rises l → In p l → of_id p.id l ≡ some p
+rising_found [] p h x'' = elim x'' [ ]
 rising_found (q ∷ l) p h (inl e) = of_first p.id q l (ap (λ (x : Plugin). x.id) e) ∙ ap some e
 rising_found (q ∷ l) p h (inr m) = let a = h.0 p m in of_other p.id q l (λ e. omega arith) ∙ rising_found l p h.1 m
 

@@ -1,5 +1,7 @@
 // How many bytes a plugin's block takes in the registry's text, told without writing it. Every function takes any words; a place is read
 // modulo 32. Lines are measured as they are written, with their values left out, and the values' digits are added.
+#![tactic(auto)]
+
 ghost use Rattle.std.specs.Prelude.{◌≡◌, ◌%◌, ◌≤◌, length};
 ghost use Rattle.rules.specs.Answers.{option_of};
 ghost use Rattle.rules.specs.Ports.{pairs};

@@ -1,5 +1,7 @@
 // The lines of the registry's text. Bytes go to a place of a lent text, and the place behind them comes back. Those past the text's
 // end go nowhere and count all the same, so that every function takes any text and any place.
+#![tactic(auto)]
+
 ghost use Rattle.std.specs.Prelude.{◌≡◌, [], ◌∷◌, ◌++◌, ◌+◌, ◌≤◌, min, length};
 ghost use Rattle.rules.specs.Basics.{last};
 ghost use Rattle.rules.specs.Answers.{option_of};

@@ -1,4 +1,6 @@
 // Reading the registry's text, line by line: a place of the text goes in, and what stands there comes back with the place behind it.
+#![tactic(auto)]
+
 ghost use Rattle.std.specs.Prelude.{◌≡◌};
 ghost use Rattle.text_form.specs.Forms.{behind};
 ghost use Rattle.text_form.specs.Lines.{line, number, number_or_none};
@@ -9,21 +11,21 @@ ghost use Rattle.text_read.specs.Answers.{PhaseRead, MarkRead, OptionRead, PairR
 use text_read_number::{Next, Number};
 
 // Tag 0 is none. The numbers of an answer are 0 where it is torn.
-#[derive(Drop)]
+#[derive(Clone, Copy)]
 pub struct NumberOrNone {
     pub tag: u64,
     pub value: u64,
     pub next: Next,
 }
 
-#[derive(Drop)]
+#[derive(Clone, Copy)]
 pub struct Pair {
     pub key: u64,
     pub realm: u64,
     pub next: Next,
 }
 
-#[derive(Drop)]
+#[derive(Clone, Copy)]
 pub struct Provision {
     pub key: u64,
     pub realm: u64,
@@ -33,7 +35,7 @@ pub struct Provision {
 }
 
 // Root 0, 1, 2 as the line says it; revision and argument are 0 unless it is 1.
-#[derive(Drop)]
+#[derive(Clone, Copy)]
 pub struct Rooted {
     pub root: u64,
     pub revision: u64,
@@ -42,7 +44,7 @@ pub struct Rooted {
 }
 
 // Edition 1 or 2 as the line says it; the default is 0 in edition 1.
-#[derive(Drop)]
+#[derive(Clone, Copy)]
 pub struct Editioned {
     pub edition: u64,
     pub default: u64,

@@ -1,4 +1,6 @@
 // A plugin's block read from the registry's text: what its lines say, as words for the memory. Every function takes any text.
+#![tactic(auto)]
+
 ghost use Rattle.std.specs.Prelude.{◌≡◌, ◌<◌, ◌≤◌, ◌^◌};
 ghost use Rattle.text_read_block.specs.Rows.{row_put, one_put};
 ghost use Rattle.text_read_block.specs.Lists.{PortsRead, RealmsRead, ProvisionsRead, mask_with};
@@ -17,7 +19,7 @@ pub const CLAIM_WORDS: usize = limits::PROVISION_KEYS * 2 + 2;
 pub const VALUE_WORDS: usize = limits::PROVISION_KEYS;
 
 // What a block says; its lists go to lent words, so that none is copied. Tag 0 is no parent; queued is 0 but for a queued root's revision.
-#[derive(Drop)]
+#[derive(Clone, Copy)]
 pub struct Block {
     pub next: Next,
     pub id: u64,
@@ -38,7 +40,7 @@ pub struct Block {
 }
 
 // The lines before the lists, the anchor last, and the place behind them.
-#[derive(Drop)]
+#[derive(Clone, Copy)]
 struct Head {
     id: u64,
     tag: u64,
@@ -56,14 +58,14 @@ struct Head {
 }
 
 // How many lines of a list were read, and the place behind them.
-#[derive(Drop)]
+#[derive(Clone, Copy)]
 struct Listed {
     count: u64,
     next: Next,
 }
 
 // The same of provisions: how many of them have a value, and which.
-#[derive(Drop)]
+#[derive(Clone, Copy)]
 struct Provided {
     count: u64,
     valued: u64,
@@ -72,7 +74,7 @@ struct Provided {
 }
 
 // What the three lists of a block come to, and the place behind them.
-#[derive(Drop)]
+#[derive(Clone, Copy)]
 struct Lists {
     realms: u64,
     dependencies: u64,

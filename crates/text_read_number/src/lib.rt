@@ -1,5 +1,7 @@
 // Names and numbers of a text: a place of the text goes in, and what stands there comes back with the place behind it. Torn goes in
 // and comes out again, so that a whole block is read as one straight line of calls.
+#![tactic(auto)]
+
 ghost use Rattle.std.specs.Prelude.{◌≡◌, true, ◌≤◌, ◌<◌, ◌+◌, ◌*◌, ◌^◌, leb, length};
 ghost use Rattle.text_form.specs.Forms.{expect};
 ghost use Rattle.text_form.specs.Words.{no_digit};
@@ -10,7 +12,7 @@ ghost use Rattle.text_read_number.specs.Answers.{NumberRead};
 ghost use Rattle.text_read_number.specs.Numbers.{stop_at, value_to};
 
 // A place of a text, or that what was to be read before it does not stand there.
-#[derive(Drop)]
+#[derive(Clone, Copy)]
 pub enum Next {
     At(usize),
     Torn,
@@ -20,7 +22,7 @@ pub enum Next {
 const LAST_TENTH: u64 = 1844674407370955161;
 
 // The value is 0 where it is torn.
-#[derive(Drop)]
+#[derive(Clone, Copy)]
 pub struct Number {
     pub value: u64,
     pub next: Next,
@@ -85,8 +87,8 @@ fn is_past(n: u64, digit: u64) -> bool
 
 // The digits behind a number, up to the byte that ends it: one pass.
 fn digits(text: &[u8], from: usize, stop: u8, value: u64) -> Number
-    requires fact_1 { from ≤ length text.now }
-    requires fact_2 { no_digit stop ≡ true }
+    requires inside { from ≤ length text.now }
+    requires stops { no_digit stop ≡ true }
     ensures { NumberRead (value_to stop value) text.now (Next.At from) result }
 {
     let mut n = value;

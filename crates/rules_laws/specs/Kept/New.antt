@@ -25,6 +25,7 @@ use Rattle.rules.specs.Limits.{max_rows, max_dependency_keys, max_provision_keys
 -- what a key resolved to resolves to itself
 resolved_in_lem : (z : Realms) (keys : List ℕ) (q : Port) → In q (map (resolve z) keys) → resolve z q.key ≡ q
 unfolding resolve
+resolved_in_lem z [] q h = elim h [ ]
 resolved_in_lem z (k ∷ keys) q (inl i) = subst (λ q. resolve z q.key ≡ q) i (ap (resolve z) (resolve_key_law z.other z.rows k))
 resolved_in_lem z (k ∷ keys) q (inr m) = resolved_in_lem z keys q m
 

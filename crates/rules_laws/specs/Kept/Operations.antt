@@ -192,12 +192,12 @@ module _ (r : Registry) where
 
   remove_lawful : (id : ℕ) → Lawful r (Remove id) (remove r id)
   unfolding remove Lawful
-  remove_lawful id = knows _ _ _ λ p e. passes _ _ _ λ c.
+  remove_lawful id = knows (Remove id) _ _ λ p e. passes (Remove id) _ _ λ c.
       (p, refl, e, record { idle = (both _ _ (not-false _ c.0)).0; childless = c.1.0 }, refl)
 
   register_lawful : (d : Definition) → Lawful r (Register d) (register r d)
   unfolding register Lawful
-  register_lawful d = passes _ _ _ λ c. (d, refl, refl, refl, new_joins r d c, refl)
+  register_lawful d = passes (Register d) _ _ λ c. (d, refl, refl, refl, new_joins r d c, refl)
 
   -- what is written to a lent buffer
   quietly : (o : Op) (u : Outcome) → act o ≡ stays → Quiet u → Lawful r o u

@@ -22,6 +22,7 @@ top f (a ∷ l) = f a + top f l
 
 below_top : (f : Plugin → ℕ) (l : List Plugin) (a : Plugin) → In a l → f a ≤ top f l
 unfolding top
+below_top f [] a h = elim h [ ]
 below_top f (x ∷ l) a (inl i) = let e : f x ≡ f a = ap f i in omega arith
 below_top f (x ∷ l) a (inr m) = let h = below_top f l a m in omega arith
 

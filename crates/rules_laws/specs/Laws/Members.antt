@@ -22,6 +22,7 @@ first_in_lem f (x ∷ l) a e = by_test (f x)
     (λ n. let r = first_in_lem f l a (rw n at e) in (inr r.0, r.1))
 
 pub first_none : {A : Type 0} (f : A → Bool) (l : List A) (a : A) → first f l ≡ none → In a l → f a ≡ false
+first_none {A = A} f [] a e h = elim h [ ]
 first_none f (x ∷ l) a e (inl i) = by_test (f x)
     (λ y. let j : some x ≡ none = rw y at e in cc)
     (λ n. subst (λ v. f v ≡ false) i n)
@@ -49,6 +50,7 @@ any_some f (x ∷ l) e = by_test (f x)
     (λ n. let s = any_some f l (rw n at e) in (s.0, inr s.1, s.2))
 
 pub any_false : {A : Type 0} (f : A → Bool) (l : List A) (a : A) → any f l ≡ false → In a l → f a ≡ false
+any_false {A = A} f [] a e h = elim h [ ]
 any_false f (x ∷ l) a e (inl i) = by_test (f x)
     (λ y. let j : true ≡ false = rw y at e in cc)
     (λ n. subst (λ v. f v ≡ false) i n)
@@ -57,6 +59,7 @@ any_false f (x ∷ l) a e (inr m) = by_test (f x)
     (λ n. any_false f l a (rw n at e) m)
 
 pub all_true : {A : Type 0} (f : A → Bool) (l : List A) (a : A) → all f l ≡ true → In a l → f a ≡ true
+all_true {A = A} f [] a e h = elim h [ ]
 all_true f (x ∷ l) a e (inl i) = subst (λ v. f v ≡ true) i (both (f x) (all f l) e).0
 all_true f (x ∷ l) a e (inr m) = all_true f l a (both (f x) (all f l) e).1 m
 
@@ -94,6 +97,7 @@ unfolding lookup
 lookup_in r x p e = (first_in_lem (λ (q : Plugin). eqb q.id x) (plugins r) p e).0
 
 pub stored_in : (ps : Places) (q a : Plugin) → In a (held (map (stored_at q) ps)) → (a ≡ q) ⊎ (In a (held ps) × (eqb q.id a.id ≡ false))
+stored_in [] q a h = elim h [ ]
 stored_in (none ∷ ps) q a m = stored_in ps q a m
 stored_in (some s ∷ ps) q a (inl i) = by_test (eqb s.id q.id)
     (λ y. let j : q ≡ a = rw y at i in inl (sym j))
@@ -102,6 +106,7 @@ stored_in (some s ∷ ps) q a (inl i) = by_test (eqb s.id q.id)
 stored_in (some s ∷ ps) q a (inr m) = ⊎_elim inl (λ w. inr (inr w.0, w.1)) (stored_in ps q a m)
 
 pub freed_in : (ps : Places) (x : ℕ) (a : Plugin) → In a (held (map (freed_at x) ps)) → In a (held ps) × (eqb x a.id ≡ false)
+freed_in [] x a h = elim h [ ]
 freed_in (none ∷ ps) x a m = freed_in ps x a m
 freed_in (some s ∷ ps) x a m = by_test (eqb s.id x)
     (λ y. let w = freed_in ps x a (rw y at m) in (inr w.0, w.1))
@@ -113,6 +118,7 @@ freed_in (some s ∷ ps) x a m = by_test (eqb s.id x)
     go n f (inr w) = let r = f w in (inr r.0, r.1)
 
 pub added_in : (ps : Places) (q a : Plugin) → In a (held (at_lowest_free q ps)) → (a ≡ q) ⊎ In a (held ps)
+added_in [] q a h = elim h [ ]
 added_in (none ∷ ps) q a (inl i) = inl (sym i)
 added_in (none ∷ ps) q a (inr m) = inr m
 added_in (some s ∷ ps) q a (inl i) = inr (inl i)

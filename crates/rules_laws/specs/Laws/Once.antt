@@ -55,11 +55,13 @@ module _ {A : Type 0} (key : A → ℕ) where
       by_test (eqb (key a) x) (λ t. rw t k) (λ f. rw f (rw (any_without x (key a) l h.0, k)))
 
   stands : (x : ℕ) (l : List A) (a : A) → any (eqb x) (map key l) ≡ false → In a l → eqb x (key a) ≡ false
+  stands x [] a e h = elim h [ ]
   stands x (b ∷ l) a e (inl i) = let h = neither (eqb x (key b)) (any (eqb x) (map key l)) e in ap (λ c. eqb x (key c)) (sym i) ∙ h.0
   stands x (b ∷ l) a e (inr m) = stands x l a (neither (eqb x (key b)) (any (eqb x) (map key l)) e).1 m
 
   -- where no number stands twice, each is found by its own
   pub found_once : (l : List A) (a : A) → twice (map key l) ≡ false → In a l → first (λ b. eqb (key b) (key a)) l ≡ some a
+  found_once [] a e h = elim h [ ]
   found_once (b ∷ l) a e (inl i) = rw (eq-eqb (key b) (key a) (ap key i)) (ap some i)
   found_once (b ∷ l) a e (inr m) =
       let h = neither (any (eqb (key b)) (map key l)) (twice (map key l)) e in

@@ -41,6 +41,7 @@ pub provides_claims : (p : Plugin) (k : Port) → provides p k ≡ is_in k (clai
 provides_claims p k = or_comm (is_in k (provided p)) (same_port k p.anchor)
 
 pub claimed : (l : List Plugin) (a : Plugin) (k : Port) → In a l → provides a k ≡ true → is_in k (claims_of l) ≡ true
+claimed [] a k h e = elim h [ ]
 claimed (p ∷ l) a k (inl i) e =
     any_append (same_port k) (claims p) (claims_of l) ∙ rw (sym (provides_claims p k) ∙ ap (λ p. provides p k) i ∙ e)
 claimed (p ∷ l) a k (inr m) e =
@@ -56,12 +57,14 @@ claimant (p ∷ l) k e = by_test (is_in k (claims p))
 
 -- each plugin's own ports are different
 pub own_apart : (l : List Plugin) → repeats (claims_of l) ≡ false → (a : Plugin) → In a l → repeats (claims a) ≡ false
+own_apart [] e a h = elim h [ ]
 own_apart (p ∷ l) e a (inl i) = subst (λ a. repeats (claims a) ≡ false) i (repeats_split (claims p) (claims_of l) e).0
 own_apart (p ∷ l) e a (inr m) = own_apart l (repeats_split (claims p) (claims_of l) e).1 a m
 
 -- two that provide a port are one
 pub one_claims : (l : List Plugin) → repeats (claims_of l) ≡ false → (a b : Plugin) (k : Port) → In a l → In b l
     → provides a k ≡ true → provides b k ≡ true → a ≡ b
+one_claims [] e a b k h _ x y = elim h [ ]
 one_claims (p ∷ l) e a b k (inl i) (inl j) x y = sym i ∙ j
 one_claims (p ∷ l) e a b k (inl i) (inr n) x y =
     absurd ((repeats_split (claims p) (claims_of l) e).2 k (sym (provides_claims p k) ∙ ap (λ p. provides p k) i ∙ x) (claimed l b k n y))
@@ -71,6 +74,7 @@ one_claims (p ∷ l) e a b k (inr m) (inr n) x y = one_claims l (repeats_split (
 
 -- no plugin has an id that is not among the ids
 pub not_among : (x : ℕ) (l : List Plugin) (a : Plugin) → any (eqb x) (ids_of l) ≡ false → In a l → x ≡ a.id → ⊥
+not_among x [] a e h j = elim h [ ]
 not_among x (q ∷ l) a e (inl i) j =
     eqb-false x q.id (neither (eqb x q.id) (any (eqb x) (ids_of l)) e).0 (j ∙ ap (λ (v : Plugin). v.id) (sym i))
 not_among x (q ∷ l) a e (inr m) j = not_among x l a (neither (eqb x q.id) (any (eqb x) (ids_of l)) e).1 m j

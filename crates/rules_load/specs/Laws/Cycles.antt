@@ -41,6 +41,7 @@ only_fewer f [] = le_refl _
 only_fewer f (x ∷ l) = let h = only_fewer f l in by_test (f x) (λ y. rw y (omega arith)) (λ n. rw n (omega arith))
 
 pub only_less : {A : Type 0} (f : A → Bool) (l : List A) (a : A) → In a l → f a ≡ false → length (only f l) < length l
+only_less {A = A} f [] a h e = elim h [ ]
 only_less f (x ∷ l) a (inl i) e = let h = only_fewer f l in rw (ap f i ∙ e) (omega arith)
 only_less f (x ∷ l) a (inr m) e = let h = only_less f l a m e in by_test (f x) (λ y. rw y (omega arith)) (λ n. rw n (omega arith))
 

@@ -40,6 +40,7 @@ rises_behind f n [] m e = e
 rises_behind f n (p ∷ l) m e = rises_behind (p.id + 1) n l m (both (leb f p.id) (ids_rise (p.id + 1) n (l ++ m)) e).1
 
 rises_above : (f n : ℕ) (l : List Plugin) → ids_rise f n l ≡ true → (a : Plugin) → In a l → f ≤ a.id
+rises_above f n [] e a h = elim h [ ]
 rises_above f n (p ∷ l) e a (inl i) =
     let w = leb-true f p.id (both (leb f p.id) (ids_rise (p.id + 1) n l) e).0 in
     let j : p.id ≡ a.id = ap (λ (v : Plugin). v.id) i in
@@ -59,6 +60,7 @@ rises_from f n (p ∷ l) m e =
     omega arith
 
 rises_below : (f n : ℕ) (l m : List Plugin) → ids_rise f n (l ++ m) ≡ true → (a : Plugin) → In a l → a.id < behind_ids f l
+rises_below f n [] m e a h = elim h [ ]
 rises_below f n (p ∷ l) m e a (inl i) =
     let h = rises_from (p.id + 1) n l m (both (leb f p.id) (ids_rise (p.id + 1) n (l ++ m)) e).1 in
     let j : p.id ≡ a.id = ap (λ (v : Plugin). v.id) i in

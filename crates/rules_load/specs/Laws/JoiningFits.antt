@@ -113,6 +113,7 @@ all_rows from done (p ∷ l) few e rows =
 
 -- Everyone of a list has those before it.
 split_at : (l : List Plugin) (a : Plugin) → In a l → (done : List Plugin) × (rest : List Plugin) × (l ≡ done ++ a ∷ rest)
+split_at [] a h = elim h [ ]
 split_at (p ∷ l) a (inl i) = ([], l, ap (λ v. v ∷ l) i)
 split_at (p ∷ l) a (inr m) = let s = split_at l a m in (p ∷ s.0, s.1, ap (λ v. p ∷ v) s.2)
 

@@ -12,6 +12,7 @@ module _ {A : Type 0} where
   all_intro f (x ∷ l) h = rw (h x (inl refl), all_intro f l (λ a m. h a (inr m)))
 
   pub any_intro : (f : A → Bool) (l : List A) (a : A) → In a l → f a ≡ true → any f l ≡ true
+  any_intro f [] a h e = elim h [ ]
   any_intro f (x ∷ l) a (inl i) e = rw (ap f i ∙ e)
   any_intro f (x ∷ l) a (inr m) e = rw (any_intro f l a m e) (or-true (f x))
 
@@ -21,6 +22,7 @@ module _ {A : Type 0} where
 
   -- those that pass
   pub only_in : (f : A → Bool) (l : List A) (a : A) → In a (only f l) → In a l × (f a ≡ true)
+  only_in f [] a h = elim h [ ]
   only_in f (x ∷ l) a m = by_test (f x)
       (λ y. go y (only_in f l a) (rw y at m))
       (λ n. let s = only_in f l a (rw n at m) in (inr s.0, s.1))
@@ -30,6 +32,7 @@ module _ {A : Type 0} where
       go y h (inr k) = let s = h k in (inr s.0, s.1)
 
   pub in_only : (f : A → Bool) (l : List A) (a : A) → In a l → f a ≡ true → In a (only f l)
+  in_only f [] a h e = elim h [ ]
   in_only f (x ∷ l) a (inl i) e = rw (ap f i ∙ e) (inl i)
   in_only f (x ∷ l) a (inr m) e = by_test (f x)
       (λ y. rw y (inr (in_only f l a m e)))

@@ -23,6 +23,7 @@ module _ (n : ℕ) where
       omega arith
 
   pub rises_within : (f : ℕ) (l : List Plugin) → ids_rise f n l ≡ true → (a : Plugin) → In a l → (f ≤ a.id) × (a.id < n)
+  rises_within f [] e a h = elim h [ ]
   rises_within f (p ∷ l) e a (inl i) =
       let w = both (leb f p.id) (ids_rise (p.id + 1) n l) e in
       let h = rises_end (p.id + 1) l w.1 in

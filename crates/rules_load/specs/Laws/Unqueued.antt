@@ -152,6 +152,7 @@ moved_loadable d s e =
 
 -- a plugin of the moved text is one of the text, but for its root
 pub was : (l : List Plugin) (a : Plugin) → In a (map unqueued l) → (b : Plugin) × In b l × (unqueued b ≡ a)
+was [] a h = elim h [ ]
 was (p ∷ l) a (inl i) = (p, inl refl, i)
 was (p ∷ l) a (inr m) = let w = was l a m in (w.0, inr w.1, w.2)
 

@@ -1,0 +1,14 @@
+-- `list_behind` meets its contract: the next word is the name, and its list is what `numbers` gathers, or the list is missing.
+use Rattle.std.proofs.Common.{sym, ◌∙◌}
+use Rattle.console_definition.proofs.Definitions.{list_here, list_missing}
+use Rattle.console_definition.proofs.list_behind.Goals as goal
+
+pub returns-then-is_word : goal.returns-then-is_word
+returns-then-is_word c =
+    list_here c.args.bytes.now c.args.from c.next_word-word.result c.next_word-word.ensures.word c.args.name.now
+    c.args.numbers.now _ c.numbers-run.result (sym c.is_word.ensures ∙ c.if-is_word.true) c.numbers-run.ensures
+
+pub returns : goal.returns
+returns c =
+    list_missing c.args.bytes.now c.args.from c.next_word-word.result c.next_word-word.ensures.word c.args.name.now c.args.numbers.now
+    (sym c.is_word.ensures ∙ c.if-is_word.false)

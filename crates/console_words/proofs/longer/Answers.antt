@@ -1,0 +1,13 @@
+-- `longer` meets its contract: a line with room gets the byte, and any other stays and counts as too long.
+use Rattle.console_words.proofs.Bytes.{one_more_lem, line_with, too_many, line_stays}
+use Rattle.console_words.proofs.longer.Goals as goal
+
+pub returns-then-filled-lt-LINE : goal.returns-then-filled-lt-LINE
+returns-then-filled-lt-LINE c =
+    let x = c.args in
+    (one_more_lem x.filled c.if-filled-lt-LINE.true, line_with x.line.now x.filled x.byte c.if-filled-lt-LINE.true)
+
+pub returns : goal.returns
+returns c =
+    let x = c.args in
+    (too_many x.filled c.if-filled-lt-LINE.false, line_stays x.line.now x.filled x.byte c.if-filled-lt-LINE.false)

@@ -1,0 +1,19 @@
+-- `bits_without` meets its contract: from the last row to the first.
+use Rattle.std.proofs.Common.{arith, ◌≡◌, ⊎_elim}
+use Rattle.memory_keys.proofs.Laws.{seen_none, seen_all, seen_there, seen_next}
+use Rattle.memory_keys.proofs.bits_without.Goals as goal
+
+pub loop-row-init : goal.loop-row-init
+loop-row-init c = seen_none _ _ _ _ (omega arith) (omega arith)
+
+pub returns-then-ports-row : goal.returns-then-ports-row
+returns-then-ports-row c = seen_there _ _ _ _ _ c.loop-row.invariant (omega arith) c.if-other-key.true c.if-ports-row.true
+
+pub loop-row-preserved : goal.loop-row-preserved
+loop-row-preserved c =
+    seen_next _ _ _ _ _ c.loop-row.invariant (omega arith) (⊎_elim (λ w e f. w.2.left f) (λ w e f. w.left e) c.if-other-key.branch) _ c.with_bit-bits.ensures
+
+pub returns : goal.returns
+returns c =
+    let e : c.loop-row.row ≡ 0 = omega arith in
+    seen_all _ _ _ _ (rw e at c.loop-row.invariant)

@@ -1,0 +1,10 @@
+-- `bits_without` meets its contract: from the last row to the first.
+use Rattle.rules.specs.Holds.{port}
+use Rattle.memory_keys.proofs.Laws.{Seen}
+use Rattle.memory_keys.proofs.bits_without.Given as goal
+
+abbrev pub invariant-loop-row : goal.invariant-loop-row
+invariant-loop-row l = Seen l.word l.ports (port l.key l.realm) l.row l.bits
+
+abbrev pub decreases-loop-row : goal.decreases-loop-row
+decreases-loop-row l = l.row

@@ -1,0 +1,16 @@
+-- `provides` meets its contract: the anchor, then the provisions.
+use Rattle.std.proofs.Common.{◌%◌, ⊎_elim}
+use Rattle.rules.specs.Holds.{port}
+use Rattle.memory.specs.Layout.{places}
+use Rattle.memory_providers.proofs.Laws.{provides_anchor, provides_provision}
+use Rattle.memory_providers.proofs.provides.Goals as goal
+
+pub returns-then-realm-anchor : goal.returns-then-realm-anchor
+returns-then-realm-anchor c =
+    let a = c.args in
+    provides_anchor a.m.now (a.place % places) (port a.key a.realm) _ c.anchor-anchor.ensures c.if-key-anchor.true c.if-realm-anchor.true
+
+pub returns : goal.returns
+returns c =
+    provides_provision _ _ _ _ c.anchor-anchor.ensures (⊎_elim (λ t e f. t.2.left f) (λ t e f. t.left e) c.if-key-anchor.branch) _
+    c.provision_words.ensures _ c.has_port.ensures

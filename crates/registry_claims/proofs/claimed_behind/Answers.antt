@@ -1,0 +1,35 @@
+-- `claimed_behind` meets its contract: the port is claimed from `place` on exactly if it is from i on.
+use Rattle.std.proofs.Common.{◌+◌, arith, ⊎_elim, ◌≡◌, refl, sym, ap, ◌∙◌}
+use Rattle.rules.specs.Holds.{port, is_in}
+use Rattle.registry_claims.specs.Behind.{claims_from}
+use Rattle.registry_claims.proofs.Behind.{claims_end, claims_free, claimed_here, claimed_behind_lem}
+use Rattle.registry_claims.proofs.claimed_behind.Goals as goal
+
+pub loop-i-init : goal.loop-i-init
+loop-i-init c = refl
+
+pub returns-then-provides : goal.returns-then-provides
+returns-then-provides c =
+    let a = c.args in
+    let m = a.m.now in
+    let y = claimed_here m c.loop-i.i (omega arith) (sym c.is_taken.ensures ∙ c.if-is_taken.true) (port a.key a.realm)
+    (sym c.provides.ensures ∙ c.if-provides.true) in
+    sym (c.loop-i.invariant ∙ y)
+
+pub loop-i-preserved : goal.loop-i-preserved
+loop-i-preserved c =
+    let a = c.args in
+    let m = a.m.now in
+    let i = c.loop-i.i in
+    let q = port a.key a.realm in
+    let t = sym c.is_taken.ensures in
+    c.loop-i.invariant
+    ∙ ⊎_elim {C = is_in q (claims_from m i) ≡ is_in q (claims_from m (i + 1))}
+    (λ w. claimed_behind_lem m i (omega arith) (t ∙ w.0.taken) q (sym w.1.ensures ∙ w.2.left))
+    (λ w. ap (is_in q) (claims_free m i (omega arith) (t ∙ w.left)))
+    c.if-is_taken.branch
+
+pub returns : goal.returns
+returns c =
+    let a = c.args in
+    sym (c.loop-i.invariant ∙ ap (is_in (port a.key a.realm)) (claims_end a.m.now c.loop-i.i (omega arith)))

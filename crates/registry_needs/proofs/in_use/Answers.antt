@@ -1,0 +1,47 @@
+-- `in_use` meets its contract: what is left to look at has a user where all places have one.
+use Rattle.std.proofs.Common.{◌+◌, ◌-◌, ◌%◌, arith, ◌≡◌, sym, ◌∙◌, ⊎_elim}
+use Rattle.memory.specs.Layout.{places}
+use Rattle.memory_places.specs.Any.{any_from, any_plugins, any_end, any_free, any_here, any_not}
+use Rattle.registry_needs.specs.Users.{user_at}
+use Rattle.registry_needs.proofs.Laws.{own_place}
+use Rattle.registry_needs.proofs.in_use.Goals as goal
+
+pub loop-i-init : goal.loop-i-init
+loop-i-init c =
+    let a = c.args in
+    (omega arith, c.known.ensures, c.offered_words-ports.ensures, c.key_bits-bits.ensures, any_plugins (user_at a.m.now (a.place % places)) a.m.now)
+
+pub returns-then-is_user : goal.returns-then-is_user
+returns-then-is_user c =
+    let a = c.args in
+    let m = a.m.now in
+    let p = a.place % places in
+    let i = c.loop-i.i in
+    let v = c.loop-i.invariant in
+    let h = c.loop-i-test.true in
+    sym (v.4 ∙ any_here (user_at m p) m i h _ (sym c.is_taken.ensures ∙ c.if-is_taken.true)
+    (own_place m p v.1 _ v.2 _ v.3 i h _ c.is_user.ensures) c.if-is_user.true)
+
+pub loop-i-preserved : goal.loop-i-preserved
+loop-i-preserved c =
+    let a = c.args in
+    let m = a.m.now in
+    let p = a.place % places in
+    let i = c.loop-i.i in
+    let v = c.loop-i.invariant in
+    let h = c.loop-i-test.true in
+    let t = sym c.is_taken.ensures in (
+      omega arith,
+      v.1,
+      v.2,
+      v.3,
+      v.4
+          ∙ ⊎_elim {C = any_from (user_at m p) (places - i) m i ≡ any_from (user_at m p) (places - (i + 1)) m (i + 1)}
+          (λ w. any_not (user_at m p) m i h _ (t ∙ w.0.taken) (own_place m p v.1 _ v.2 _ v.3 i h _ w.1.ensures) w.2.left)
+          (λ w. any_free (user_at m p) m i h (t ∙ w.left)) c.if-is_taken.branch,
+    )
+
+pub returns : goal.returns
+returns c =
+    let a = c.args in
+    sym (c.loop-i.invariant.4 ∙ any_end (user_at a.m.now (a.place % places)) a.m.now c.loop-i.i c.loop-i-test.false)

@@ -1,0 +1,33 @@
+-- `has_children` meets its contract: what is left to look at has a child where all places have one.
+use Rattle.std.proofs.Common.{◌≡◌, sym, ◌∙◌, ⊎_elim, ◌+◌, ◌-◌, arith}
+use Rattle.rules.specs.Retirement.{is_child_of}
+use Rattle.memory.specs.Layout.{places}
+use Rattle.memory_places.specs.Any.{any_from, any_plugins, any_end, any_free, any_here, any_never}
+use Rattle.registry_remove.specs.Laws.{named}
+use Rattle.registry_remove.proofs.has_children.Goals as goal
+
+pub loop-i-init : goal.loop-i-init
+loop-i-init c = (omega arith, any_plugins _ _)
+
+pub returns-then-is_taken : goal.returns-then-is_taken
+returns-then-is_taken c =
+    let a = c.args in
+    let h = c.loop-i-test.true in
+    sym (c.loop-i.invariant.1 ∙ any_here (is_child_of a.id) a.m.now c.loop-i.i h _ (sym c.is_taken.ensures ∙ c.if-is_taken.true)
+    (named a.m.now a.id c.loop-i.i h _ c.is_child_of.ensures) c.if-is_child_of.true)
+
+pub loop-i-preserved : goal.loop-i-preserved
+loop-i-preserved c =
+    let m = c.args.m.now in
+    let id = c.args.id in
+    let i = c.loop-i.i in
+    let h = c.loop-i-test.true in
+    let n = named m id i h _ c.is_child_of.ensures in (
+      omega arith,
+      c.loop-i.invariant.1
+          ∙ ⊎_elim {C = any_from (is_child_of id) (places - i) m i ≡ any_from (is_child_of id) (places - (i + 1)) m (i + 1)}
+          (λ w. any_free (is_child_of id) m i h (sym w.1.ensures ∙ w.2.left)) (λ w. any_never (is_child_of id) m i h _ n w.left) c.if-is_child_of.branch,
+    )
+
+pub returns : goal.returns
+returns c = sym (c.loop-i.invariant.1 ∙ any_end _ _ _ c.loop-i-test.false)

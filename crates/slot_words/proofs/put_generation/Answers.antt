@@ -1,0 +1,11 @@
+-- `put_generation` meets its contract. Assumes nothing.
+use Rattle.slot_words.specs.Words.{put_generation}
+use Rattle.slot_words.proofs.put_generation.Goals as goal
+
+pub returns-in-Is : goal.returns-in-Is
+unfolding put_generation
+returns-in-Is c = rw c.in-Is.is
+
+pub returns-in-None : goal.returns-in-None
+unfolding put_generation
+returns-in-None c = rw c.in-None.is

@@ -1,0 +1,9 @@
+-- The digits and the line's end, or `none`.
+use Rattle.std.proofs.Common.{arith, []}
+use Rattle.text_length.proofs.Laws.{number_length}
+use Rattle.text_length.proofs.number_or_none.Goals as goal
+
+pub returns-in-Is : goal.returns-in-Is
+returns-in-Is c =
+    let value = c.value-1.given in
+    rw value.1 (omega (arith, number_length [] value.0.0), omega arith)

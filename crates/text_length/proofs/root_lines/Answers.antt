@@ -1,0 +1,10 @@
+-- Each case's two lines.
+use Rattle.std.proofs.Common.{arith}
+use Rattle.text_form.specs.Bytes.{bytes}
+use Rattle.text_length.proofs.Laws.{pair_length}
+use Rattle.text_length.proofs.root_lines.Goals as goal
+
+pub returns-in-Queued : goal.returns-in-Queued
+returns-in-Queued c =
+    let root = c.root-1.given in
+    rw root.1 (omega (arith, pair_length (bytes "root=1\nqueued=") root.0.0 root.0.1.0), omega arith)

@@ -1,0 +1,6 @@
+-- The name, then the value.
+use Rattle.text_lines.specs.Laid.{laid_then}
+use Rattle.text_lines.proofs.number_line.Goals as goal
+
+pub returns : goal.returns
+returns c = laid_then c.put-value.ensures c.number.ensures
