@@ -91,6 +91,7 @@ reached_search other k rows = of (halved k rows) refl (halved_short (length rows
     only q e row i y = alone (is_in_lem row (q ∷ []) (sym (found row (q ∷ []) e i) ∙ y))
       where
         alone : In row (q ∷ []) → row ≡ q
+        alone (mathlib.Core.Logic.inr h) = elim h [ ]
         alone (inl j) = sym j
 
     apart : (q : Port) → eqb q.key k ≡ false → (row : Port) → row.key ≡ k → eqb row.key q.key ≡ false

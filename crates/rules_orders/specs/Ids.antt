@@ -1,6 +1,6 @@
 -- Lists of ids: which are in them, how many can be different, and the lowest that passes a test.
 use Rattle.std.specs.Prelude.{ℕ, suc, ◌≤◌, ◌<◌, ◌≡◌, refl, Bool, true, false, List, [], ◌∷◌, ◌++◌, ◌⊎◌, eqb, ltb, length}
-use Rattle.std.proofs.Common.{arith, sym, ap, ◌∙◌, true≢false, inl, inr, ⊎_elim, eqb-true, eq-eqb, ne_eqb, ltb-true, ltb-false}
+use Rattle.std.proofs.Common.{arith, sym, ap, ◌∙◌, true≢false, inl, inr, ⊎_elim, eqb-true, eq-eqb, ne_eqb, ltb-true, ltb-false, subst}
 use Rattle.std.proofs.Math.Bool.{or-true}
 use Rattle.std.proofs.Math.Option.{Option, none, some}
 use Rattle.rules.specs.Basics.{pick, all, twice}
@@ -111,8 +111,8 @@ module _ (f : ℕ → Bool) (x : ℕ) (l : List ℕ) where
       go y p (inl e) = omega arith
       go y p (inr h) = absurd (true≢false (sym p ∙ w y h))
   taken (some z) t w = by_test (ltb x z)
-      (λ b. rw b (named_head x l, t, λ y h p. below y p (ltb-true x z b) (named_cases y x l h)))
-      (λ b. rw b (named_tail z x l w.0, w.1, λ y h p. above y p (ltb-false x z b) (named_cases y x l h)))
+      (λ b. subst (λ (v : Bool). Lowest f (x ∷ l) (some (pick v x z))) (sym b) (named_head x l, t, λ y h p. below y p (ltb-true x z b) (named_cases y x l h)))
+      (λ b. subst (λ (v : Bool). Lowest f (x ∷ l) (some (pick v x z))) (sym b) (named_tail z x l w.0, w.1, λ y h p. above y p (ltb-false x z b) (named_cases y x l h)))
     where
       below : (y : ℕ) → f y ≡ true → x < z → (y ≡ x) ⊎ (named y l ≡ true) → x ≤ y
       below y p b (inl e) = omega arith

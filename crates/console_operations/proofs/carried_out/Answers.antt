@@ -24,4 +24,4 @@ unfolding place_among
 returns-in_default c =
     let x = c.args in
     same x.m.now x.out.now _ _ _ _ _ (no_more x.place x.l.now _ _ _ _ _ c.nth-a.ensures c.nth-b.ensures c.nth-c.ensures
-    c.nth-d.ensures c.nth-e.ensures c.in_default.rest) c.step.ensures
+    c.nth-d.ensures c.nth-e.ensures c.in_default-own.rest) c.step.ensures

@@ -84,4 +84,4 @@ pub returns-in_default : goal.returns-in_default
 unfolding place_among
 returns-in_default c =
     let x = c.args in
-    no_question x.place (three x.a x.b x.c) x.m.now x.out.now c.in_default.rest
+    no_question x.place (three x.a x.b x.c) x.m.now x.out.now c.in_default-own.rest

@@ -101,4 +101,4 @@ pub returns-in_default : goal.returns-in_default
 unfolding place_among
 returns-in_default c =
     let x = c.args in
-    no_step x.place x.a x.b x.c x.d x.e x.m.now x.out.now _ _ c.in_default.rest c.question.ensures
+    no_step x.place x.a x.b x.c x.d x.e x.m.now x.out.now _ _ c.in_default-own.rest c.question.ensures

@@ -3,4 +3,4 @@ use Rattle.memory_life.proofs.Codes.{phase_rest}
 use Rattle.memory_life.proofs.phase_of.Goals as goal
 
 pub returns-in_default : goal.returns-in_default
-returns-in_default c = phase_rest _ c.in_default.rest.0.0.1 c.in_default.rest.0.1 c.in_default.rest.1
+returns-in_default c = phase_rest _ c.in_default-own.rest.0.0.1 c.in_default-own.rest.0.1 c.in_default-own.rest.1

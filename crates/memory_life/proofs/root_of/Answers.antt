@@ -6,4 +6,4 @@ pub returns-in-1 : goal.returns-in-1
 returns-in-1 c = rw c.in-1.is
 
 pub returns-in_default : goal.returns-in_default
-returns-in_default c = root_rest _ _ _ c.in_default.rest.0.1 c.in_default.rest.1
+returns-in_default c = root_rest _ _ _ c.in_default-own.rest.0.1 c.in_default-own.rest.1

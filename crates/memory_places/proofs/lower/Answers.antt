@@ -5,17 +5,17 @@ use Rattle.memory_places.proofs.lower.Goals as goal
 
 pub returns-then-number-id : goal.returns-then-number-id
 returns-then-number-id c =
-    lower_id _ _ _ _ c.requires _ c.id-id.ensures c.id-id.type-inv c.if-id-other.true
+    lower_id _ _ _ _ c.requires _ c.id-id.ensures c.id-id.type_inv c.if-id-other.true
     (sym c.is_taken.ensures ∙ c.if-is_taken.true) (omega (arith, c.if-number-id.true))
 
 pub returns-else-number-id : goal.returns-else-number-id
 returns-else-number-id c =
-    lower_under _ _ _ _ c.requires _ c.id-id.ensures c.id-id.type-inv
+    lower_under _ _ _ _ c.requires _ c.id-id.ensures c.id-id.type_inv
     (sym c.is_taken.ensures ∙ c.if-is_taken.true) (omega (arith, c.if-number-id.false))
 
 pub returns-else-is_taken : goal.returns-else-is_taken
 returns-else-is_taken c =
-    lower_free _ _ _ _ c.requires _ c.id-id.ensures c.id-id.type-inv (sym c.is_taken.ensures ∙ c.if-is_taken.false)
+    lower_free _ _ _ _ c.requires _ c.id-id.ensures c.id-id.type_inv (sym c.is_taken.ensures ∙ c.if-is_taken.false)
 
 pub returns-else-id-other : goal.returns-else-id-other
-returns-else-id-other c = lower_over _ _ _ _ c.requires _ c.id-id.ensures c.id-id.type-inv c.if-id-other.false
+returns-else-id-other c = lower_over _ _ _ _ c.requires _ c.id-id.ensures c.id-id.type_inv c.if-id-other.false

@@ -1,8 +1,9 @@
 -- The port is not among those from a row on.
-use Rattle.std.proofs.Common.{◌-◌, ◌*◌, ◌/◌, arith, ⊎_elim, ◌≡◌, sym, ap, ◌∙◌, length}
+use Rattle.std.proofs.Common.{◌-◌, ◌*◌, ◌/◌, arith, ◌≡◌, sym, ap, ◌∙◌, length}
 use Rattle.rules.specs.Holds.{port, is_in}
 use Rattle.ports.specs.Places.{pairs_before, pairs_end, in_hit, in_miss, in_later}
 use Rattle.ports.proofs.has_port.Goals as goal
+use Rattle.ports.proofs.has_port.Goals.{then-ports-row+else-ports-row-2, else-ports-row}
 
 pub loop-row-init : goal.loop-row-init
 loop-row-init c =
@@ -24,7 +25,7 @@ loop-row-preserved c =
     let n = c.loop-row.row in
     let q = port a.key a.realm in
     let s = pairs_before a.ports.now n (n * 2 - 2) (n * 2 - 1) (omega arith) (omega arith) (omega arith) in
-    (omega arith, in_miss s q (⊎_elim (λ w e f. w.2.left f) (λ w e f. w.left e) c.if-ports-row.branch) ∙ c.loop-row.invariant.1)
+    (omega arith, in_miss s q (elim c.if-ports-row.branch [ then-ports-row+else-ports-row-2 w ↦ λ e f. w.if-ports-row-2.false f | else-ports-row w ↦ λ e f. w.if-ports-row.false e ]) ∙ c.loop-row.invariant.1)
 
 pub returns : goal.returns
 returns c = let z : c.loop-row.row ≡ 0 = omega arith in sym (rw z at c.loop-row.invariant.1)

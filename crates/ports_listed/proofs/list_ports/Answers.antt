@@ -29,4 +29,4 @@ returns c =
     let n = length_pairs l in
     let w = c.put_pairs in
     let h : p ≤ length b = omega arith in
-    rw (fits (pairs l) p b h (omega arith), n) (refl, whole b (flat (pairs l)) w.new.1.0 p h w.ensures)
+    rw (fits (pairs l) p b h (omega arith), n) (refl, whole b (flat (pairs l)) w.new.out p h w.ensures)

@@ -1,5 +1,5 @@
 -- The digits counted so far and those of what is left are the number's.
-use Rattle.std.proofs.Common.{arith}
+use Rattle.std.proofs.Common.{arith, rules}
 use Rattle.text_form.specs.Writing.{digits_some, digits_four, digits_least, digits_exactly, digits_room}
 use Rattle.text_decimal.proofs.digit_count.Goals as goal
 
@@ -10,7 +10,7 @@ pub loop-left-preserved : goal.loop-left-preserved
 loop-left-preserved c =
     let l = c.loop-left in
     let four = digits_four l.left c.loop-left-test.true in
-    let most = digits_room c.args.n c.ranges.n in
+    let most = digits_room c.args.n (search rules) in
     (omega arith, omega arith)
 
 pub returns-then-left-lt10 : goal.returns-then-left-lt10

@@ -1,5 +1,5 @@
 -- A short scratch stays; in another a number below 10 is its one digit, and the counted digits of any other are filled in: at most 20.
-use Rattle.std.proofs.Common.{sym, ap, arith, length}
+use Rattle.std.proofs.Common.{sym, ap, arith, length, ◌<◌, ◌^◌, rules}
 use Rattle.text_form.specs.Writing.{digits_one, digits_room, first_stored, too_short, long_enough}
 use Rattle.text_decimal.proofs.write_digits.Goals as goal
 
@@ -14,7 +14,8 @@ returns-then-n-lt10 c =
 
 pub fill-requires : goal.fill-requires
 fill-requires c =
-    (c.digit_count-count.ensures, omega (arith, c.digit_count-count.ensures, digits_room c.args.n c.ranges.n))
+    let fits : c.args.n < 2 ^ 64 = search rules in
+    record { digits = c.digit_count-count.ensures; room = omega (arith, c.digit_count-count.ensures, digits_room c.args.n fits) }
 
 pub returns : goal.returns
 returns c = long_enough c.args.n c.args.scratch.now _ _ (omega arith) c.digit_count-count.ensures c.fill.ensures

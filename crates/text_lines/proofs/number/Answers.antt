@@ -1,5 +1,5 @@
 -- The part of the scratch is the number's digits, and the ending byte is laid behind them. Past the end, the digits are counted.
-use Rattle.std.proofs.Common.{sym, [], ◌∷◌, arith, length-append}
+use Rattle.std.proofs.Common.{sym, [], ◌∷◌, arith, length-append, rules}
 use Rattle.text_form.specs.Digits.{decimal_of}
 use Rattle.text_form.specs.Writing.{digits_room}
 use Rattle.text_lines.specs.Laid.{laid_past, laid_then}
@@ -7,7 +7,7 @@ use Rattle.text_lines.proofs.Laws.{one_laid}
 use Rattle.text_lines.proofs.number.Goals as goal
 
 pub overflow_add-digit_count : goal.overflow_add-digit_count
-overflow_add-digit_count c = omega (arith, c.digit_count.ensures, digits_room c.args.n c.ranges.n)
+overflow_add-digit_count c = omega (arith, c.digit_count.ensures, digits_room c.args.n (search rules))
 
 pub returns-then-text-at : goal.returns-then-text-at
 returns-then-text-at c =

@@ -11,10 +11,10 @@ pub returns-in_default : goal.returns-in_default
 returns-in_default c =
     let pair = key_realm_lem c.to_comma-key.ensures.reads c.to_end-realm.ensures.reads in
     let line = behind_next c.args.name.now key_realm c.literal-value.ensures pair in
-    record { reads = torn_any (reads_at line c.in_default.is) (port 0 0); (goal.at.returns-in_default c).After-to_comma-key = refl }
+    record { reads = torn_any (reads_at line c.in_default.is) (port 0 0); one = refl }
 
 pub returns : goal.returns
 returns c =
     let pair = key_realm_lem c.to_comma-key.ensures.reads c.to_end-realm.ensures.reads in
     let line = behind_next c.args.name.now key_realm c.literal-value.ensures pair in
-    record { reads = reads_at line c.in-At.is; (goal.at.returns c).After-to_comma-key = refl }
+    record { reads = reads_at line c.in-At.is; one = refl }

@@ -13,11 +13,11 @@ returns-in_default c =
     let line =
     behind_next c.args.name.now key_realm_value c.literal-first.ensures
     (key_realm_value_lem c.to_comma-key.ensures.reads c.to_comma-realm.ensures.reads c.number_or_none-value.ensures.reads) in
-    record { reads = torn_any (reads_at line c.in_default.is) (record { port = port 0 0; value = none }); (goal.at.returns-in_default c).After-to_comma-key = refl }
+    record { reads = torn_any (reads_at line c.in_default.is) (record { port = port 0 0; value = none }); one = refl }
 
 pub returns : goal.returns
 returns c =
     let line =
     behind_next c.args.name.now key_realm_value c.literal-first.ensures
     (key_realm_value_lem c.to_comma-key.ensures.reads c.to_comma-realm.ensures.reads c.number_or_none-value.ensures.reads) in
-    record { reads = reads_at line c.in-At.is; (goal.at.returns c).After-to_comma-key = provision_said_lem _ _ c.number_or_none-value.ensures.one c.in-At.is _ _ }
+    record { reads = reads_at line c.in-At.is; one = provision_said_lem _ _ c.number_or_none-value.ensures.one c.in-At.is _ _ }

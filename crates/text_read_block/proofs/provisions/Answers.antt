@@ -50,10 +50,10 @@ overflow_add-valued c =
     let room = valued_room a.text.now a.at a.claims.now a.values.now _ c.number_line-count.ensures _
     c.in-At.is _ _ _ _ _ _ c.loop-i.invariant.0 _
     c.provision_line-line.ensures _ c.in-At-end.is c.loop-i-test.true in
-    omega (arith, room, c.number_line-count.type-inv)
+    omega (arith, room, c.number_line-count.type_inv)
 
 pub overflow_add-i-in-loop-i : goal.overflow_add-i-in-loop-i
-overflow_add-i-in-loop-i c = omega (arith, c.loop-i-test.true, c.number_line-count.type-inv)
+overflow_add-i-in-loop-i c = omega (arith, c.loop-i-test.true, c.number_line-count.type_inv)
 
 pub loop-i-preserved : goal.loop-i-preserved
 loop-i-preserved c =
