@@ -1,5 +1,5 @@
 -- `carried_out` meets its contract: the two operations with a list of numbers are told apart, and for all others `step` promises it.
-use Rattle.std.proofs.Common.{refl}
+use Rattle.std.proofs.Common.{rules, refl}
 use Rattle.console_names.specs.Names.{place_among}
 use Rattle.console_operations.specs.Carried.{same}
 use Rattle.console_operations.proofs.Laws.{matches_asked, resolve_asked, no_more}
@@ -24,4 +24,4 @@ unfolding place_among
 returns-in_default c =
     let x = c.args in
     same x.m.now x.out.now _ _ _ _ _ (no_more x.place x.l.now _ _ _ _ _ c.nth-a.ensures c.nth-b.ensures c.nth-c.ensures
-    c.nth-d.ensures c.nth-e.ensures c.in_default-own.rest) c.step.ensures
+    c.nth-d.ensures c.nth-e.ensures (search rules)) c.step.ensures

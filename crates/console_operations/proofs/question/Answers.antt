@@ -1,4 +1,5 @@
 -- `question` meets its contract: each arm's place names the question that its call answers, and any other place asks for nothing here.
+use Rattle.std.proofs.Common.{rules}
 use Rattle.rules.specs.Queries.{RowsInUse, Registered, NextId}
 use Rattle.rules.specs.Steps.{Ask}
 use Rattle.rules.specs.Questions.{AskRegistry}
@@ -84,4 +85,4 @@ pub returns-in_default : goal.returns-in_default
 unfolding place_among
 returns-in_default c =
     let x = c.args in
-    no_question x.place (three x.a x.b x.c) x.m.now x.out.now c.in_default-own.rest
+    no_question x.place (three x.a x.b x.c) x.m.now x.out.now (search rules)

@@ -1,5 +1,5 @@
 -- `step` meets its contract: each arm's place names the operation that its call does, and any other place is left to `question`.
-use Rattle.std.proofs.Common.{refl}
+use Rattle.std.proofs.Common.{rules, refl}
 use Rattle.console_names.specs.Names.{place_among}
 use Rattle.console_names.specs.Table.{operation_at}
 use Rattle.console_operations.specs.Asked.{five}
@@ -101,4 +101,4 @@ pub returns-in_default : goal.returns-in_default
 unfolding place_among
 returns-in_default c =
     let x = c.args in
-    no_step x.place x.a x.b x.c x.d x.e x.m.now x.out.now _ _ c.in_default-own.rest c.question.ensures
+    no_step x.place x.a x.b x.c x.d x.e x.m.now x.out.now _ _ (search rules) c.question.ensures

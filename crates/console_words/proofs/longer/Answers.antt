@@ -5,9 +5,9 @@ use Rattle.console_words.proofs.longer.Goals as goal
 pub returns-then-filled-lt-LINE : goal.returns-then-filled-lt-LINE
 returns-then-filled-lt-LINE c =
     let x = c.args in
-    (one_more_lem x.filled c.if-filled-lt-LINE.true, line_with x.line.now x.filled x.byte c.if-filled-lt-LINE.true)
+    record { count = one_more_lem x.filled c.if-filled-lt-LINE.true; bytes = line_with x.line.now x.filled x.byte c.if-filled-lt-LINE.true }
 
 pub returns : goal.returns
 returns c =
     let x = c.args in
-    (too_many x.filled c.if-filled-lt-LINE.false, line_stays x.line.now x.filled x.byte c.if-filled-lt-LINE.false)
+    record { count = too_many x.filled c.if-filled-lt-LINE.false; bytes = line_stays x.line.now x.filled x.byte c.if-filled-lt-LINE.false }

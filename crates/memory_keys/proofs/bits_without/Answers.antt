@@ -1,7 +1,8 @@
 -- `bits_without` meets its contract: from the last row to the first.
-use Rattle.std.proofs.Common.{arith, ◌≡◌, ⊎_elim}
+use Rattle.std.proofs.Common.{arith, ◌≡◌}
 use Rattle.memory_keys.proofs.Laws.{seen_none, seen_all, seen_there, seen_next}
 use Rattle.memory_keys.proofs.bits_without.Goals as goal
+use Rattle.memory_keys.proofs.bits_without.Goals.{then-other-key+else-ports-row, else-other-key}
 
 pub loop-row-init : goal.loop-row-init
 loop-row-init c = seen_none _ _ _ _ (omega arith) (omega arith)
@@ -11,7 +12,7 @@ returns-then-ports-row c = seen_there _ _ _ _ _ c.loop-row.invariant (omega arit
 
 pub loop-row-preserved : goal.loop-row-preserved
 loop-row-preserved c =
-    seen_next _ _ _ _ _ c.loop-row.invariant (omega arith) (⊎_elim (λ w e f. w.2.left f) (λ w e f. w.left e) c.if-other-key.branch) _ c.with_bit-bits.ensures
+    seen_next _ _ _ _ _ c.loop-row.invariant (omega arith) (elim c.if-other-key.branch [ then-other-key+else-ports-row w ↦ λ e f. w.if-ports-row.false f | else-other-key w ↦ λ e f. w.if-other-key.false e ]) _ c.with_bit-bits.ensures
 
 pub returns : goal.returns
 returns c =

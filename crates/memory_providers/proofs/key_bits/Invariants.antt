@@ -6,7 +6,7 @@ use Rattle.memory_providers.proofs.key_bits.Given as goal
 
 abbrev pub invariant-loop-i : goal.invariant-loop-i
 invariant-loop-i l =
-    (1 ≤ l.i) × (key_bits no_bits (pairs l.claims) ≡ key_bits (record { l.low = l.low; l.high = l.high }) (pairs (drop (l.i - 1) l.claims)))
+    (1 ≤ l.i) × (key_bits no_bits (pairs l.claims) ≡ key_bits (record { low = l.low; high = l.high }) (pairs (drop (l.i - 1) l.claims)))
 
 abbrev pub decreases-loop-i : goal.decreases-loop-i
 decreases-loop-i l = length l.claims - l.i

@@ -1,9 +1,10 @@
 -- `provides` meets its contract: the anchor, then the provisions.
-use Rattle.std.proofs.Common.{◌%◌, ⊎_elim}
+use Rattle.std.proofs.Common.{◌%◌}
 use Rattle.rules.specs.Holds.{port}
 use Rattle.memory.specs.Layout.{places}
 use Rattle.memory_providers.proofs.Laws.{provides_anchor, provides_provision}
 use Rattle.memory_providers.proofs.provides.Goals as goal
+use Rattle.memory_providers.proofs.provides.Goals.{then-key-anchor+else-realm-anchor, else-key-anchor}
 
 pub returns-then-realm-anchor : goal.returns-then-realm-anchor
 returns-then-realm-anchor c =
@@ -12,5 +13,5 @@ returns-then-realm-anchor c =
 
 pub returns : goal.returns
 returns c =
-    provides_provision _ _ _ _ c.anchor-anchor.ensures (⊎_elim (λ t e f. t.2.left f) (λ t e f. t.left e) c.if-key-anchor.branch) _
+    provides_provision _ _ _ _ c.anchor-anchor.ensures (elim c.if-key-anchor.branch [ then-key-anchor+else-realm-anchor w ↦ λ e f. w.if-realm-anchor.false f | else-key-anchor w ↦ λ e f. w.if-key-anchor.false e ]) _
     c.provision_words.ensures _ c.has_port.ensures

@@ -1,5 +1,5 @@
 -- Until the port is found, its place is that of the first in the rest, counted from i.
-use Rattle.std.proofs.Common.{ℕ, ◌+◌, ◌*◌, ⊎_elim, ◌≡◌, sym, ap, ◌∙◌, List, drop, arith}
+use Rattle.std.proofs.Common.{ℕ, ◌+◌, ◌*◌, ◌≡◌, sym, ap, ◌∙◌, List, drop, arith}
 use Rattle.rules_types.specs.declared.Port.{Port}
 use Rattle.rules.specs.Holds.{port}
 use Rattle.rules.specs.Ports.{pairs}
@@ -7,6 +7,7 @@ use Rattle.ports.specs.Places.{pairs_at, pairs_end}
 use Rattle.memory_values.specs.Values.{port_from}
 use Rattle.memory_values.proofs.Laws.{port_hit, port_miss}
 use Rattle.memory_values.proofs.place_of.Goals as goal
+use Rattle.memory_values.proofs.place_of.Goals.{then-list-i+else-list-i-2, else-list-i}
 
 pub returns-then-list-i-2 : goal.returns-then-list-i-2
 returns-then-list-i-2 c =
@@ -23,7 +24,7 @@ loop-i-preserved c =
     let l = a.list.now in
     let s = pairs_at l (i * 2) (omega arith) in
     let e : i * 2 + 2 ≡ (i + 1) * 2 = omega arith in
-    c.loop-i.invariant ∙ port_miss s i q (⊎_elim (λ w e f. w.2.left f) (λ w e f. w.left e) c.if-list-i.branch)
+    c.loop-i.invariant ∙ port_miss s i q (elim c.if-list-i.branch [ then-list-i+else-list-i-2 w ↦ λ e f. w.if-list-i-2.false f | else-list-i w ↦ λ e f. w.if-list-i.false e ])
     ∙ ap (λ (n : ℕ). port_from (i + 1) q (pairs (drop n l))) e
 
 pub returns : goal.returns

@@ -4,10 +4,7 @@ use Rattle.rules.specs.Limits.{max_provision_keys}
 use Rattle.memory.specs.Writes.{puts}
 use Rattle.memory_values.specs.Values.{put_values}
 use Rattle.memory_values.proofs.put_values.Goals as goal
-
--- of the first n values, those from k on
-abbrev from : ℕ → ℕ → List ℕ → List ℕ
-from n k values = drop k (take n values)
+use Rattle.memory_values.proofs.put_values.Invariants.{from}
 
 put_next : (m values : List ℕ) (n b k : ℕ) → k < n → k < length values
     → puts m b k (from n k values) ≡ puts (set m (b + k) (get_or values k 0)) b (k + 1) (from n (k + 1) values)

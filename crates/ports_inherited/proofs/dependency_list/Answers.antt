@@ -20,10 +20,7 @@ use Rattle.ports_inherited.specs.Answers.{fitted_lists, fitted_longer}
 use Rattle.ports_inherited.proofs.Turns.{candidate_at, candidates_end, some_turns, turns_taken, skip_own, skip_listed, append_new, in_last, grows}
 use Rattle.ports_inherited.proofs.dependency_list.Goals as goal
 use Rattle.ports_inherited.proofs.dependency_list.Goals.{Start, After-declared-count, At-next, After-candidate-turn, Then-is_own, Else-is_own, After-loop-k}
-
--- the list so far
-abbrev so_far : ℕ → List ℕ → List Port
-so_far n ports = pairs (take (n * 2) ports)
+use Rattle.ports_inherited.proofs.dependency_list.Invariants.{so_far, Compared, list}
 
 module _ (other : ℕ) (anchor : Port) (rows keys provisions parents : List ℕ) where
   abbrev finished : List Port
@@ -38,10 +35,6 @@ module _ (other : ℕ) (anchor : Port) (rows keys provisions parents : List ℕ)
   all_taken list n c d h =
       let e = d.2 ∙ ap (λ (cs : List Port). inherit (own_ports (pairs provisions) anchor) cs (so_far n list)) (candidates_end other rows parents c h) in
       fitted_lists (so_far n list) d.1 d.0 ∙ ap fitted (sym e)
-
--- a port is in the list so far just if it is there from place k on
-abbrev Compared : List ℕ → ℕ → Port → ℕ → Type 0
-Compared list n q k = (k ≤ n) × (is_in q (so_far n list) ≡ is_in q (drop k (so_far n list)))
 
 -- a port whose key lacks its bit is not in the list so far: nothing is left to compare
 compared_first : {list : List ℕ} {n bits : ℕ} → Lists list_room n list (so_far n list) → Covers bits (so_far n list) → (q : Port) {k : ℕ}
@@ -76,9 +69,6 @@ head t = t.before.before.before.before
 
 abbrev entry : Turned → Start
 entry t = (head t).before.before.before.before.before.before.before.before.before.before
-
-abbrev list : Turned → List Port
-list t = so_far (head t).next.count (head t).next.list
 
 abbrev own : Turned → List Port
 own t = own_ports (pairs (entry t).args.provisions.now) (entry t).args.anchor

@@ -9,6 +9,7 @@ use Rattle.memory_providers.specs.Providers.{provider_at, provider_below}
 use Rattle.registry_cycles.proofs.Ports.{rowed_begin, rowed_none, rowed_not, rowed_next, rowed_end}
 use Rattle.registry_cycles.proofs.row_of.Goals as goal
 use Rattle.registry_cycles.proofs.row_of.Goals.{Start, At-loop-i, After-provider_by, In-At-2}
+use Rattle.registry_cycles.proofs.row_of.Invariants.{ports}
 
 -- a port that was looked up: the turn's head, the function's entry, the port before the rest, and its provider
 abbrev Looked : Type 0
@@ -19,9 +20,6 @@ head p = p.before.before.before.before
 
 abbrev entry : Looked → Start
 entry p = (head p).before.before
-
-abbrev ports : Looked → List ℕ
-ports p = (entry p).args.ports.now
 
 abbrev here : Looked → Port
 here p = port (get_or (ports p) ((head p).loop.i - 1) 0) (get_or (ports p) (head p).loop.i 0)

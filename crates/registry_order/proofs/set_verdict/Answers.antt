@@ -11,6 +11,7 @@ use Rattle.registry_order.proofs.Laws.{set_end, set_refused, set_next}
 use Rattle.registry_order.proofs.Seen.{seen_none, seen_verdict, seen_more, passed_found, told}
 use Rattle.registry_order.proofs.set_verdict.Goals as goal
 use Rattle.registry_order.proofs.set_verdict.Goals.{Start, At-loop-i, After-id_verdict, In-Passed-2}
+use Rattle.registry_order.proofs.set_verdict.Invariants.{ids}
 
 -- an id that was checked: the turn's head, the function's entry, and what the checks come to
 abbrev Asked : Type 0
@@ -21,9 +22,6 @@ head v = v.before.before.before
 
 abbrev entry : Asked → Start
 entry v = (head v).before.before
-
-abbrev ids : Asked → List ℕ
-ids v = (entry v).args.set.now
 
 abbrev this : Asked → ℕ
 this v = get_or (ids v) (head v).loop.i 0

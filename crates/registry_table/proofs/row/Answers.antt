@@ -4,4 +4,4 @@ use Rattle.registry_table.proofs.Cells.{phase_few}
 use Rattle.registry_table.proofs.row.Goals as goal
 
 pub returns : goal.returns
-returns c = (c.number.ensures, omega (arith, c.number.ensures, phase_few c.args.phase))
+returns c = record { number = c.number.ensures; small = omega (arith, c.number.ensures, phase_few c.args.phase) }
