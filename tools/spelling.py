@@ -13,6 +13,8 @@ import sys
 WORD = re.compile(r"(?<![\w'-])[A-Za-z_][\w']*(?:-[\w']+)*")
 DECLARED = re.compile(r"^\s*(?:(?:abbrev|unfoldable|pub)\s+)*([A-Za-z_][A-Za-z0-9_'-]*)\s*(?:\{[^}]*\}\s*)?:\s(.*)$")
 TYPED = re.compile(r"^\s*(?:(?:abbrev|unfoldable|pub)\s+)*(?:data|record)\s+(?:pub\s+)?([A-Za-z_][A-Za-z0-9_'-]*)")
+# A name whose type begins on the next line.
+BELOW = re.compile(r"(?m)^[ ]*(?:(?:abbrev|unfoldable|pub) )*([A-Za-z_][\w'-]*)\n[ ]+: ")
 # Lemmas that already had the spelling that a definition of the same words takes now.
 LEMMAS = {"as_many", "go_on", "goes_on", "one_more", "place_end", "root_said", "row_word", "rows_end", "sum_rows", "value_in"}
 # The one type that had a small letter, and where it is declared.
@@ -49,10 +51,12 @@ def snake(name):
 def declared():
     names = set()
     for p in texts((".antt",)):
-        for line in read(p).split("\n"):
+        text = read(p)
+        for line in text.split("\n"):
             m = DECLARED.match(line)
-            if m and not m.group(2).startswith(("tie.", "goal.")):
+            if m and not m.group(2).startswith(("tie.Need-", "tie.invariant-", "tie.decreases-", "goal.")):
                 names.add(m.group(1))
+        names.update(BELOW.findall(text))
     return names
 
 

@@ -32,7 +32,7 @@ rewritten t = text_of (after_load example (load 8 t))
 pub record Loads : Type 0 where
   pub example_opens : load 8 (shown example_text) ≡ opens (record { domain = 8; first = 0; next = 1; places = example.places })
   pub example_accepted : load_answer (load 8 (shown example_text)) ≡ Accepted []
-  pub example-rewritten
+  pub example_rewritten
       : rewritten (shown example_text)
       ≡ shown "domain=8 first=0 next=1 plugins=1 id=0 parent=none phase=0 retired=0 generation=0 revision=0 payload=40"
       ++ shown "root=0 queued=none anchor=9,0 edition=1 default=0 realms=1 realm=2,5 deps=0 provs=1 prov=2,5,none"
@@ -52,7 +52,7 @@ unfolding load loadable given_within none_left_after text_of read_text insert by
 loads = record {
   example_opens = refl;
   example_accepted = refl;
-  example-rewritten = refl;
+  example_rewritten = refl;
   own_domain = refl;
   own_domain_stays = refl;
   unissued = refl;

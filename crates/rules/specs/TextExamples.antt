@@ -72,10 +72,10 @@ pub record Texts : Type 0 where
   pub example_text_lem : text_of example ≡ shown example_text
   pub example_back : read_text (shown example_text) ≡ some (said example)
   pub empty : text_of (built 0 []) ≡ shown "domain=7 first=0 next=0 plugins=0"
-  pub by-rising-id
+  pub by_rising_id
       : text_of family
       ≡ shown "domain=7 first=1 next=4 plugins=2 id=2 parent=none phase=0 retired=0 generation=0 revision=0 payload=40 root=0 queued=none anchor=101,0 edition=1 default=0 realms=0 deps=2 dep=2,0 dep=3,0 provs=0 id=3 parent=2 phase=0 retired=0 generation=0 revision=0 payload=40 root=0 queued=none anchor=102,0 edition=1 default=0 realms=2 realm=2,5 realm=9,1 deps=3 dep=9,1 dep=2,0 dep=2,5 provs=1 prov=3,0,none"
-  pub queued-root
+  pub queued_root
       : text_of queued
       ≡ shown "domain=7 first=1 next=2 plugins=1 id=1 parent=none phase=1 retired=0 generation=1 revision=0 payload=40 root=1 queued=0,24 anchor=9,0 edition=1 default=0 realms=1 realm=2,5 deps=0 provs=1 prov=2,5,none"
   pub value
@@ -96,8 +96,8 @@ texts = record {
   example_text_lem = refl;
   example_back = refl;
   empty = refl;
-  by-rising-id = refl;
-  queued-root = refl;
+  by_rising_id = refl;
+  queued_root = refl;
   value = refl;
   last_id_lem = (written_read (shown last_id_text) (said last_id) refl).1;
   leading_zero = refl;

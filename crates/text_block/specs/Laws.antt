@@ -40,20 +40,20 @@ module _ (m : List ℕ) (i : ℕ) where
   unfolding name_lines plugin_at
   name_bytes e f = rw (e, f, or_none_lem (parent_at m i))
 
-  pub list-bytes
+  pub list_bytes
       : {a : Port} {zs ds : List ℕ} → a ≡ anchor_at m i → zs ≡ realm_part m i → ds ≡ dep_part m i
       → (bytes "anchor=" ++ pair a.key a.realm)
       ++ (realm_lines (realm_list zs) ++ ports_lines (bytes "deps=") (bytes "dep=") (pairs ds))
       ≡ list_lines (plugin_at m i)
   unfolding list_lines plugin_at
-  list-bytes e f g = rw (e, f, g)
+  list_bytes e f g = rw (e, f, g)
 
   -- The j-th of the words' provisions, and no more of them.
-  pub one-provision
+  pub one_provision
       : (j : ℕ) {w : List ℕ} → w ≡ prov_part m i → j < length w / 2
       → provision_line (get_or w (j * 2) 0) (get_or w (j * 2 + 1) 0) (value_below m i j) ++ provs_from m i (j + 1) w ≡ provs_from m i j w
   unfolding provision_lines
-  one-provision j {w} e h =
+  one_provision j {w} e h =
       let next : j * 2 + 2 ≡ (j + 1) * 2 = omega arith in
       let value = value_below_lem m i j (omega (arith, ap length e, few_words m i)) in
       sym (rw (pairs_at w (j * 2) (omega arith), next, value))
@@ -68,7 +68,7 @@ module _ (m : List ℕ) (i : ℕ) where
   provision_bytes {w} e = rw (e, valued_length m i 0 (pairs (prov_part m i)), length_pairs (prov_part m i))
 
   -- All of them are the block.
-  pub block-bytes
+  pub block_bytes
       : {l : Life} → l ≡ life_at m i
       → name_lines (plugin_at m i) ++ (life_lines l ++ (list_lines (plugin_at m i) ++ provisions_lines (plugin_at m i).provisions)) ≡ block_of (plugin_at m i)
-  block-bytes e = rw (e, ← life_of_lem m i) (sym (block_by_parts (plugin_at m i)))
+  block_bytes e = rw (e, ← life_of_lem m i) (sym (block_by_parts (plugin_at m i)))

@@ -11,7 +11,7 @@ use Rattle.rules.specs.Text.Values.{key_realm, key_realm_value, phase, zero_or_o
 use Rattle.text_form.specs.Bytes.{bytes}
 use Rattle.text_form.specs.Forms.{write_all}
 use Rattle.text_form.specs.Lines.{line, number, number_or_none}
-use Rattle.text_laws.specs.Parts.{block_of, block-parts}
+use Rattle.text_laws.specs.Parts.{block_of, block_parts}
 use Rattle.memory.specs.declared.Life.{Life}
 use Rattle.memory.specs.Known.{life_of}
 use Rattle.text_lines.specs.Laid.{Laid}
@@ -96,7 +96,7 @@ regroup a b c d e f g h i j k l = simp append_assoc
 pub block_by_parts : (p : Plugin) → block_of p ≡ name_lines p ++ (life_lines (life_of p) ++ (list_lines p ++ provisions_lines p.provisions))
 unfolding name_lines life_lines realm_lines list_lines
 block_by_parts p =
-    block-parts p
+    block_parts p
     ∙ rw (root_lines_lem p.root, realm_rows_lem p.realms.rows, deps_rows p.dependencies, prov_rows p.provisions)
     (regroup
     ((line "id" number).write p.id)

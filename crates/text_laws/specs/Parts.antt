@@ -15,7 +15,7 @@ unfoldable pub blocks : List Plugin → List ℕ
 blocks [] = []
 blocks (p ∷ l) = block_of p ++ blocks l
 
-pub block-parts
+pub block_parts
     : (p : Plugin)
     → block_of p
     ≡ (line "id" number).write p.id
@@ -31,7 +31,7 @@ pub block-parts
     ++ ((list "deps" "dep" key_realm).write p.dependencies
     ++ (list "provs" "prov" key_realm_value).write p.provisions))))))))))
 unfolding block_of
-block-parts p = refl
+block_parts p = refl
 
 blocks_all : (l : List Plugin) → write_all block l ≡ blocks l
 unfolding blocks block_of
@@ -41,7 +41,7 @@ blocks_all (p ∷ l) = rw (blocks_all l)
 regroup : (a b c d : List ℕ) {x y : List ℕ} → x ≡ y → (a ++ (b ++ c)) ++ (d ++ x) ≡ a ++ (b ++ (c ++ (d ++ y)))
 regroup a b c d e = simp (append_assoc, e)
 
-pub text-parts
+pub text_parts
     : (r : Registry)
     → text_of r
     ≡ (line "domain" number).write r.domain
@@ -50,7 +50,7 @@ pub text-parts
     ++ ((line "plugins" number).write (length (by_id (plugins r)))
     ++ blocks (by_id (plugins r)))))
 unfolding text_of
-text-parts r =
+text_parts r =
     regroup
     ((line "domain" number).write r.domain)
     ((line "first" number).write r.first)

@@ -90,10 +90,10 @@ mark_most = record { most = λ b l. mark_length b }
 line_most : {A : Type 0} {f : Form A} {m : A → ℕ} (key : String) → Most f m → Most (line key f) (λ a. length (bytes key ++ bytes "=") + m a)
 line_most key h = behind_most h (bytes key ++ bytes "=")
 
-list-most
+list_most
     : {A : Type 0} {f : Form A} (plural key : String) (k : ℕ) → Most f (λ a. k)
     → Most (list plural key f) (λ l. length (bytes plural ++ bytes "=") + 21 + (length (bytes key ++ bytes "=") + k) * length l)
-list-most {A} {f} plural key k h =
+list_most {A} {f} plural key k h =
     let c = length (bytes plural ++ bytes "=") + 21 in
     let m = length (bytes key ++ bytes "=") + k in
     record { most = λ l w. rw (sum_same m l) at ((counted_most (line_most key h) c (line_most plural number_most)).most l w) }
@@ -132,7 +132,7 @@ edition_most = record {
 realms_most : Most realms (λ z. 67 + 48 * length z.rows)
 realms_most = record {
   most = λ z l.
-      (wider (edition_most and list-most "realms" "realm" 42 port_most) (λ x. 67 + 48 * length x.1) (λ x. omega arith)
+      (wider (edition_most and list_most "realms" "realm" 42 port_most) (λ x. 67 + 48 * length x.1) (λ x. omega arith)
       ).most (z.edition, z.rows) l;
 }
 
@@ -142,10 +142,10 @@ pub record Lists (p : Plugin) : Type 0 where
   pub dependencies : length p.dependencies ≤ 48
   pub provisions : length p.provisions ≤ 15
 
-block-length
+block_length
     : (p : Plugin) → block.Fits p
     → length (block.write p) ≤ 386 + 48 * length p.realms.rows + 46 * length p.dependencies + 68 * length p.provisions
-block-length p l =
+block_length p l =
     let x =
     (line_most "id" number_most
     and line_most "parent" option_most
@@ -157,20 +157,20 @@ block-length p l =
     and root_most
     and line_most "anchor" port_most
     and realms_most
-    and list-most "deps" "dep" 42 port_most
-    and list-most "provs" "prov" 63 provision_most).most (lines_of p) l in
+    and list_most "deps" "dep" 42 port_most
+    and list_most "provs" "prov" 63 provision_most).most (lines_of p) l in
     omega (arith, x)
 
 -- So much for a plugin, and 46 for each of its rows.
 pub block_most : (p : Plugin) → block.Fits p → Lists p → length (block.write p) ≤ 1438 + 46 * rows_of p
-block_most p l o = omega (arith, block-length p l, o.realm_rows_lem, o.dependencies, o.provisions)
+block_most p l o = omega (arith, block_length p l, o.realm_rows_lem, o.dependencies, o.provisions)
 
-blocks-most
+blocks_most
     : (l : List Plugin) → FitAll block l → ((p : Plugin) → In p l → Lists p)
     → length (write_all block l) ≤ sum (λ (p : Plugin). 1438 + 46 * rows_of p) l
-blocks-most [] h o = omega arith
-blocks-most (p ∷ l) h o =
-    omega (arith, length-append (block.write p) (write_all block l), block_most p h.0 (o p (inl refl)), blocks-most l h.1 (λ q m. o q (inr m)))
+blocks_most [] h o = omega arith
+blocks_most (p ∷ l) h o =
+    omega (arith, length-append (block.write p) (write_all block l), block_most p h.0 (o p (inl refl)), blocks_most l h.1 (λ q m. o q (inr m)))
 
 sum_rows_lem : (l : List Plugin) → sum (λ (p : Plugin). 1438 + 46 * rows_of p) l ≡ 1438 * length l + 46 * sum_rows l
 sum_rows_lem [] = omega arith
@@ -183,11 +183,11 @@ plugins_line : (n : ℕ) → n ≤ last → length ((line "plugins" number).writ
 plugins_line n h = (line_most "plugins" number_most).most n h
 
 -- A registry's text, by its plugins and rows.
-pub text-most
+pub text_most
     : (r : Registry) → text.Fits (said r) → ((p : Plugin) → In p (plugins r) → Lists p)
     → length (text_of r) ≤ 110 + 1438 * count r + 46 * rows_in_use r
 unfolding text_of count rows_in_use
-text-most r l o =
+text_most r l o =
     let ps = by_id (plugins r) in
     let h = header.write (r.domain, (r.first, r.next)) in
     let c = (line "plugins" number).write (length ps) in
@@ -197,7 +197,7 @@ text-most r l o =
       length-append c (write_all block ps),
       header_most.most (r.domain, (r.first, r.next)) l.0,
       plugins_line (length ps) l.1.0,
-      blocks-most ps l.1.1 (λ p m. o p (by_id_in p (plugins r) m)),
+      blocks_most ps l.1.1 (λ p m. o p (by_id_in p (plugins r) m)),
       by_id_sum (λ (p : Plugin). 1438 + 46 * rows_of p) (plugins r),
       sum_rows_lem (plugins r),
     )
@@ -214,11 +214,11 @@ rows_most (p ∷ l) o =
     omega (arith, rows_most l (λ q m. o q (inr m)), k.dependencies, k.provisions)
 
 -- Of 32 plugins, each as long as it may be; and of a registry that operations build.
-pub any-text
+pub any_text
     : (r : Registry) → text.Fits (said r) → ((p : Plugin) → In p (plugins r) → Lists p) → length r.places ≤ 32
     → length (text_of r) ≤ 140334
 unfolding count rows_in_use
-any-text r l o h = omega (arith, text-most r l o, held_most r.places, rows_most (plugins r) o)
+any_text r l o h = omega (arith, text_most r l o, held_most r.places, rows_most (plugins r) o)
 
 built_lists : (r : Registry) → Built r → (p : Plugin) → In p (plugins r) → Lists p
 built_lists r b p m =
@@ -227,4 +227,4 @@ built_lists r b p m =
 
 pub built_text : (r : Registry) → text.Fits (said r) → Built r → length (text_of r) ≤ 93230
 unfolding count
-built_text r l b = omega (arith, text-most r l (built_lists r b), held_most r.places, b.room, b.rows)
+built_text r l b = omega (arith, text_most r l (built_lists r b), held_most r.places, b.room, b.rows)

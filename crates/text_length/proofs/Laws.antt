@@ -22,7 +22,7 @@ use Rattle.memory.specs.declared.Life.{Life}
 use Rattle.ports.specs.Places.{pairs_behind, pairs_end}
 use Rattle.text_lines.specs.Lines.{ended, or_none, pair, triple, root_lines, port_lines}
 use Rattle.text_block.specs.Parts.{name_lines, phase_line, retired_line, life_lines, ports_lines, list_lines, provision_line, provisions_lines}
-use Rattle.text_block.specs.Laws.{ports_bytes, realm_bytes, provs_from, name_bytes, list-bytes, one-provision, no_provision, provision_bytes, block-bytes}
+use Rattle.text_block.specs.Laws.{ports_bytes, realm_bytes, provs_from, name_bytes, list_bytes, one_provision, no_provision, provision_bytes, block_bytes}
 
 abbrev digits : ℕ → ℕ
 digits n = length (decimal_of n)
@@ -65,11 +65,11 @@ module _ (plural name ports : List ℕ) where
   ports_start = simp length-append (omega arith) ∙ ap length (ports_bytes plural name ports)
 
 module _ (name ports : List ℕ) (i : ℕ) where
-  pub ports-next
+  pub ports_next
       : 1 ≤ i → i < length ports
       → length name + 2 + digits (get_or ports (i - 1) 0) + digits (get_or ports i 0) + length (port_lines name (pairs (drop (i + 2 - 1) ports)))
       ≡ length (port_lines name (pairs (drop (i - 1) ports)))
-  ports-next p h = sym (rw (pairs_behind ports i p h) (simp length-append (omega arith)))
+  ports_next p h = sym (rw (pairs_behind ports i p h) (simp length-append (omega arith)))
 
   pub ports_end : length ports ≤ i → length (port_lines name (pairs (drop (i - 1) ports))) ≡ 0
   ports_end h = rw (pairs_end ports (i - 1) (omega arith))
@@ -93,7 +93,7 @@ module _ (m : List ℕ) (i : ℕ) where
       let anchor = bytes "anchor=" ++ pair a.key a.realm in
       let realms = ports_lines (bytes "realms=") (bytes "realm=") (pairs rows) in
       let deps = ports_lines (bytes "deps=") (bytes "dep=") (pairs ds) in
-      ap length (sym (list-bytes m i x y z))
+      ap length (sym (list_bytes m i x y z))
       ∙ rw (← realm_bytes zs f g)
       (omega (arith, four_length anchor (edition_and_default.write e) realms deps, pair_length (bytes "anchor=") a.key a.realm))
 
@@ -102,16 +102,16 @@ module _ (m : List ℕ) (i : ℕ) where
       → 7 + digits (length w / 2) + length (provs_from m i 0 w) ≡ length (provisions_lines (plugin_at m i).provisions)
   provisions_start {w} e = simp length-append (omega arith) ∙ ap length (provision_bytes m i e)
 
-  pub provisions-next
+  pub provisions_next
       : (j : ℕ) {w : List ℕ} → w ≡ prov_part m i → j < length w / 2
       → length (line_at m i j w) + length (provs_from m i (j + 1) w) ≡ length (provs_from m i j w)
-  provisions-next j {w} e h = sym (length-append (line_at m i j w) (provs_from m i (j + 1) w)) ∙ ap length (one-provision m i j e h)
+  provisions_next j {w} e h = sym (length-append (line_at m i j w) (provs_from m i (j + 1) w)) ∙ ap length (one_provision m i j e h)
 
   pub provisions_end : (j : ℕ) (w : List ℕ) → length w / 2 ≤ j → length (provs_from m i j w) ≡ 0
   provisions_end j w h = sym (ap length (no_provision m i j w h))
 
-  pub block-length
+  pub block_length
       : {l : Life} → l ≡ life_at m i
       → length (block_of (plugin_at m i))
       ≡ length (name_lines (plugin_at m i)) + length (life_lines l) + length (list_lines (plugin_at m i)) + length (provisions_lines (plugin_at m i).provisions)
-  block-length e = ap length (sym (block-bytes m i e)) ∙ simp length-append (omega arith)
+  block_length e = ap length (sym (block_bytes m i e)) ∙ simp length-append (omega arith)

@@ -170,7 +170,7 @@ module _ (t : List ℕ) (at : Next) (before : Lent) (head : Head) (lists : Lists
                       port head.key head.realm,
                       (
                         l.realms_read.list,
-                        (l.dependencies-read.ports, l.provisions_read.provisions),
+                        (l.dependencies_read.ports, l.provisions_read.provisions),
                       ),
                     ),
                   ),
@@ -208,7 +208,7 @@ module _ (t : List ℕ) (at : Next) (before : Lent) (head : Head) (lists : Lists
         (then_next root_and_queued f9 h.root_read
         (then_next (line "anchor" key_realm) f10 h.anchor_read
         (then_next realms f11 l.realms_read.reads
-        (then_next (list "deps" "dep" key_realm) f12 l.dependencies-read.reads l.provisions_read.reads))))))))))
+        (then_next (list "deps" "dep" key_realm) f12 l.dependencies_read.reads l.provisions_read.reads))))))))))
 
     all_read : Reads block.read t at plugin lists.next
     all_read = like_next lines plugin_of lines_read
@@ -219,7 +219,7 @@ module _ (t : List ℕ) (at : Next) (before : Lent) (head : Head) (lists : Lists
     numbers : (n : ℕ) → lists.next ≡ At n → block_of plugin n ≡ answer head lists n
     numbers n e =
         let z = l.realms_read in
-        let d = l.dependencies-read in
+        let d = l.dependencies_read in
         let v = l.provisions_read in
         let b = came (reads_at v.reads e) in
         let c = came (reads_at d.reads b.1) in
@@ -252,12 +252,12 @@ module _ (t : List ℕ) (at : Next) (before : Lent) (head : Head) (lists : Lists
     stored n e =
         let v = l.provisions_read in
         let b = came (reads_at v.reads e) in
-        let c = came (reads_at l.dependencies-read.reads b.1) in
+        let c = came (reads_at l.dependencies_read.reads b.1) in
         let anchored : claims ≡ rows_put (row_put before.claims 0 head.key head.realm) 1 (ports_of v.provisions) =
         v.claims_stored ∙ ap (λ (w : List ℕ). rows_put w 1 (ports_of v.provisions)) f in
         sym (λ x. record {
           realms = l.realms_read.stored c.0 c.1 x;
-          dependencies = l.dependencies-read.stored x;
+          dependencies = l.dependencies_read.stored x;
           claims = anchored x;
           values = v.values_stored x;
         })

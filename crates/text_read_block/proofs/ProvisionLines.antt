@@ -136,10 +136,10 @@ module _ (t : List ℕ) (at : Next) (claims values : List ℕ) where
           value_so : q.value ≡ or_else (provision_in q).value 0
           value_so = ap (λ (p : Provision). p.value) whole
 
-          pub provisions-more
+          pub provisions_more
               : ProvisionsSoFar t first claims values (row_put claims' (i + 1) q.key q.realm) (one_put values' i q.value) n (i + 1)
               (valued + q.tag) (mask_with mask i q.tag)
-          provisions-more =
+          provisions_more =
               let v = provision_in q in
               let vs = f.provisions in
               let k : i + 1 ≡ 1 + length (ports_of vs) = omega (arith, f.count, length-map vs (λ (w : holds.Provision). w.port)) in

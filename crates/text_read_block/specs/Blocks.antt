@@ -72,7 +72,7 @@ pub record ListsRead (t : List ℕ) (at : Next) (rows needs claims values : List
   pub realms_end : Next
   pub dependencies_end : Next
   pub realms_read : RealmsRead t at rows (record { count = r.realms; next = realms_end }) rows'
-  pub dependencies-read
+  pub dependencies_read
       : PortsRead (bytes "deps=") (bytes "dep=") t realms_end needs 0 (record { count = r.dependencies; next = dependencies_end }) needs'
   pub provisions_read : ProvisionsRead t dependencies_end claims values
       (record { count = r.provisions; valued = r.valued; mask = r.mask; next = r.next }) claims' values'

@@ -15,7 +15,7 @@ use Rattle.rules.specs.Text.{block, text, said, text_of}
 use Rattle.text_form.specs.Forms.{FitAll}
 use Rattle.text_form.specs.Lines.{line, number_or_none}
 use Rattle.text_laws.specs.Fit.{text_fits}
-use Rattle.text_laws.specs.Sizes.{Lists, any-text, text-most, rows_most, held_most}
+use Rattle.text_laws.specs.Sizes.{Lists, any_text, text_most, rows_most, held_most}
 use Rattle.memory.specs.Layout.{word, taken, start_at, deps_at, provs_at, realms_at, row_word, anchor_word, part, prov_part, realm_part, dep_part, place_words, mask_word}
 use Rattle.memory.specs.Layout.{values_word, id_word, tag_word, parent_word, generation_word, revision_word, payload_word, root_word, root_revision_word}
 use Rattle.memory.specs.Layout.{root_argument_word, edition_word, row_words}
@@ -178,7 +178,7 @@ module _ (m : List ℕ) (h : Small m) where
 
   pub words_text : length (text_of (view m)) ≤ 140334
   unfolding view places_from
-  words_text = any-text (view m) words_fit (view_all m Lists (lists_few m)) (omega arith)
+  words_text = any_text (view m) words_fit (view_all m Lists (lists_few m)) (omega arith)
 
   pub words_most : length (text_of (view m)) ≤ 110 + 1438 * count (view m) + 46 * rows_in_use (view m)
-  words_most = text-most (view m) words_fit (view_all m Lists (lists_few m))
+  words_most = text_most (view m) words_fit (view_all m Lists (lists_few m))

@@ -7,7 +7,7 @@ pub returns-then-from-m : goal.returns-then-from-m
 returns-then-from-m c =
     let a = c.args in
     let w = c.put_front in
-    tail_put a.m.now w.new.0 a.words.now a.from (omega arith) w.ensures
+    tail_put a.m.now w.new.out a.words.now a.from (omega arith) w.ensures
 
 pub returns-else-from-m : goal.returns-else-from-m
 returns-else-from-m c =

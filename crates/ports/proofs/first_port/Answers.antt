@@ -21,9 +21,9 @@ returns-then-at-ports c =
     let i = c.loop-i.i in
     let l = c.args.ports.now in
     elim c.if-ports-i.branch [
-      then-ports-i w ↦ absurd (omega arith)
-    | else-ports-i+then-ports-i-2 w ↦
-        ap At w.at-is ∙ sym (c.loop-i.invariant ∙ first_hit (pairs_at l (i * 2) (omega arith)) i c.args.key w.if-ports-i-2.true)
+      | then-ports-i w ↦ absurd (omega arith)
+      | else-ports-i+then-ports-i-2 w ↦
+          ap At w.at-is ∙ sym (c.loop-i.invariant ∙ first_hit (pairs_at l (i * 2) (omega arith)) i c.args.key w.if-ports-i-2.true)
     ]
 
 pub returns-else-at-ports : goal.returns-else-at-ports
@@ -32,7 +32,7 @@ returns-else-at-ports c =
     let i = c.loop-i.i in
     let l = c.args.ports.now in
     elim c.if-ports-i.branch [
-      then-ports-i w ↦
-        sym (c.loop-i.invariant ∙ ap (λ (ps : List Port). first_from i c.args.key ps) (pairs_end l (i * 2) (omega arith)))
-    | else-ports-i+then-ports-i-2 w ↦ absurd (omega arith)
+      | then-ports-i w ↦
+          sym (c.loop-i.invariant ∙ ap (λ (ps : List Port). first_from i c.args.key ps) (pairs_end l (i * 2) (omega arith)))
+      | else-ports-i+then-ports-i-2 w ↦ absurd (omega arith)
     ]

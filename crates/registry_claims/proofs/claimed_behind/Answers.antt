@@ -4,6 +4,7 @@ use Rattle.rules.specs.Holds.{port, is_in}
 use Rattle.registry_claims.specs.Behind.{claims_from}
 use Rattle.registry_claims.proofs.Behind.{claims_end, claims_free, claimed_here, claimed_behind_lem}
 use Rattle.registry_claims.proofs.claimed_behind.Goals as goal
+use Rattle.registry_claims.proofs.claimed_behind.Goals.{then-is_taken+else-provides, else-is_taken}
 
 pub loop-i-init : goal.loop-i-init
 loop-i-init c = refl
@@ -24,10 +25,11 @@ loop-i-preserved c =
     let q = port a.key a.realm in
     let t = sym c.is_taken.ensures in
     c.loop-i.invariant
-    ∙ ⊎_elim {C = is_in q (claims_from m i) ≡ is_in q (claims_from m (i + 1))}
-    (λ w. claimed_behind_lem m i (omega arith) (t ∙ w.0.taken) q (sym w.1.ensures ∙ w.2.left))
-    (λ w. ap (is_in q) (claims_free m i (omega arith) (t ∙ w.left)))
-    c.if-is_taken.branch
+    ∙ elim c.if-is_taken.branch [
+      then-is_taken+else-provides w ↦
+        claimed_behind_lem m i (omega arith) (t ∙ w.if-is_taken.true) q (sym w.provides.ensures ∙ w.if-provides.false)
+    | else-is_taken w ↦ ap (is_in q) (claims_free m i (omega arith) (t ∙ w.if-is_taken.false))
+    ]
 
 pub returns : goal.returns
 returns c =

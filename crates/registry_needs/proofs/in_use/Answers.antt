@@ -5,6 +5,7 @@ use Rattle.memory_places.specs.Any.{any_from, any_plugins, any_end, any_free, an
 use Rattle.registry_needs.specs.Users.{user_at}
 use Rattle.registry_needs.proofs.Laws.{own_place}
 use Rattle.registry_needs.proofs.in_use.Goals as goal
+use Rattle.registry_needs.proofs.in_use.Goals.{then-is_taken+else-is_user, else-is_taken}
 
 pub loop-i-init : goal.loop-i-init
 loop-i-init c =
@@ -36,9 +37,11 @@ loop-i-preserved c =
       v.2,
       v.3,
       v.4
-          ∙ ⊎_elim {C = any_from (user_at m p) (places - i) m i ≡ any_from (user_at m p) (places - (i + 1)) m (i + 1)}
-          (λ w. any_not (user_at m p) m i h _ (t ∙ w.0.taken) (own_place m p v.1 _ v.2 _ v.3 i h _ w.1.ensures) w.2.left)
-          (λ w. any_free (user_at m p) m i h (t ∙ w.left)) c.if-is_taken.branch,
+          ∙ elim c.if-is_taken.branch [
+            then-is_taken+else-is_user w ↦
+              any_not (user_at m p) m i h _ (t ∙ w.if-is_taken.true) (own_place m p v.1 _ v.2 _ v.3 i h _ w.is_user.ensures) w.if-is_user.false
+          | else-is_taken w ↦ any_free (user_at m p) m i h (t ∙ w.if-is_taken.false)
+          ],
     )
 
 pub returns : goal.returns

@@ -5,6 +5,7 @@ use Rattle.memory.specs.Layout.{places}
 use Rattle.memory_places.specs.Any.{any_from, any_plugins, any_end, any_free, any_here, any_never}
 use Rattle.registry_remove.specs.Laws.{named}
 use Rattle.registry_remove.proofs.has_children.Goals as goal
+use Rattle.registry_remove.proofs.has_children.Goals.{then-is_child_of+else-is_taken, else-is_child_of}
 
 pub loop-i-init : goal.loop-i-init
 loop-i-init c = (omega arith, any_plugins _ _)
@@ -25,8 +26,10 @@ loop-i-preserved c =
     let n = named m id i h _ c.is_child_of.ensures in (
       omega arith,
       c.loop-i.invariant.1
-          ∙ ⊎_elim {C = any_from (is_child_of id) (places - i) m i ≡ any_from (is_child_of id) (places - (i + 1)) m (i + 1)}
-          (λ w. any_free (is_child_of id) m i h (sym w.1.ensures ∙ w.2.left)) (λ w. any_never (is_child_of id) m i h _ n w.left) c.if-is_child_of.branch,
+          ∙ elim c.if-is_child_of.branch [
+            then-is_child_of+else-is_taken w ↦ any_free (is_child_of id) m i h (sym w.is_taken.ensures ∙ w.if-is_taken.false)
+          | else-is_child_of w ↦ any_never (is_child_of id) m i h _ n w.if-is_child_of.false
+          ],
     )
 
 pub returns : goal.returns

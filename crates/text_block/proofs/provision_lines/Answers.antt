@@ -4,7 +4,7 @@ use Rattle.memory.specs.Layout.{places}
 use Rattle.rules.specs.Basics.{last}
 use Rattle.text_lines.specs.Laid.{laid_none, laid_then, laid_same}
 use Rattle.text_block.specs.Parts.{laid_as}
-use Rattle.text_block.specs.Laws.{one-provision, no_provision, provision_bytes}
+use Rattle.text_block.specs.Laws.{one_provision, no_provision, provision_bytes}
 use Rattle.text_block.proofs.provision_lines.Goals as goal
 
 pub loop-j-init : goal.loop-j-init
@@ -16,7 +16,7 @@ loop-j-preserved c =
     let a = c.args in
     let w = c.provision_words-words in
     let line = c.provision_line-behind.ensures in
-    let next = one-provision a.m.now (a.place % places) l.j w.ensures (omega arith) in
+    let next = one_provision a.m.now (a.place % places) l.j w.ensures (omega arith) in
     (omega (arith, line.place), laid_same line ∙ l.invariant.1, λ v r x. l.invariant.2 v r (laid_as next (laid_then line x)))
 
 pub shape_of-text : goal.shape_of-text

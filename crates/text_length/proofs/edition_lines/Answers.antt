@@ -6,5 +6,4 @@ use Rattle.text_length.proofs.edition_lines.Goals as goal
 
 pub returns-in-Second : goal.returns-in-Second
 returns-in-Second c =
-    let edition = c.edition-1.given in
-    rw edition.1 (omega (arith, number_length (bytes "edition=2\ndefault=") edition.0.0), omega arith)
+    rw c.in-Second.is (omega (arith, number_length (bytes "edition=2\ndefault=") c.in-Second.default), omega arith)

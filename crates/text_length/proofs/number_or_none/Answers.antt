@@ -5,5 +5,4 @@ use Rattle.text_length.proofs.number_or_none.Goals as goal
 
 pub returns-in-Is : goal.returns-in-Is
 returns-in-Is c =
-    let value = c.value-1.given in
-    rw value.1 (omega (arith, number_length [] value.0.0), omega arith)
+    rw c.in-Is.is (omega (arith, number_length [] c.in-Is.n), omega arith)

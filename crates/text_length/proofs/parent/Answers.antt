@@ -9,9 +9,8 @@ use Rattle.text_length.proofs.parent.Goals as goal
 pub returns-in-Of : goal.returns-in-Of
 unfolding plugin_at
 returns-in-Of c =
-    let parent = c.parent-1.given in
-    let said = sym (ap parent_id parent.1) ∙ c.parent_of-parent.ensures in
-    (omega (arith, number_length [] parent.0.0, ap (λ o. length (or_none o)) said), omega arith)
+    let said = sym (ap parent_id c.in-Of.is) ∙ c.parent_of-parent.ensures in
+    (omega (arith, number_length [] c.in-Of.id, ap (λ o. length (or_none o)) said), omega arith)
 
 pub returns-in-None : goal.returns-in-None
 unfolding plugin_at

@@ -2,7 +2,7 @@
 use Rattle.std.proofs.Common.{◌%◌, ap, length, arith}
 use Rattle.memory.specs.Layout.{places}
 use Rattle.memory_values.specs.Firsts.{few_words}
-use Rattle.text_length.proofs.Laws.{provisions_start, provisions-next, provisions_end}
+use Rattle.text_length.proofs.Laws.{provisions_start, provisions_next, provisions_end}
 use Rattle.text_length.proofs.provision_lines.Goals as goal
 
 pub loop-j-init : goal.loop-j-init
@@ -22,7 +22,7 @@ loop-j-preserved c =
     let l = c.loop-j in
     let w = c.provision_words-words in
     let a = c.args in
-    (omega arith, omega arith, omega (arith, provisions-next a.m.now (a.place % places) l.j w.ensures (omega arith)))
+    (omega arith, omega arith, omega (arith, provisions_next a.m.now (a.place % places) l.j w.ensures (omega arith)))
 
 pub returns : goal.returns
 returns c =

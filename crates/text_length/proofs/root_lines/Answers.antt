@@ -6,5 +6,4 @@ use Rattle.text_length.proofs.root_lines.Goals as goal
 
 pub returns-in-Queued : goal.returns-in-Queued
 returns-in-Queued c =
-    let root = c.root-1.given in
-    rw root.1 (omega (arith, pair_length (bytes "root=1\nqueued=") root.0.0 root.0.1.0), omega arith)
+    rw c.in-Queued.is (omega (arith, pair_length (bytes "root=1\nqueued=") c.in-Queued.revision c.in-Queued.argument), omega arith)

@@ -3,7 +3,7 @@ use Rattle.std.proofs.Common.{arith, ap, ◌∙◌, length}
 use Rattle.memory_values.specs.Values.{values_of}
 use Rattle.text_read_block.specs.Lists.{ports_of}
 use Rattle.text_read_block.specs.Rows.{rows_length, all_length}
-use Rattle.text_read_block.proofs.ProvisionLines.{head_torn, provisions_start, provisions_torn, provisions-more, provisions_end}
+use Rattle.text_read_block.proofs.ProvisionLines.{head_torn, provisions_start, provisions_torn, provisions_more, provisions_end}
 use Rattle.text_read_block.proofs.ProvisionLines.{valued_room, mask_room}
 use Rattle.text_read_block.proofs.provisions.Goals as goal
 
@@ -58,7 +58,7 @@ overflow_add-i-in-loop-i c = omega (arith, c.loop-i-test.true, c.number_line-cou
 pub loop-i-preserved : goal.loop-i-preserved
 loop-i-preserved c =
     let a = c.args in
-    let one = provisions-more a.text.now a.at a.claims.now a.values.now _ c.number_line-count.ensures _
+    let one = provisions_more a.text.now a.at a.claims.now a.values.now _ c.number_line-count.ensures _
     c.in-At.is _ _ _ _ _ _ c.loop-i.invariant.0 _
     c.provision_line-line.ensures _ c.in-At-end.is in (
       rw (c.put_row.ensures, c.put_one.ensures, c.masked-mask.ensures) one,

@@ -5,7 +5,7 @@ use Rattle.text_read_block.proofs.provisions.Given as goal
 
 abbrev pub invariant-loop-i : goal.invariant-loop-i
 invariant-loop-i l =
-    ProvisionsSoFar l.text l.first l.initial.claims l.initial.values l.values l.behind l.valued i l.mask l.i × (i ≤ l.all)
+    ProvisionsSoFar l.text l.first l.initial.claims l.initial.values l.claims l.values l.behind l.i l.valued l.mask × (l.i ≤ l.all)
 
 abbrev pub decreases-loop-i : goal.decreases-loop-i
-decreases-loop-i l = l.all - i
+decreases-loop-i l = l.all - l.i
