@@ -59,6 +59,7 @@ zeros_size = length-replicate {A = ℕ} memory_words 0
 
 -- one behind a list
 in_snoc : (l : List Plugin) (a q : Plugin) → In q (l ++ a ∷ []) → In q l ⊎ (a ≡ q)
+in_snoc [] a q (inr h) = elim h [ ]
 in_snoc [] a q (inl e) = inr e
 in_snoc (b ∷ l) a q (inl e) = inl (inl e)
 in_snoc (b ∷ l) a q (inr i) = ⊎_elim (λ j. inl (inr j)) inr (in_snoc l a q i)
