@@ -13,6 +13,18 @@ use console_names::BUFFER_ROOM;
 use console_words::LINE;
 use memory::WORDS;
 use slot_child::Slot;
+use std::io;
+use std::io::{Print, Read, Stdin, Stdout};
+
+// As many bytes as one read takes at most.
+const PART: usize = 65536;
+
+// Where the answers go. The first write that fails is kept, and nothing is written after it.
+#[derive(Clone, Copy)]
+struct Output {
+    to: Stdout,
+    written: io::Result<()>,
+}
 
 // What is due of a text: the domain that its registry gets, how many bytes it has, and how many of them came.
 #[derive(Clone, Copy)]
@@ -31,20 +43,20 @@ struct State {
 }
 
 // The whole answer, in one piece; none to a line that is passed over.
-fn say(page: &[u8; ROOM], stop: usize) {
-    if 0 < stop {
-        io::write_all(1, console_answer::front(page, stop));
+fn say(output: &mut Output, page: &[u8; ROOM], stop: usize) {
+    if 0 < stop && output.written.is_ok() {
+        output.written = output.to.write_all(console_answer::front(page, stop));
     }
 }
 
 // A text is at its end: it is loaded, and the answer written.
-fn text_written(m: &mut [u64; WORDS], text: &[u8; TEXT_ROOM], due: Due) -> Due
+fn text_written(output: &mut Output, m: &mut [u64; WORDS], text: &[u8; TEXT_ROOM], due: Due) -> Due
     ensures { texted m.new result ≡ end_text m.old text.now due }
 {
     let mut page = [0u8; ROOM];
     let bytes = console_answer::front(text, due.came as usize);
     let stop = console_load::loaded(m, due.domain, due.length, bytes, &mut page);
-    say(&page, stop);
+    say(output, &page, stop);
     Due {
         domain: 0,
         length: 0,
@@ -53,27 +65,28 @@ fn text_written(m: &mut [u64; WORDS], text: &[u8; TEXT_ROOM], due: Due) -> Due
 }
 
 // A text ends with its last byte,
-fn whole_text(m: &mut [u64; WORDS], text: &[u8; TEXT_ROOM], due: Due) -> Due
+fn whole_text(output: &mut Output, m: &mut [u64; WORDS], text: &[u8; TEXT_ROOM], due: Due) -> Due
     ensures { texted m.new result ≡ whole_text m.old text.now due }
 {
     if due.came < due.length {
         return due;
     }
-    text_written(m, text, due)
+    text_written(output, m, text, due)
 }
 
 // or with the input.
-fn cut_text(m: &mut [u64; WORDS], text: &[u8; TEXT_ROOM], due: Due) -> Due
+fn cut_text(output: &mut Output, m: &mut [u64; WORDS], text: &[u8; TEXT_ROOM], due: Due) -> Due
     ensures { texted m.new result ≡ cut_text m.old text.now due }
 {
     if due.came < due.length {
-        return text_written(m, text, due);
+        return text_written(output, m, text, due);
     }
     due
 }
 
 // A line that awaits a text is followed by it.
 fn begun_text(
+    output: &mut Output,
     m: &mut [u64; WORDS],
     line: &[u8; LINE],
     filled: usize,
@@ -86,6 +99,7 @@ fn begun_text(
     let awaited = console_load::awaits(line, filled);
     match awaited {
         Awaited::Text(domain, length) => whole_text(
+            output,
             m,
             text,
             Due {
@@ -100,6 +114,7 @@ fn begun_text(
 
 // A line is at its end: it is carried out, and its answer written.
 fn written(
+    output: &mut Output,
     m: &mut [u64; WORDS],
     buffer: &mut [u64; BUFFER_ROOM],
     line: &[u8; LINE],
@@ -115,11 +130,11 @@ fn written(
     let mut page = [0u8; ROOM];
     let said = console_line::ended(m, buffer, slot, line, state.filled, &mut page);
     let left = said.slot;
-    say(&page, said.stop);
+    say(output, &page, said.stop);
     State {
         filled: 0,
         slot: left,
-        due: begun_text(m, line, state.filled, text, due),
+        due: begun_text(output, m, line, state.filled, text, due),
     }
 }
 
@@ -134,13 +149,20 @@ fn longer_text(text: &mut [u8; TEXT_ROOM], came: u64, byte: u8)
 }
 
 // One byte of a text.
-fn text_byte(m: &mut [u64; WORDS], text: &mut [u8; TEXT_ROOM], due: Due, byte: u8) -> Due
+fn text_byte(
+    output: &mut Output,
+    m: &mut [u64; WORDS],
+    text: &mut [u8; TEXT_ROOM],
+    due: Due,
+    byte: u8,
+) -> Due
     requires { due.came < due.length }
     ensures { (text.new ≡ longer_text text.old due.came byte)
         × (texted m.new result ≡ whole_text m.old (longer_text text.old due.came byte) (one_more due)) }
 {
     longer_text(text, due.came, byte);
     whole_text(
+        output,
         m,
         text,
         Due {
@@ -153,6 +175,7 @@ fn text_byte(m: &mut [u64; WORDS], text: &mut [u8; TEXT_ROOM], due: Due, byte: u
 
 // One byte of the input: it is the text's that is due, or ends the line, or makes it longer.
 fn next_byte(
+    output: &mut Output,
     m: &mut [u64; WORDS],
     buffer: &mut [u64; BUFFER_ROOM],
     line: &mut [u8; LINE],
@@ -170,11 +193,11 @@ fn next_byte(
         return State {
             filled: state.filled,
             slot,
-            due: text_byte(m, text, due, byte),
+            due: text_byte(output, m, text, due, byte),
         };
     }
     if byte == 10 {
-        return written(m, buffer, line, text, state);
+        return written(output, m, buffer, line, text, state);
     }
     State {
         filled: console_words::longer(line, state.filled, byte),
@@ -185,6 +208,7 @@ fn next_byte(
 
 // The bytes of one part of the input.
 fn feed(
+    output: &mut Output,
     m: &mut [u64; WORDS],
     buffer: &mut [u64; BUFFER_ROOM],
     line: &mut [u8; LINE],
@@ -199,7 +223,7 @@ fn feed(
     let mut now = state;
     let mut i: usize = 0;
     while i < part.len() {
-        now = next_byte(m, buffer, line, text, now, part[i]);
+        now = next_byte(output, m, buffer, line, text, now, part[i]);
         i += 1;
     }
     now
@@ -211,21 +235,22 @@ struct Fed {
     more: bool,
 }
 
-// One read.
+// One read. One that fails counts as the end of the input.
 fn feed_some(
+    input: &mut Stdin,
+    output: &mut Output,
     m: &mut [u64; WORDS],
     buffer: &mut [u64; BUFFER_ROOM],
     line: &mut [u8; LINE],
     text: &mut [u8; TEXT_ROOM],
     state: State,
 ) -> Fed {
-    let mut part = io::large_buffer();
-    let got = libc::read(0, &mut part);
-    if got <= 0 {
+    let mut part = [0u8; PART];
+    let n = input.read(&mut part).unwrap_or(0);
+    if n == 0 {
         return Fed { state, more: false };
     }
-    let n = io::count(got, &part);
-    let after = feed(m, buffer, line, text, state, &part[..n]);
+    let after = feed(output, m, buffer, line, text, state, &part[..n]);
     Fed {
         state: after,
         more: true,
@@ -234,6 +259,7 @@ fn feed_some(
 
 // The input is at its end: the text that is due is what there is of it, and else the last line ends.
 fn finished(
+    output: &mut Output,
     m: &mut [u64; WORDS],
     buffer: &mut [u64; BUFFER_ROOM],
     line: &[u8; LINE],
@@ -246,16 +272,21 @@ fn finished(
 {
     let due = state.due;
     if due.came < due.length {
-        cut_text(m, text, due);
+        cut_text(output, m, text, due);
         return;
     }
-    let after = written(m, buffer, line, text, state);
+    let after = written(output, m, buffer, line, text, state);
     let late = after.due;
-    cut_text(m, text, late);
+    cut_text(output, m, text, late);
 }
 
 // A proved loop has to end, and nothing says that the input does: the turns count down from a number that no run uses up.
-fn main() {
+fn main(rt: HostRuntime) -> io::Result<()> {
+    let mut input = rt.stdin();
+    let mut output = Output {
+        to: rt.stdout(),
+        written: Ok(()),
+    };
     let mut m = [0u64; WORDS];
     let mut buffer = [0u64; BUFFER_ROOM];
     let mut line = [0u8; LINE];
@@ -273,10 +304,20 @@ fn main() {
     let mut more = true;
     let mut turns = u64::MAX;
     while turns > 0 && more {
-        let fed = feed_some(&mut m, &mut buffer, &mut line, &mut text, state);
+        let fed = feed_some(
+            &mut input,
+            &mut output,
+            &mut m,
+            &mut buffer,
+            &mut line,
+            &mut text,
+            state,
+        );
+        output.written?;
         state = fed.state;
         more = fed.more;
         turns -= 1;
     }
-    finished(&mut m, &mut buffer, &line, &text, state);
+    finished(&mut output, &mut m, &mut buffer, &line, &text, state);
+    output.written
 }
