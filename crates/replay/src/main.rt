@@ -1,11 +1,12 @@
 // The console: operations from standard input, one a line, are carried out on one registry, and each is answered by a line.
 #![tactic(auto)]
 
-ghost use Rattle.std.specs.Prelude.{◌≡◌, ◌<◌};
+ghost use Rattle.std.specs.Prelude.{◌≡◌, ◌<◌, take, IfOk, OnOk};
 ghost use Rattle.slot_child.specs.Slots.{slot_of};
 ghost use Rattle.console_load.specs.Awaited.{awaited};
 ghost use Rattle.replay.specs.Fed.{texted, end_text, whole_text, cut_text, begun_text, longer_text, one_more};
 ghost use Rattle.replay.specs.Fed.{kept, end_line, byte_fed, fed, input_ended};
+ghost use Rattle.replay.specs.Said.{Says, text_said, whole_said, cut_said, begun_said, line_said, byte_said, said, end_said, FeedsSome, Answers};
 
 use console_answer::{ROOM, TEXT_ROOM};
 use console_load::Awaited;
@@ -14,16 +15,16 @@ use console_words::LINE;
 use memory::WORDS;
 use slot_child::Slot;
 use std::io;
-use std::io::{Print, Read, Stdin, Stdout};
+use std::io::{Read, Write};
 
 // As many bytes as one read takes at most.
 const PART: usize = 65536;
 
 // Where the answers go. The first write that fails is kept, and nothing is written after it.
-#[derive(Clone, Copy)]
-struct Output {
-    to: Stdout,
-    written: io::Result<()>,
+#[derive(Drop)]
+pub struct Output<W> {
+    pub to: W,
+    pub written: io::Result<()>,
 }
 
 // What is due of a text: the domain that its registry gets, how many bytes it has, and how many of them came.
@@ -43,15 +44,24 @@ struct State {
 }
 
 // The whole answer, in one piece; none to a line that is passed over.
-fn say(output: &mut Output, page: &[u8; ROOM], stop: usize) {
+fn say<W: Write>(output: &mut Output<W>, page: &[u8; ROOM], stop: usize)
+    ensures { Says W.contents output.old output.new (take stop page.now) }
+{
     if 0 < stop && output.written.is_ok() {
         output.written = output.to.write_all(console_answer::front(page, stop));
     }
 }
 
 // A text is at its end: it is loaded, and the answer written.
-fn text_written(output: &mut Output, m: &mut [u64; WORDS], text: &[u8; TEXT_ROOM], due: Due) -> Due
-    ensures { texted m.new result ≡ end_text m.old text.now due }
+fn text_written<W: Write>(
+    output: &mut Output<W>,
+    m: &mut [u64; WORDS],
+    text: &[u8; TEXT_ROOM],
+    due: Due,
+) -> Due
+    ensures keeps { texted m.new result ≡ end_text m.old text.now due }
+    ensures says { Says W.contents output.old output.new
+        (text_said m.old text.now due) }
 {
     let mut page = [0u8; ROOM];
     let bytes = console_answer::front(text, due.came as usize);
@@ -65,8 +75,15 @@ fn text_written(output: &mut Output, m: &mut [u64; WORDS], text: &[u8; TEXT_ROOM
 }
 
 // A text ends with its last byte,
-fn whole_text(output: &mut Output, m: &mut [u64; WORDS], text: &[u8; TEXT_ROOM], due: Due) -> Due
-    ensures { texted m.new result ≡ whole_text m.old text.now due }
+fn whole_text<W: Write>(
+    output: &mut Output<W>,
+    m: &mut [u64; WORDS],
+    text: &[u8; TEXT_ROOM],
+    due: Due,
+) -> Due
+    ensures keeps { texted m.new result ≡ whole_text m.old text.now due }
+    ensures says { Says W.contents output.old output.new
+        (whole_said m.old text.now due) }
 {
     if due.came < due.length {
         return due;
@@ -75,8 +92,15 @@ fn whole_text(output: &mut Output, m: &mut [u64; WORDS], text: &[u8; TEXT_ROOM],
 }
 
 // or with the input.
-fn cut_text(output: &mut Output, m: &mut [u64; WORDS], text: &[u8; TEXT_ROOM], due: Due) -> Due
-    ensures { texted m.new result ≡ cut_text m.old text.now due }
+fn cut_text<W: Write>(
+    output: &mut Output<W>,
+    m: &mut [u64; WORDS],
+    text: &[u8; TEXT_ROOM],
+    due: Due,
+) -> Due
+    ensures keeps { texted m.new result ≡ cut_text m.old text.now due }
+    ensures says { Says W.contents output.old output.new
+        (cut_said m.old text.now due) }
 {
     if due.came < due.length {
         return text_written(output, m, text, due);
@@ -85,16 +109,18 @@ fn cut_text(output: &mut Output, m: &mut [u64; WORDS], text: &[u8; TEXT_ROOM], d
 }
 
 // A line that awaits a text is followed by it.
-fn begun_text(
-    output: &mut Output,
+fn begun_text<W: Write>(
+    output: &mut Output<W>,
     m: &mut [u64; WORDS],
     line: &[u8; LINE],
     filled: usize,
     text: &[u8; TEXT_ROOM],
     due: Due,
 ) -> Due
-    ensures { texted m.new result
+    ensures keeps { texted m.new result
         ≡ begun_text (awaited line.now filled) m.old text.now due }
+    ensures says { Says W.contents output.old output.new
+        (begun_said (awaited line.now filled) m.old text.now due) }
 {
     let awaited = console_load::awaits(line, filled);
     match awaited {
@@ -113,17 +139,19 @@ fn begun_text(
 }
 
 // A line is at its end: it is carried out, and its answer written.
-fn written(
-    output: &mut Output,
+fn written<W: Write>(
+    output: &mut Output<W>,
     m: &mut [u64; WORDS],
     buffer: &mut [u64; BUFFER_ROOM],
     line: &[u8; LINE],
     text: &[u8; TEXT_ROOM],
     state: State,
 ) -> State
-    ensures { kept m.new buffer.new (slot_of result.slot) line.now result.filled text.now result.due
+    ensures keeps { kept m.new buffer.new (slot_of result.slot) line.now result.filled text.now result.due
         ≡ end_line (kept m.old buffer.old (slot_of state.slot) line.now state.filled
         text.now state.due) }
+    ensures says { Says W.contents output.old output.new
+        (line_said (kept m.old buffer.old (slot_of state.slot) line.now state.filled text.now state.due)) }
 {
     let slot = state.slot;
     let due = state.due;
@@ -149,16 +177,18 @@ fn longer_text(text: &mut [u8; TEXT_ROOM], came: u64, byte: u8)
 }
 
 // One byte of a text.
-fn text_byte(
-    output: &mut Output,
+fn text_byte<W: Write>(
+    output: &mut Output<W>,
     m: &mut [u64; WORDS],
     text: &mut [u8; TEXT_ROOM],
     due: Due,
     byte: u8,
 ) -> Due
     requires { due.came < due.length }
-    ensures { (text.new ≡ longer_text text.old due.came byte)
+    ensures keeps { (text.new ≡ longer_text text.old due.came byte)
         × (texted m.new result ≡ whole_text m.old (longer_text text.old due.came byte) (one_more due)) }
+    ensures says { Says W.contents output.old output.new
+        (whole_said m.old (longer_text text.old due.came byte) (one_more due)) }
 {
     longer_text(text, due.came, byte);
     whole_text(
@@ -174,8 +204,8 @@ fn text_byte(
 }
 
 // One byte of the input: it is the text's that is due, or ends the line, or makes it longer.
-fn next_byte(
-    output: &mut Output,
+fn next_byte<W: Write>(
+    output: &mut Output<W>,
     m: &mut [u64; WORDS],
     buffer: &mut [u64; BUFFER_ROOM],
     line: &mut [u8; LINE],
@@ -183,9 +213,11 @@ fn next_byte(
     state: State,
     byte: u8,
 ) -> State
-    ensures { kept m.new buffer.new (slot_of result.slot) line.new result.filled text.new result.due
+    ensures keeps { kept m.new buffer.new (slot_of result.slot) line.new result.filled text.new result.due
         ≡ byte_fed (kept m.old buffer.old (slot_of state.slot) line.old state.filled
         text.old state.due) byte }
+    ensures says { Says W.contents output.old output.new
+        (byte_said (kept m.old buffer.old (slot_of state.slot) line.old state.filled text.old state.due) byte) }
 {
     let slot = state.slot;
     let due = state.due;
@@ -207,8 +239,8 @@ fn next_byte(
 }
 
 // The bytes of one part of the input.
-fn feed(
-    output: &mut Output,
+fn feed<W: Write>(
+    output: &mut Output<W>,
     m: &mut [u64; WORDS],
     buffer: &mut [u64; BUFFER_ROOM],
     line: &mut [u8; LINE],
@@ -216,9 +248,11 @@ fn feed(
     state: State,
     part: &[u8],
 ) -> State
-    ensures { kept m.new buffer.new (slot_of result.slot) line.new result.filled text.new result.due
+    ensures keeps { kept m.new buffer.new (slot_of result.slot) line.new result.filled text.new result.due
         ≡ fed (kept m.old buffer.old (slot_of state.slot) line.old state.filled
         text.old state.due) part.now }
+    ensures says { Says W.contents output.old output.new
+        (said (kept m.old buffer.old (slot_of state.slot) line.old state.filled text.old state.due) part.now) }
 {
     let mut now = state;
     let mut i: usize = 0;
@@ -235,40 +269,46 @@ struct Fed {
     more: bool,
 }
 
-// One read. One that fails counts as the end of the input.
-fn feed_some(
-    input: &mut Stdin,
-    output: &mut Output,
+// One read; of nothing, at the input's end.
+fn feed_some<R: Read, W: Write>(
+    input: &mut R,
+    output: &mut Output<W>,
     m: &mut [u64; WORDS],
     buffer: &mut [u64; BUFFER_ROOM],
     line: &mut [u8; LINE],
     text: &mut [u8; TEXT_ROOM],
     state: State,
-) -> Fed {
+) -> io::Result<Fed>
+    ensures { IfOk result (λ f. FeedsSome R.remaining W.contents input.old input.new output.old output.new
+        (kept m.old buffer.old (slot_of state.slot) line.old state.filled text.old state.due)
+        (kept m.new buffer.new (slot_of f.state.slot) line.new f.state.filled text.new f.state.due) f.more) }
+{
     let mut part = [0u8; PART];
-    let n = input.read(&mut part).unwrap_or(0);
+    let n = input.read(&mut part)?;
     if n == 0 {
-        return Fed { state, more: false };
+        return Ok(Fed { state, more: false });
     }
     let after = feed(output, m, buffer, line, text, state, &part[..n]);
-    Fed {
+    Ok(Fed {
         state: after,
         more: true,
-    }
+    })
 }
 
 // The input is at its end: the text that is due is what there is of it, and else the last line ends.
-fn finished(
-    output: &mut Output,
+fn finished<W: Write>(
+    output: &mut Output<W>,
     m: &mut [u64; WORDS],
     buffer: &mut [u64; BUFFER_ROOM],
     line: &[u8; LINE],
     text: &[u8; TEXT_ROOM],
     state: State,
 )
-    ensures { m.new
+    ensures keeps { m.new
         ≡ (input_ended (kept m.old buffer.old (slot_of state.slot) line.now state.filled
         text.now state.due)).memory }
+    ensures says { Says W.contents output.old output.new
+        (end_said (kept m.old buffer.old (slot_of state.slot) line.now state.filled text.now state.due)) }
 {
     let due = state.due;
     if due.came < due.length {
@@ -280,13 +320,12 @@ fn finished(
     cut_text(output, m, text, late);
 }
 
+// From the first byte of the input to its end: what is written is the answers to what is read.
 // A proved loop has to end, and nothing says that the input does: the turns count down from a number that no run uses up.
-fn main(rt: HostRuntime) -> io::Result<()> {
-    let mut input = rt.stdin();
-    let mut output = Output {
-        to: rt.stdout(),
-        written: Ok(()),
-    };
+pub fn run<R: Read, W: Write>(input: &mut R, output: &mut Output<W>) -> io::Result<()>
+    ensures { OnOk result (Answers (R.remaining input.old) (R.remaining input.new)
+        (W.contents output.old.to) (W.contents output.new.to)) }
+{
     let mut m = [0u64; WORDS];
     let mut buffer = [0u64; BUFFER_ROOM];
     let mut line = [0u8; LINE];
@@ -305,19 +344,104 @@ fn main(rt: HostRuntime) -> io::Result<()> {
     let mut turns = u64::MAX;
     while turns > 0 && more {
         let fed = feed_some(
-            &mut input,
-            &mut output,
+            input,
+            output,
             &mut m,
             &mut buffer,
             &mut line,
             &mut text,
             state,
-        );
+        )?;
         output.written?;
         state = fed.state;
         more = fed.more;
         turns -= 1;
     }
-    finished(&mut output, &mut m, &mut buffer, &line, &text, state);
+    finished(output, &mut m, &mut buffer, &line, &text, state);
     output.written
+}
+
+fn main(rt: HostRuntime) -> io::Result<()> {
+    let mut output = Output {
+        to: rt.stdout(),
+        written: Ok(()),
+    };
+    run(&mut rt.stdin(), &mut output)
+}
+
+#[cfg(test)]
+mod tests {
+    use super::*;
+    use std::test::Fail;
+
+    // Gives its bytes, and then fails.
+    #[derive(Drop)]
+    struct CutOff<'a>(&'a [u8]);
+
+    impl Read for CutOff<'_> {
+        fn read(&mut self, buf: &mut [u8]) -> io::Result<usize> {
+            if self.0.is_empty() {
+                return Err(io::Error::other("cut off"));
+            }
+            self.0.read(buf)
+        }
+    }
+
+    // Fails once, at its second write.
+    #[derive(Drop)]
+    struct Stumbling {
+        taken: Vec<u8>,
+        writes: u8,
+    }
+
+    impl Write for Stumbling {
+        fn write(&mut self, buf: &[u8]) -> io::Result<usize> {
+            self.writes = self.writes.saturating_add(1);
+            if self.writes == 2 {
+                return Err(io::Error::other("full"));
+            }
+            self.taken.write(buf)
+        }
+
+        fn flush(&mut self) -> io::Result<()> {
+            Ok(())
+        }
+    }
+
+    #[test]
+    fn answers_each_line(rt: HostRuntime) -> Result<(), Fail> {
+        let mut output = Output {
+            to: Vec::new(rt.alloc()),
+            written: Ok(()),
+        };
+        run(
+            &mut b"next\n# nothing\nshow 0\n\ncount".as_slice(),
+            &mut output,
+        )?;
+        assert_eq!(rt; output.to.as_slice(), b"ok 0\nno 1\nok 0\n".as_slice());
+        Ok(())
+    }
+
+    #[test]
+    fn tells_a_failed_write_and_writes_no_more(rt: HostRuntime) {
+        let mut output = Output {
+            to: Stumbling {
+                taken: Vec::new(rt.alloc()),
+                writes: 0,
+            },
+            written: Ok(()),
+        };
+        assert!(rt; run(&mut b"next\ncount\nnext\n".as_slice(), &mut output).is_err());
+        assert_eq!(rt; output.to.taken.as_slice(), b"ok 0\n".as_slice());
+    }
+
+    #[test]
+    fn tells_a_failed_read_and_ends_no_line(rt: HostRuntime) {
+        let mut output = Output {
+            to: Vec::new(rt.alloc()),
+            written: Ok(()),
+        };
+        assert!(rt; run(&mut CutOff(b"next\ncount"), &mut output).is_err());
+        assert_eq!(rt; output.to.as_slice(), b"ok 0\n".as_slice());
+    }
 }

@@ -3,8 +3,8 @@ use Rattle.std.proofs.Common.{ap, ◌∙◌}
 use Rattle.replay.specs.Fed.{whole_text, one_more}
 use Rattle.replay.proofs.text_byte.Goals as goal
 
-pub returns : goal.returns
-returns c =
+pub returns-clause-keeps : goal.returns-clause-keeps
+returns-clause-keeps g c =
     let x = c.args in
     let e = c.longer_text.ensures in
-    (e, c.whole_text.ensures ∙ ap (λ t. whole_text x.m.now t (one_more x.due)) e)
+    (e, c.whole_text.ensures.keeps ∙ ap (λ t. whole_text x.m.now t (one_more x.due)) e)

@@ -3,12 +3,12 @@ use Rattle.std.proofs.Common.{◌∙◌}
 use Rattle.replay.proofs.Laws.{to_come, all_came}
 use Rattle.replay.proofs.whole_text.Goals as goal
 
-pub returns-then-due : goal.returns-then-due
-returns-then-due c =
+pub returns-then-due-clause-keeps : goal.returns-then-due-clause-keeps
+returns-then-due-clause-keeps g c =
     let x = c.args in
     to_come x.m.now x.text.now x.due c.if-due.true
 
-pub returns : goal.returns
-returns c =
+pub returns-clause-keeps : goal.returns-clause-keeps
+returns-clause-keeps g c =
     let x = c.args in
-    c.text_written.ensures ∙ all_came x.m.now x.text.now x.due c.if-due.false
+    c.text_written.ensures.keeps ∙ all_came x.m.now x.text.now x.due c.if-due.false
