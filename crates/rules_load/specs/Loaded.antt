@@ -17,7 +17,8 @@ use Rattle.rules.specs.Text.{Said, by_id, said, text, text_of, read_text, read_w
 use Rattle.rules.specs.Conditions.{loadable}
 use Rattle.rules.specs.Load.{unqueued_root, unqueued, moved_to, in_places, loaded, refused, opens, opening, load}
 use Rattle.rules_laws.specs.History.{story, Demand3}
-use Rattle.rules_laws.specs.Demand3.{Start, demand_3}
+use Rattle.rules_laws.specs.Demand3.{Start}
+use Rattle.rules_laws.proofs.Demand3.{demand_3}
 use Rattle.rules_laws.specs.Laws.Tests.{by_test, both}
 use Rattle.rules_laws.specs.Laws.Members.{In, lookup_in}
 use Rattle.rules_laws.specs.Built.{ids_of, Built}
