@@ -8,7 +8,8 @@ use Rattle.rules.specs.Refusals.{SameDomain}
 use Rattle.rules.specs.Outcomes.{Refused, Accepted}
 use Rattle.rules.specs.Admission.{Invocation}
 use Rattle.rules.specs.Steps.{Op, Call, answer_to}
-use Rattle.rules.specs.Text.{Said, said, text, text_of, read_text, read_written}
+use Rattle.rules.specs.Text.{Said, said, text, text_of, read_text}
+use Rattle.rules.proofs.Text.{read_written}
 use Rattle.rules.specs.Conditions.{loadable}
 use Rattle.rules.specs.Load.{moved_to, loaded, Opening, refused, opens, opening, load, load_answer, after_load}
 use Rattle.rules_laws.specs.History.{story, Demand3}

@@ -13,7 +13,8 @@ use Rattle.rules.specs.Holds.{Plugin, Registry, plugins, opened, lookup, sum_row
 use Rattle.rules.specs.Refusals.{BadText, SameDomain}
 use Rattle.rules.specs.Steps.{Op, Call, after_step, answer_to, run}
 use Rattle.rules.specs.Admission.{Invocation}
-use Rattle.rules.specs.Text.{Said, by_id, said, text, text_of, read_text, read_written, written_read}
+use Rattle.rules.specs.Text.{Said, by_id, said, text, text_of, read_text}
+use Rattle.rules.proofs.Text.{read_written, written_read}
 use Rattle.rules.specs.Conditions.{loadable}
 use Rattle.rules.specs.Load.{unqueued_root, unqueued, moved_to, in_places, loaded, refused, opens, opening, load}
 use Rattle.rules_laws.specs.History.{story, Demand3}
