@@ -7,7 +7,7 @@ fn main() {
     println!("cargo::rerun-if-env-changed=VASKELBI_LIB_DIR");
     let folder = env::var("VASKELBI_LIB_DIR").map_or_else(|_| made(), given);
     let out = env::var("OUT_DIR").unwrap();
-    // A copy of cargo's own, as a run of the gate removes the folder.
+    // A copy of cargo's own, as each run of ../archive removes the folder.
     fs::copy(format!("{folder}/libvaskelbi.a"), format!("{out}/libvaskelbi.a"))
         .unwrap_or_else(|error| panic!("{folder}/libvaskelbi.a: {error}"));
     println!("cargo::rustc-link-search=native={out}");
@@ -22,8 +22,16 @@ fn given(folder: String) -> String {
 
 /// Proves the library, and answers the folder with its archive for the target.
 fn made() -> String {
-    for path in ["../archive", "../../crates.txt", "../../crates"] {
-        println!("cargo::rerun-if-changed={path}");
+    println!("cargo::rerun-if-changed=../archive");
+    println!("cargo::rerun-if-changed=../../crates.txt");
+    // Not what `rt` makes beside them.
+    for part in fs::read_dir("../../crates").unwrap().flat_map(|folder| {
+        let folder = folder.unwrap().path();
+        ["src", "specs", "proofs"].map(|name| folder.join(name))
+    }) {
+        if part.is_dir() {
+            println!("cargo::rerun-if-changed={}", part.display());
+        }
     }
     let arch = env::var("CARGO_CFG_TARGET_ARCH").unwrap();
     let run = Command::new("../archive").arg(arch).output().expect("../archive does not start");

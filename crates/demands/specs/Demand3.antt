@@ -7,7 +7,7 @@ use Rattle.rules.specs.Holds.{Registry, opened}
 use Rattle.rules.specs.Admission.{Invocation}
 use Rattle.rules.specs.Steps.{Op, Event, event, answer_to, Run, go_on_with, run, Call}
 use Rattle.rules_laws.specs.History.{story, Demand3}
-use Rattle.rules_laws.specs.Demand3 as rules
+use Rattle.rules_laws.proofs.Demand3 as rules
 use Rattle.memory.specs.View.{view}
 use Rattle.memory.specs.Layout.{memory_words}
 use Rattle.registry_remove.specs.Refines.{open_refines}

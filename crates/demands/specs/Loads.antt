@@ -8,12 +8,14 @@ use Rattle.rules.specs.Refusals.{SameDomain}
 use Rattle.rules.specs.Outcomes.{Refused, Accepted}
 use Rattle.rules.specs.Admission.{Invocation}
 use Rattle.rules.specs.Steps.{Op, Call, answer_to}
-use Rattle.rules.specs.Text.{Said, said, text, text_of, read_text, read_written}
+use Rattle.rules.specs.Text.{Said, said, text, text_of, read_text}
+use Rattle.rules.proofs.Text.{read_written}
 use Rattle.rules.specs.Conditions.{loadable}
 use Rattle.rules.specs.Load.{moved_to, loaded, Opening, refused, opens, opening, load, load_answer, after_load}
 use Rattle.rules_laws.specs.History.{story, Demand3}
 use Rattle.rules_laws.specs.Laws.Tests.{by_test}
-use Rattle.rules_load.specs.Loaded.{load_opens, load_same, load_fits, text_loaded}
+use Rattle.rules_load.specs.Loaded.{load_opens, load_same, load_fits}
+use Rattle.rules_load.proofs.Loaded.{text_loaded}
 use Rattle.rules_load.specs.Twin.{built_loadable}
 use Rattle.memory.specs.View.{view}
 use Rattle.memory_load.specs.Loading.{words_of}

@@ -11,9 +11,10 @@ use Rattle.rules.specs.Orders.{named, passes, set_checks}
 use Rattle.rules_laws.specs.Laws.Tests.{Passed}
 use Rattle.rules_orders.specs.Checked.{yes_passes}
 use Rattle.rules_orders.specs.Histories.{active, is_up}
-use Rattle.rules_orders.specs.Started.{up_is_active, never_14}
+use Rattle.rules_orders.proofs.Started.{up_is_active, never_14}
 use Rattle.rules_orders.specs.OneStart.{smooth}
-use Rattle.rules_orders.specs.Startup.{start_all, starts}
+use Rattle.rules_orders.specs.Startup.{start_all}
+use Rattle.rules_orders.proofs.Startup.{starts}
 use Rattle.memory.specs.View.{view}
 use Rattle.demands.specs.Demand2.{Made, made_sound}
 use Rattle.demands.specs.Demand3.{night, same_run}

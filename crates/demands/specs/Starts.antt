@@ -13,7 +13,8 @@ use Rattle.rules_laws.specs.Built.{Built}
 use Rattle.rules_laws.specs.Kept.{opened_built, built_start}
 use Rattle.rules_load.specs.Meets.{loadable_meets}
 use Rattle.rules_load.specs.Laws.Unqueued.{moved_loadable}
-use Rattle.rules_load.specs.Loaded.{load_opens, opens_built, opens_start}
+use Rattle.rules_load.specs.Loaded.{load_opens}
+use Rattle.rules_load.proofs.Loaded.{opens_built, opens_start}
 use Rattle.memory.specs.View.{view}
 use Rattle.memory.specs.Writes.{opened_with}
 use Rattle.memory.specs.Layout.{memory_words}

@@ -9,7 +9,8 @@ use Rattle.rules.specs.Holds.{Plugin, Registry, lookup, rows_in_use}
 use Rattle.rules.specs.Steps.{Op, answer_to}
 use Rattle.rules_laws.specs.Acts.{act}
 use Rattle.rules_laws.specs.Stays.{domain_stays, first_stays, begun_by, generation_stays}
-use Rattle.rules_laws.specs.Ledger.{Entry, entered, ledger, entry_rows, Booked, start_booked, step_booked}
+use Rattle.rules_laws.specs.Ledger.{Entry, entered, ledger, entry_rows}
+use Rattle.rules_laws.proofs.Ledger.{Booked, start_booked, step_booked}
 use Rattle.memory.specs.View.{view}
 use Rattle.demands.specs.Leaves.{leaves}
 use Rattle.demands.specs.Demand2.{Made, goes_on, made_sound, demand_2}

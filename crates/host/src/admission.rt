@@ -9,8 +9,7 @@ use host_answers::ANSWER;
 use memory::WORDS;
 
 // It answers an invocation: domain, id, generation, revision, argument.
-#[unsafe(no_mangle)]
-pub extern "C" fn vaskelbi_admit(
+pub fn vaskelbi_admit(
     m: &mut [u64; WORDS],
     domain: u64,
     id: u64,
@@ -29,8 +28,7 @@ pub extern "C" fn vaskelbi_admit(
 }
 
 // Whether a ticket would be admitted.
-#[unsafe(no_mangle)]
-pub extern "C" fn vaskelbi_admits(
+pub fn vaskelbi_admits(
     m: &[u64; WORDS],
     domain: u64,
     id: u64,
@@ -44,8 +42,7 @@ pub extern "C" fn vaskelbi_admits(
 }
 
 // It answers a receipt: domain, id, generation, request, payload, argument.
-#[unsafe(no_mangle)]
-pub extern "C" fn vaskelbi_call(
+pub fn vaskelbi_call(
     m: &mut [u64; WORDS],
     domain: u64,
     id: u64,

@@ -11,21 +11,14 @@ use slot_words::SLOT;
 
 // A child slot is eight words of the host's: domain, parent, 1 with a generation or 0, generation, decision (0 Pending,
 // 1 Assigned, 2 Failed, 3 Cancelled), and the assigned domain, parent and id. What a slot lacks is not written.
-#[unsafe(no_mangle)]
-pub extern "C" fn vaskelbi_slot_pending(
-    slot: &mut [u64; SLOT],
-    domain: u64,
-    parent: u64,
-    generation: u64,
-)
+pub fn vaskelbi_slot_pending(slot: &mut [u64; SLOT], domain: u64, parent: u64, generation: u64)
     ensures { slot.new ≡ put_slot slot.old (rules.pending domain parent generation) }
 {
     slot_words::store(slot, Slot::pending(domain, parent, generation))
 }
 
 // A slot made Assigned has no generation.
-#[unsafe(no_mangle)]
-pub extern "C" fn vaskelbi_slot_assigned(slot: &mut [u64; SLOT], domain: u64, parent: u64, id: u64)
+pub fn vaskelbi_slot_assigned(slot: &mut [u64; SLOT], domain: u64, parent: u64, id: u64)
     ensures { slot.new ≡ put_slot slot.old (rules.assigned (identified domain parent id)) }
 {
     slot_words::store(
@@ -38,13 +31,7 @@ pub extern "C" fn vaskelbi_slot_assigned(slot: &mut [u64; SLOT], domain: u64, pa
     )
 }
 
-#[unsafe(no_mangle)]
-pub extern "C" fn vaskelbi_slot_assign(
-    slot: &mut [u64; SLOT],
-    domain: u64,
-    parent: u64,
-    id: u64,
-) -> u64
+pub fn vaskelbi_slot_assign(slot: &mut [u64; SLOT], domain: u64, parent: u64, id: u64) -> u64
     ensures { Decides (rules.assign (slot_of (slot_at slot.old)) (identified domain parent id))
         slot.old result slot.new }
 {
@@ -58,15 +45,13 @@ pub extern "C" fn vaskelbi_slot_assign(
     ))
 }
 
-#[unsafe(no_mangle)]
-pub extern "C" fn vaskelbi_slot_reject(slot: &mut [u64; SLOT]) -> u64
+pub fn vaskelbi_slot_reject(slot: &mut [u64; SLOT]) -> u64
     ensures { Decides (rules.reject (slot_of (slot_at slot.old))) slot.old result slot.new }
 {
     host_answers::done(slot_words::reject(slot))
 }
 
-#[unsafe(no_mangle)]
-pub extern "C" fn vaskelbi_slot_cancel(slot: &mut [u64; SLOT]) -> u64
+pub fn vaskelbi_slot_cancel(slot: &mut [u64; SLOT]) -> u64
     ensures { Decides (rules.cancel (slot_of (slot_at slot.old))) slot.old result slot.new }
 {
     host_answers::done(slot_words::cancel(slot))

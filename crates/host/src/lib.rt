@@ -1,6 +1,6 @@
-// What a host in C or Rust calls, over one lent memory. Each function answers a status, 0 for an acceptance or the refusal's
-// number; the numbers of an answer go to `out` behind their count. A refusal leaves the memory, the slot, the buffer and
-// `out` as they were, but that a refused replacement answers its payload.
+// What a host calls, over one lent memory; `host_c` exports it to C and Rust. Each function answers a status, 0 for an
+// acceptance or the refusal's number; the numbers of an answer go to `out` behind their count. A refusal leaves the memory,
+// the slot, the buffer and `out` as they were, but that a refused replacement answers its payload.
 #![tactic(auto)]
 
 ghost use Rattle.std.specs.Prelude.{◌≡◌};
@@ -45,8 +45,7 @@ pub use value::{
 };
 
 // A fresh registry, whatever the words held before.
-#[unsafe(no_mangle)]
-pub extern "C" fn vaskelbi_open(m: &mut [u64; WORDS], domain: u64, first: u64)
+pub fn vaskelbi_open(m: &mut [u64; WORDS], domain: u64, first: u64)
     ensures { m.new ≡ blank m.old domain first }
 {
     registry_remove::open(m, domain, first)

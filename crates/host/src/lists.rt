@@ -8,8 +8,7 @@ use host_answers::ANSWER;
 use memory::WORDS;
 
 // It answers how many pairs were listed into the buffer from the place.
-#[unsafe(no_mangle)]
-pub extern "C" fn vaskelbi_list_dependencies(
+pub fn vaskelbi_list_dependencies(
     m: &[u64; WORDS],
     id: u64,
     place: usize,
@@ -25,8 +24,7 @@ pub extern "C" fn vaskelbi_list_dependencies(
     )
 }
 
-#[unsafe(no_mangle)]
-pub extern "C" fn vaskelbi_list_provisions(
+pub fn vaskelbi_list_provisions(
     m: &[u64; WORDS],
     id: u64,
     place: usize,
@@ -39,8 +37,7 @@ pub extern "C" fn vaskelbi_list_provisions(
     host_answers::number(registry_queries::list_provisions(m, id, place, buffer), out)
 }
 
-#[unsafe(no_mangle)]
-pub extern "C" fn vaskelbi_list_realms(
+pub fn vaskelbi_list_realms(
     m: &[u64; WORDS],
     id: u64,
     place: usize,

@@ -8,8 +8,7 @@ use host_answers::ANSWER;
 use memory::WORDS;
 
 // It answers the order's length, and no number where no order passes; the buffer behind the order stays as it was.
-#[unsafe(no_mangle)]
-pub extern "C" fn vaskelbi_plan_order(
+pub fn vaskelbi_plan_order(
     m: &[u64; WORDS],
     set: &[u64],
     buffer: &mut [u64],
@@ -22,8 +21,7 @@ pub extern "C" fn vaskelbi_plan_order(
 }
 
 // Whether the order passes.
-#[unsafe(no_mangle)]
-pub extern "C" fn vaskelbi_check_order(
+pub fn vaskelbi_check_order(
     m: &[u64; WORDS],
     set: &[u64],
     order: &[u64],

@@ -11,8 +11,7 @@ use rules::Port;
 
 // Registration without a parent: anchor, payload, realm list (edition, default, key, realm, key, realm), dependency keys, provision
 // keys. It answers the new id.
-#[unsafe(no_mangle)]
-pub extern "C" fn vaskelbi_register(
+pub fn vaskelbi_register(
     m: &mut [u64; WORDS],
     key: u64,
     realm: u64,
@@ -44,8 +43,7 @@ pub extern "C" fn vaskelbi_register(
 }
 
 // Registration under a parent.
-#[unsafe(no_mangle)]
-pub extern "C" fn vaskelbi_register_child(
+pub fn vaskelbi_register_child(
     m: &mut [u64; WORDS],
     parent: u64,
     key: u64,

@@ -7,12 +7,7 @@ use host_answers::ANSWER;
 use memory::WORDS;
 
 // It answers the text's length; bytes behind the text stay as they were.
-#[unsafe(no_mangle)]
-pub extern "C" fn vaskelbi_write_text(
-    m: &[u64; WORDS],
-    text: &mut [u8],
-    out: &mut [u64; ANSWER],
-) -> u64
+pub fn vaskelbi_write_text(m: &[u64; WORDS], text: &mut [u8], out: &mut [u64; ANSWER]) -> u64
     ensures { ListsAndTells m.now (Write Text text.old)
         out.old result out.new text.new }
 {
@@ -20,8 +15,7 @@ pub extern "C" fn vaskelbi_write_text(
 }
 
 // The registry of a text takes the place of the one in the memory, under this domain; a refused text changes nothing.
-#[unsafe(no_mangle)]
-pub extern "C" fn vaskelbi_load(m: &mut [u64; WORDS], domain: u64, text: &[u8]) -> u64
+pub fn vaskelbi_load(m: &mut [u64; WORDS], domain: u64, text: &[u8]) -> u64
     ensures { Loads m.old domain text.now result m.new }
 {
     host_answers::done(registry_load::load(m, domain, text))

@@ -8,22 +8,14 @@ ghost use Rattle.host.specs.Tells.{answer, Does};
 use host_answers::ANSWER;
 use memory::WORDS;
 
-#[unsafe(no_mangle)]
-pub extern "C" fn vaskelbi_offer(
-    m: &mut [u64; WORDS],
-    id: u64,
-    key: u64,
-    realm: u64,
-    value: u64,
-) -> u64
+pub fn vaskelbi_offer(m: &mut [u64; WORDS], id: u64, key: u64, realm: u64, value: u64) -> u64
     ensures { Does m.old (Offer id (port key realm) value) result m.new }
 {
     host_answers::done(registry_offer::offer(m, id, key, realm, value))
 }
 
 // It answers the value and its provider's id.
-#[unsafe(no_mangle)]
-pub extern "C" fn vaskelbi_read(
+pub fn vaskelbi_read(
     m: &[u64; WORDS],
     id: u64,
     key: u64,
@@ -36,55 +28,34 @@ pub extern "C" fn vaskelbi_read(
 }
 
 // The Active provider's value, or no number.
-#[unsafe(no_mangle)]
-pub extern "C" fn vaskelbi_visible(
-    m: &[u64; WORDS],
-    key: u64,
-    realm: u64,
-    out: &mut [u64; ANSWER],
-) -> u64
+pub fn vaskelbi_visible(m: &[u64; WORDS], key: u64, realm: u64, out: &mut [u64; ANSWER]) -> u64
     ensures { Tells (answer m.now (Ask (Visible (port key realm)))) out.old result out.new }
 {
     host_answers::optional(registry_values::visible(m, key, realm), out)
 }
 
 // A plugin's own value of a provision, or no number.
-#[unsafe(no_mangle)]
-pub extern "C" fn vaskelbi_own(
-    m: &[u64; WORDS],
-    id: u64,
-    key: u64,
-    realm: u64,
-    out: &mut [u64; ANSWER],
-) -> u64
+pub fn vaskelbi_own(m: &[u64; WORDS], id: u64, key: u64, realm: u64, out: &mut [u64; ANSWER]) -> u64
     ensures { Tells (answer m.now (Ask (Own id (port key realm)))) out.old result out.new }
 {
     host_answers::perhaps(registry_values::own(m, id, key, realm), out)
 }
 
 // The first provision without a value, or no number.
-#[unsafe(no_mangle)]
-pub extern "C" fn vaskelbi_missing(m: &[u64; WORDS], id: u64, out: &mut [u64; ANSWER]) -> u64
+pub fn vaskelbi_missing(m: &[u64; WORDS], id: u64, out: &mut [u64; ANSWER]) -> u64
     ensures { Tells (answer m.now (Ask (FirstMissing id))) out.old result out.new }
 {
     host_answers::port(registry_values::missing(m, id), out)
 }
 
 // Whether a list of key, realm pairs is the plugin's provision list.
-#[unsafe(no_mangle)]
-pub extern "C" fn vaskelbi_matches(
-    m: &[u64; WORDS],
-    id: u64,
-    list: &[u64],
-    out: &mut [u64; ANSWER],
-) -> u64
+pub fn vaskelbi_matches(m: &[u64; WORDS], id: u64, list: &[u64], out: &mut [u64; ANSWER]) -> u64
     ensures { Tells (answer m.now (Ask (Matching id list.now))) out.old result out.new }
 {
     host_answers::whether(registry_values::matches(m, id, list), out)
 }
 
-#[unsafe(no_mangle)]
-pub extern "C" fn vaskelbi_declares(
+pub fn vaskelbi_declares(
     m: &[u64; WORDS],
     id: u64,
     key: u64,

@@ -27,7 +27,7 @@ module _ (domain first next : ℕ) where
       let a = both (leb from p.id) (ids_rise (p.id + 1) next ps) rises in
       let b = both (lists_short p) (all lists_short ps) short in
       let one = so_far_next domain first next f p (leb-true from p.id a.0) (omega arith) b.0 (omega arith) in
-      let more = rest ps one a.1 (omega (arith, length-append done (p ∷ []))) (omega (arith, sum_append done (p ∷ []))) b.1 in
+      let more = rest {from = p.id + 1} ps one a.1 (omega (arith, length-append done (p ∷ []))) (omega (arith, sum_append done (p ∷ []))) b.1 in
       rw append_assoc at more
 
 module _ (s : Said) (rises : ids_rise s.first s.next s.plugins ≡ true) (limits : within_limits s.plugins ≡ true)

@@ -7,7 +7,8 @@ use Rattle.rules.specs.Outcomes.{Outcome, after}
 use Rattle.rules.specs.Limits.{max_rows, max_dependencies, max_provision_keys, max_realm_rows}
 use Rattle.memory.specs.Layout.{word, taken, start_at, memory_words, place_words, places, dependencies_word, provisions_word, realms_word}
 use Rattle.memory.specs.View.{view}
-use Rattle.memory_places.specs.Rows.{rows_at, rows_from, rows_view}
+use Rattle.memory_places.specs.Rows.{rows_at, rows_from}
+use Rattle.memory_places.proofs.Rows.{rows_view}
 use Rattle.memory_places.specs.Taken.{taken_below}
 use Rattle.memory.specs.Stores.{Alone}
 pub use Rattle.memory_rows.specs.Moves.{start_word}

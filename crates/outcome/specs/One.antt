@@ -14,7 +14,7 @@ use borrow.Fn.Claims.{AllOf}
 -- An equation for a parameter that is lent to be changed; of another there is nothing to say.
 abbrev changed : {D : Type 0} (e : Exit D) (x : D) → Last e x → Last e x → List (Type 0) → List (Type 0)
 changed unchanged x m n rest = rest
-changed (leaves L l S s) x m n rest = (m ≡ n) ∷ rest
+changed (leaves L l S s f) x m n rest = (m ≡ n) ∷ rest
 
 module _ {k : ℕ} (κs : Lfts k) where
   abbrev lent : (ss : List (Slot k)) (ks : Kepts ss) (a : Denots (types_at ss κs)) → Fins κs ss ks a → Fins κs ss ks a → List (Type 0)

@@ -13,7 +13,7 @@ use Rattle.rules.specs.Ports.{pairs, resolve_in}
 use Rattle.ports.specs.Places.{length_pairs, pairs_get, pairs_drop, pairs_at}
 use Rattle.ports_realms.specs.Halving.{nearer, Search, ended, begun, halved, comparisons}
 use Rattle.ports_realms.specs.Answers.{searched}
-use Rattle.ports_realms.specs.Turns.{ended_next, ended_end}
+use Rattle.ports_realms.proofs.Turns.{ended_next, ended_end}
 
 drop_take : (n m : ℕ) (ps : List Port) → n ≤ m → drop n (take m ps) ≡ take (m - n) (drop n ps)
 drop_take zero m ps h = let e : m - 0 ≡ m = omega arith in rw e

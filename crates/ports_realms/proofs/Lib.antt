@@ -1,3 +1,5 @@
+pub mod Turns
+pub mod Reached
 pub mod Interval
 pub mod Lists
 pub mod Lookups

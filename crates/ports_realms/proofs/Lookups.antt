@@ -13,7 +13,7 @@ use Rattle.rules.specs.Ports.{pairs, flat, bad_realms, realm_list, realms_of, re
 use Rattle.rules_laws.specs.Laws.Verdicts.{passes, checked_pass, checked_refuses, refused_answer}
 use Rattle.ports_realms.specs.Rows.{resolve_with}
 use Rattle.ports_realms.specs.Halving.{reached}
-use Rattle.ports_realms.specs.Reached.{good_reached}
+use Rattle.ports_realms.proofs.Reached.{good_reached}
 
 module _ (l : List ℕ) (k : ℕ) where
   pub lookup_refused : (n : ℕ) → verdict (realm_checks l) ≡ done.Refused n → Refused n [] ≡ answer_of (resolve_key l k)

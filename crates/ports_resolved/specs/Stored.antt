@@ -26,7 +26,7 @@ stored_lists {size} {k} {array} {ps} [] r h = record {
   numbers = r.numbers ∙ ap (λ (l : List Port). filled size (flat l)) (sym (append-nil ps));
 }
 stored_lists {size} {k} {array} {ps} (q ∷ qs) r h =
-    let more = stored_lists {size} {k = k + 1} qs (lists_more r q {a = k * 2} {b = k * 2 + 1} refl refl (omega arith)) (omega arith) in
+    let more = stored_lists {size = size} {k = k + 1} qs (lists_more r q {a = k * 2} {b = k * 2 + 1} refl refl (omega arith)) (omega arith) in
     record {
       counted = omega (arith, r.counted, length-append ps (q ∷ qs));
       numbers = more.numbers ∙ ap (λ (l : List Port). filled size (flat l)) (append_assoc ps (q ∷ []) qs);

@@ -22,7 +22,7 @@ use Rattle.memory.specs.declared.Parent.{Parent}
 use Rattle.memory.specs.declared.Parent.TheVariants as parent
 use Rattle.memory.specs.declared.Place.TheVariants.{At, None}
 use Rattle.ports_realms.specs.Halving.{reached_with, reached_in}
-use Rattle.ports_realms.specs.Reached.{good_table}
+use Rattle.ports_realms.proofs.Reached.{good_table}
 use Rattle.ports_realms.specs.Rows.{good_realms}
 use Rattle.ports_given.specs.Given.{given_list}
 use Rattle.registry_joins.specs.Fits.{lent_fit, lists_fit}

@@ -24,7 +24,9 @@ use Rattle.memory.specs.View.{view}
 use Rattle.memory.specs.Writes.{opened_with}
 use Rattle.memory_load.specs.Loading.{loaded_plugin, zeros}
 use Rattle.memory_load.specs.SoFar.{SoFar, so_far_start, so_far_next}
-use Rattle.text_form.specs.Forms.{Read, found, torn, and_then, torn_found, read_many, many_exact}
+use Rattle.text_form.specs.Forms.{Read, found, torn, and_then, read_many}
+use Rattle.text_form.proofs.Forms.{torn_found, many_exact}
+use Rattle.rules.proofs.Text.{block_lawful}
 use Rattle.text_read_number.specs.declared.Next.{Next}
 use Rattle.text_read_number.specs.declared.Next.TheVariants.{At, Torn}
 use Rattle.text_read_number.specs.Reads.{read_from, read_at, Reads}
@@ -150,7 +152,7 @@ module _ (t : List ℕ) (at domain first next : ℕ) where
 -- Too many plugins, and a next id below the first.
 pub many_unfit : (t : List ℕ) (at count first next : ℕ) → at ≤ length t → max_plugins < count → Unfit t at count first next
 many_unfit t at count first next h most s rest a b e =
-    let k = many_exact block count (drop at t) s.plugins rest (sym (read_at (read_many block count) t at h) ∙ e) in
+    let k = many_exact block block_lawful count (drop at t) s.plugins rest (sym (read_at (read_many block count) t at h) ∙ e) in
     many_refused s (omega (arith, k.long))
 
 pub order_unfit : (t : List ℕ) (at count first next : ℕ) → next < first → Unfit t at count first next

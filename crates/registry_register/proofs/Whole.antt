@@ -29,7 +29,7 @@ use Rattle.memory.specs.declared.Place.{Place}
 use Rattle.memory.specs.declared.Place.TheVariants.{At, None}
 use Rattle.memory_places.specs.Changes.{free_at}
 use Rattle.ports_realms.specs.Halving.{reached}
-use Rattle.ports_realms.specs.Reached.{good_reached}
+use Rattle.ports_realms.proofs.Reached.{good_reached}
 use Rattle.ports.specs.Places.{length_pairs, length_flat, pairs_flat, flat_pairs_even}
 use Rattle.ports_realms.specs.Rows.{good_realms}
 use Rattle.ports_resolved.specs.declared.Claimed.{Claimed}

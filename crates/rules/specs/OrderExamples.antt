@@ -1,5 +1,5 @@
 -- Document 02 [6]'s orders, computed: what passes, what is planned, and what the planner leaves in the buffer.
-use Rattle.std.specs.Prelude.{ℕ, ◌+◌, ◌-◌, ◌≡◌, refl, true, false, List, [], ◌∷◌, map}
+use Rattle.std.specs.Prelude.{ℕ, ◌+◌, ◌≡◌, refl, true, false, List, [], ◌∷◌, map}
 use Rattle.std.proofs.Math.Option.{none, some}
 use Rattle.rules.specs.Holds.{port, First, Plugin, Registry, Phase, Idle, Loading, Active, Unissued, lookup, provider}
 use Rattle.rules.specs.Registration.{unoffered}

@@ -1,25 +1,13 @@
 -- Document 02 [1]'s example and others of its kind: registries that operations build, their texts, and what is no text, each computed.
-use Rattle.std.specs.Prelude.{ℕ, ◌^◌, ◌-◌, ◌≡◌, refl, List, [], ◌∷◌, eqb}
+use Rattle.std.specs.Prelude.{ℕ, ◌^◌, ◌-◌, ◌≡◌, List, [], ◌∷◌, eqb}
 use Prim.Native.String.{String}
 use Rattle.std.proofs.Math.Option.{none, some}
 use Rattle.rules.specs.Basics.{pick}
-use Rattle.rules.specs.Holds.{port, Registry, opened, lookup, count, provider, rows_in_use}
-use Rattle.rules.specs.Outcomes.{after, checked, found}
-use Rattle.rules.specs.Ports.{bad_realms, resolve, realm_list, bad_edition}
-use Rattle.rules.specs.Dependencies.{dependency_list}
-use Rattle.rules.specs.Registration.{dependencies_of, new_plugin, register}
-use Rattle.rules.specs.Phases.{begin, ready}
-use Rattle.rules.specs.Admission.{admit, is_live, call}
-use Rattle.rules.specs.Retirement.{retire, remove}
-use Rattle.rules.specs.Values.{offer}
+use Rattle.rules.specs.Holds.{port, Registry, opened}
 use Rattle.rules.specs.Steps.{Op, Begin, Ready, Admit, Call, Retire, Remove, Offer, run}
 use Rattle.rules.specs.Examples.{registers, ticket, invocation}
 use Rattle.text_form.specs.Bytes.{bytes}
-use Rattle.text_form.specs.Digits.{decimal_of, digits_in}
-use Rattle.text_form.specs.Words.{number_of, value_from}
-use Rattle.text_form.specs.Forms.{expect}
-use Rattle.text_form.specs.Numbers.{read_number, up_to}
-use Rattle.rules.specs.Text.{insert, by_id, said, text_of, read_text, written_read}
+use Rattle.rules.specs.Text.{said, text_of, read_text}
 
 -- The document shows a text's lines parted by spaces.
 abbrev pub ended : List ℕ → List ℕ
@@ -89,21 +77,3 @@ pub record Texts : Type 0 where
   pub one_too_many : read_text (shown "domain=7 first=0 next=0 plugins=0 id=0") ≡ none
   pub unended : read_text (bytes "domain=7\nfirst=0\nnext=0\nplugins=0") ≡ none
   pub nothing : read_text [] ≡ none
-
-pub texts : Texts
-unfolding text_of read_text insert by_id decimal_of digits_in expect read_number up_to number_of value_from after checked found lookup count provider rows_in_use bad_realms resolve realm_list bad_edition dependency_list dependencies_of new_plugin register begin ready admit is_live call retire remove offer
-texts = record {
-  example_text_lem = refl;
-  example_back = refl;
-  empty = refl;
-  by_rising_id = refl;
-  queued_root = refl;
-  value = refl;
-  last_id_lem = (written_read (shown last_id_text) (said last_id) refl).1;
-  leading_zero = refl;
-  too_high = refl;
-  one_too_few = refl;
-  one_too_many = refl;
-  unended = refl;
-  nothing = refl;
-}

@@ -4,7 +4,8 @@ use Rattle.std.proofs.Common.{subst, inl, inr}
 use Rattle.std.proofs.Math.Option.{some}
 use Rattle.rules.specs.Basics.{last}
 use Rattle.rules.specs.Holds.{Plugin}
-use Rattle.rules.specs.Text.{Said, block, text, read_text, written_read}
+use Rattle.rules.specs.Text.{Said, block, text, read_text}
+use Rattle.rules.proofs.Text.{written_read}
 use Rattle.text_form.specs.Forms.{Form, FitAll}
 use Rattle.rules_laws.specs.Laws.Members.{In}
 

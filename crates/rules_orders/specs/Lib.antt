@@ -4,7 +4,6 @@ pub mod Planned
 pub mod Sets
 pub mod Checked
 pub mod Histories
-pub mod Started
 pub mod Offers
 pub mod OneStart
 pub mod Startup

@@ -3,12 +3,11 @@ use Rattle.std.specs.Prelude.{ℕ, ◌≡◌, refl, Bool, true, not, ◌&&◌, [
 use Rattle.std.proofs.Common.{sym, ◌∙◌, eqb-true}
 use Rattle.std.proofs.Math.Option.{some}
 use Rattle.std.proofs.lemmas.Bool.{not-true}
-use Rattle.rules.specs.Basics.{holds, yes_no}
+use Rattle.rules.specs.Basics.{holds}
 use Rattle.rules.specs.Holds.{Plugin, Registry, lookup, is_loading, with_root}
 use Rattle.rules_types.specs.declared.Root.TheVariants.{Queued, Spent}
-use Rattle.rules.specs.Outcomes.{Accepted, answer_of}
 use Rattle.rules.specs.Phases.{setup}
-use Rattle.rules.specs.Admission.{Ticket, Invocation, is_unissued, is_live, receipt, admit, admits, call}
+use Rattle.rules.specs.Admission.{Ticket, Invocation, is_unissued, is_live, receipt, admit, call}
 use Rattle.rules_laws.specs.Laws.Tests.{both}
 use Rattle.rules_laws.specs.Laws.Lookups.{lookup_id}
 use Rattle.rules_laws.specs.Demand3.Lives.{Facts, facts, would_accept}
@@ -44,19 +43,9 @@ module _ (r : Registry) where
       let y = would_accept r.domain p t m.1 (not-true p.retired m.0) (eqb-true t.domain r.domain c.0) in
       (p, f, lookup_id r t.id p f, facts r.domain p t y)
 
-  -- R admit_registered_root: accepted exactly if the root is ready.
-  pub admit_exactly : (t : Ticket) (a : ℕ) → accepted (admit r t a) ≡ root_ready r t
-  unfolding admit
-  admit_exactly t a = simp exact
-
-  -- .. it answers domain, id, generation, revision and argument; the root alone changes, to Queued.
+  -- R admit_registered_root: it answers domain, id, generation, revision and argument; the root alone changes, to Queued.
   pub admit_effect : (t : Ticket) (a : ℕ)
       → When (Effect r t.id (λ p. r.domain ∷ p.id ∷ p.generation ∷ p.revision ∷ a ∷ []) (λ p. with_root (Queued p.revision a) p)) (admit r t a)
   unfolding admit
   admit_effect t a = when_passed (Effect r _ _ _) _ _ λ _. when_known r (Effect r _ _ _) _ _ λ p e. when_passed (Effect r _ _ _) _ _ λ _ _.
       has_effect r _ _ _ p e (alike p refl)
-
-  -- R accepts_root_invocation: yes exactly if the root is ready. R does not look at the root itself.
-  pub admits_exactly : (t : Ticket) → answer_of (admits r t) ≡ Accepted (yes_no (root_ready r t) ∷ [])
-  unfolding admits
-  admits_exactly t = rw (admit_exactly t 0)

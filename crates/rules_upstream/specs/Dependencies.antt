@@ -66,11 +66,7 @@ module _ (z : Realms) (provisions : List Port) (anchor : Port) (keys : List ℕ)
   unfolding dependency_list
   dependencies_in p = inherit_in (own_ports provisions anchor) (candidates z parents) _ p ∙ rw (candidates_in, in_behind p anchor provisions)
 
-  -- So R's set is kept but for the anchor,
-  pub dependencies_registered : (p : Port) → same_port p anchor ≡ false → is_in p finished ≡ registered_dependencies p
-  dependencies_registered p n = dependencies_in p ∙ rw (n, or-false)
-
-  -- .. for of its own ports a plugin depends on those that it declares, and on no other,
+  -- Of its own ports a plugin depends on those that it declares, and on no other,
   pub own_declared : (p : Port) → is_in p (own_ports provisions anchor) ≡ true → is_in p finished ≡ is_in p declared
   unfolding dependency_list
   own_declared p o = inherit_in (own_ports provisions anchor) (candidates z parents) _ p ∙ rw (o, or-false)

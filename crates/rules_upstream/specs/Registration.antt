@@ -60,22 +60,22 @@ abbrev pub room_for : Registry → Definition → Bool
 room_for r d = not (leb max_plugins (count r)) && not (ltb max_dependencies (length (dependencies_of r d)))
     && not (ltb max_rows (rows_in_use r + rows_of (new_plugin r d)))
 
-parent_free_lem : (r : Registry) (u : Option ℕ)
-    → (not (is_some u && is_none (parent_of r u)) && (not (holds (λ p. p.retired) (parent_of r u)) && not (holds (λ p. is_unloading p.phase) (parent_of r u))))
-    ≡ parent_free r u
-parent_free_lem r none = refl
-parent_free_lem r (some x) = go (lookup r x)
-  where
-    go : (v : Option Plugin) → (not (is_none v) && (not (holds (λ p. p.retired) v) && not (holds (λ p. is_unloading p.phase) v)))
-        ≡ holds (λ p. not p.retired && not (is_unloading p.phase)) v
-    go none = refl
-    go (some p) = refl
-
 module _ (r : Registry) (d : Definition) where
   -- R register_plugin: accepted exactly if R enables it, and the lists are well-formed and there is room.
   pub register_exactly : r.next ≤ last → accepted (register r d) ≡ (well_formed d && enabled r d && room_for r d)
   unfolding register
-  register_exactly l = checked_accepted _ _ ∙ rw (← (parent_free_lem r d.parent), ← (below r.next last l)) (simp (and_assoc, and-true))
+  register_exactly l = checked_accepted _ _ ∙ rw (← (free d.parent), ← (below r.next last l)) (simp (and_assoc, and-true))
+    where
+      free : (u : Option ℕ)
+          → (not (is_some u && is_none (parent_of r u)) && (not (holds (λ p. p.retired) (parent_of r u)) && not (holds (λ p. is_unloading p.phase) (parent_of r u))))
+          ≡ parent_free r u
+      free none = refl
+      free (some x) = go (lookup r x)
+        where
+          go : (v : Option Plugin) → (not (is_none v) && (not (holds (λ p. p.retired) v) && not (holds (λ p. is_unloading p.phase) v)))
+              ≡ holds (λ p. not p.retired && not (is_unloading p.phase)) v
+          go none = refl
+          go (some p) = refl
 
   -- .. it answers next id; the new plugin stands there as R says, and nothing else changes.
   pub register_adds : Built r → When (Registered r d) (register r d)

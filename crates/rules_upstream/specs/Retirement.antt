@@ -1,16 +1,15 @@
 -- Upstream's clauses on R's retirement by child identity.
 use Rattle.std.specs.Prelude.{ℕ, ◌≡◌, refl, Bool, true, not, ◌&&◌, ◌||◌, [], ◌∷◌, eqb, ltb, leb}
-use Rattle.std.proofs.Common.{sym, ap, ◌∙◌, subst, eqb-true}
 use Rattle.std.proofs.Math.Option.{Option, none, some}
-use Rattle.rules.specs.Basics.{is_none, holds}
+use Rattle.rules.specs.Basics.{is_none}
 use Rattle.rules.specs.Holds.{Plugin, Registry, lookup, with_retired}
 use Rattle.rules.specs.Outcomes.{Accepted, answer_of, after, found}
 use Rattle.rules.specs.Retirement.{Identity, is_child_of, retire_found, retire_child, identity, child_identity}
 use Rattle.rules.specs.Values.{is_empty}
-use Rattle.rules_laws.specs.Laws.Tests.{both, checked_elim}
+use Rattle.rules_laws.specs.Laws.Tests.{checked_elim}
 use Rattle.rules_laws.specs.Laws.Lookups.{lookup_id}
 use Rattle.rules_laws.specs.Kept.Plugins.{alike}
-use Rattle.rules_upstream.specs.Accepted.{accepted, exact, held_by, Effect, When, when_passed, has_effect}
+use Rattle.rules_upstream.specs.Accepted.{accepted, exact, Effect, When, when_passed, has_effect}
 
 -- a child that isn't registered, or a child of this parent that isn't retired
 abbrev pub retirable : ℕ → Option Plugin → Bool
@@ -27,16 +26,6 @@ module _ (r : Registry) (c : Identity) where
       ≡ (eqb c.domain r.domain && not (ltb c.id r.first || leb r.next c.id) && retirable c.parent (lookup r c.id))
   unfolding retire_child
   retire_child_exactly = simp (exact, retire_found_lem)
-
-  -- .. thus only if the domain agrees and a registered child has the parent named;
-  pub retire_child_agrees : accepted (retire_child r c) ≡ true
-      → (c.domain ≡ r.domain) × ((p : Plugin) → lookup r c.id ≡ some p → p.parent ≡ some c.parent)
-  retire_child_agrees e =
-      let t = both _ _ (sym retire_child_exactly ∙ e) in
-      (eqb-true c.domain r.domain (both _ _ t.0).0, λ p f. child p.parent (both _ _ (subst (λ u. retirable c.parent u ≡ true) f t.1)).0)
-    where
-      child : (u : Option ℕ) → holds (eqb c.parent) u ≡ true → u ≡ some c.parent
-      child u h = let (x, f, i) = held_by _ u h in f ∙ ap some (sym (eqb-true c.parent x i))
 
   -- .. it sets the retired mark of a registered child,
   pub retire_child_effect : (p : Plugin) → lookup r c.id ≡ some p → When (Effect r c.id (λ _. []) (with_retired true)) (retire_child r c)

@@ -1,19 +1,18 @@
 -- Lines: a key and a value, each value with the byte that ends it. 10 ends a line.
-use Rattle.std.specs.Prelude.{ℕ, ◌≡◌, refl, List, ◌++◌, ◌⊎◌}
+use Rattle.std.specs.Prelude.{ℕ, List, ◌++◌, ◌⊎◌}
 use Prim.Native.String.{String}
 use Rattle.std.proofs.Math.Option.{Option, none, some}
 use Rattle.std.proofs.Common.{inl, inr}
 use Rattle.text_form.specs.Bytes.{bytes}
-use Rattle.text_form.specs.Words.{number_of, value_from}
-use Rattle.text_form.specs.Forms.{torn, Form, behind, literal, either, like, counted}
-use Rattle.text_form.specs.Numbers.{number_to, read_number, up_to}
+use Rattle.text_form.specs.Forms.{Form, behind, literal, either, like, counted}
+use Rattle.text_form.specs.Numbers.{number_to}
 
 -- `key=value`
 abbrev pub line : {A : Type 0} → String → Form A → Form A
 line key value = behind (bytes key ++ bytes "=") value
 
 abbrev pub number : Form ℕ
-number = number_to 10 refl
+number = number_to 10
 
 -- a count, and a line for each of so many
 abbrev pub list : {A : Type 0} → String → String → Form A → Form (List A)
@@ -21,7 +20,7 @@ list plural key value = counted (line plural number) (line key value)
 
 -- a number with a comma behind it
 abbrev pub comma : Form ℕ
-comma = number_to 44 refl
+comma = number_to 44
 
 -- number or none
 abbrev pub from_option : Option ℕ → ℕ ⊎ Unit {0}
@@ -32,17 +31,5 @@ abbrev pub to_option : ℕ ⊎ Unit {0} → Option ℕ
 to_option (inl n) = some n
 to_option (inr u) = none
 
-pub option_there : (a : ℕ ⊎ Unit {0}) → from_option (to_option a) ≡ a
-option_there (inl n) = refl
-option_there (inr u) = refl
-
-pub option_again : (b : Option ℕ) → to_option (from_option b) ≡ b
-option_again (some n) = refl
-option_again none = refl
-
-pub none_apart : (u : Unit {0}) (rest : List ℕ) → number.read ((literal (bytes "none\n")).write u ++ rest) ≡ torn
-unfolding read_number up_to number_of value_from
-none_apart u rest = refl
-
 abbrev pub number_or_none : Form (Option ℕ)
-number_or_none = like (either number (literal (bytes "none\n")) none_apart) from_option to_option option_there option_again
+number_or_none = like (either number (literal (bytes "none\n"))) from_option to_option

@@ -3,7 +3,8 @@ use Rattle.std.specs.Prelude.{ℕ, ◌≡◌}
 use Rattle.std.proofs.Common.{sym, ap, ◌∙◌}
 use Rattle.std.proofs.Math.Option.{some}
 use Rattle.rules.specs.Holds.{Registry, plugins, lookup}
-use Rattle.rules.specs.Text.{text, Said, by_id, said, text_of, read_text, read_written}
+use Rattle.rules.specs.Text.{text, Said, by_id, said, text_of, read_text}
+use Rattle.rules.proofs.Text.{read_written}
 use Rattle.text_laws.specs.Rising.{by_id_rises, by_id_found, by_id_only}
 
 -- Equal up to places: the same numbers, and the same plugin for every id.

@@ -16,8 +16,8 @@ use Rattle.text_form.specs.Forms.{torn, Form, behind, literal, ◌then◌, eithe
 use Rattle.text_form.specs.Numbers.{number_to, digits_most_20}
 use Rattle.text_form.specs.Lines.{line, list, number, comma, number_or_none}
 use Rattle.rules.specs.Text.Values.{key_realm, key_realm_value, phase, zero_or_one, root_and_queued, edition_and_default}
-use Rattle.text_form.specs.Lines.{none_apart, from_option}
-use Rattle.rules.specs.Text.Values.{spent_apart, issued_apart, from_root, second_apart, from_edition}
+use Rattle.text_form.specs.Lines.{from_option}
+use Rattle.rules.specs.Text.Values.{from_root, from_edition}
 use Rattle.rules.specs.Text.{header, realms, lines_of, block, text, by_id, said, text_of}
 use Rattle.text_laws.specs.Rising.{by_id_in, by_id_sum}
 
@@ -25,8 +25,8 @@ use Rattle.text_laws.specs.Rising.{by_id_in, by_id_sum}
 pub record Most {A : Type 0} (f : Form A) (m : A → ℕ) : Type 0 where
   pub most : (a : A) → f.Fits a → length (f.write a) ≤ m a
 
-pub number_most_lem : (stop : ℕ) (h : no_digit stop ≡ true) → Most (number_to stop h) (λ n. 21)
-number_most_lem stop h = record { most = λ n l. omega (arith, length-append (decimal_of n) (stop ∷ []), digits_most_20 n l) }
+pub number_most_lem : (stop : ℕ) → Most (number_to stop) (λ n. 21)
+number_most_lem stop = record { most = λ n l. omega (arith, length-append (decimal_of n) (stop ∷ []), digits_most_20 n l) }
 
 pub literal_most : (w : List ℕ) → Most (literal w) (λ u. length w)
 literal_most w = record { most = λ a l. omega (arith, length-append w []) }
@@ -42,11 +42,11 @@ module _ {A : Type 0} {f : Form A} {m : A → ℕ} (h : Most f m) where
   pub ◌and◌ : {B : Type 0} {g : Form B} {n : B → ℕ} → Most g n → Most (f then g) (λ p. m p.0 + n p.1)
   ◌and◌ {B} {g} {n} k = record { most = λ p l. omega (arith, length-append (f.write p.0) (g.write p.1), h.most p.0 l.0, k.most p.1 l.1) }
 
-module _ {A B : Type 0} {f : Form A} {g : Form B} (apart : (b : B) (rest : List ℕ) → f.read (g.write b ++ rest) ≡ torn) where
-  pub either_most : (k : ℕ) → Most f (λ a. k) → Most g (λ b. k) → Most (either f g apart) (λ e. k)
+module _ {A B : Type 0} {f : Form A} {g : Form B} where
+  pub either_most : (k : ℕ) → Most f (λ a. k) → Most g (λ b. k) → Most (either f g) (λ e. k)
   either_most k x y = record { most = go }
     where
-      go : (e : A ⊎ B) → (either f g apart).Fits e → length ((either f g apart).write e) ≤ k
+      go : (e : A ⊎ B) → (either f g).Fits e → length ((either f g).write e) ≤ k
       go (inl a) l = x.most a l
       go (inr b) l = y.most b l
 
@@ -66,10 +66,10 @@ sum_same k (a ∷ l) = omega (arith, sum_same k l, mul-suc k (length l))
 
 -- The values and lines of the text.
 abbrev number_most : Most number (λ n. 21)
-number_most = number_most_lem 10 refl
+number_most = number_most_lem 10
 
 abbrev comma_most : Most comma (λ n. 21)
-comma_most = number_most_lem 44 refl
+comma_most = number_most_lem 44
 
 phase_length : (ph : Phase) → length (phase.write ph) ≤ 2
 phase_length Idle = omega arith
@@ -100,7 +100,7 @@ list_most {A} {f} plural key k h =
 
 option_most : Most number_or_none (λ o. 21)
 option_most = record {
-  most = λ o l. (either_most none_apart 21 number_most (wider (literal_most (bytes "none\n")) (λ u. 21) (λ u. omega arith))).most (from_option o) l;
+  most = λ o l. (either_most 21 number_most (wider (literal_most (bytes "none\n")) (λ u. 21) (λ u. omega arith))).most (from_option o) l;
 }
 
 port_most : Most key_realm (λ p. 42)
@@ -112,9 +112,9 @@ provision_most = record { most = λ v l. (comma_most and comma_most and option_m
 root_most : Most root_and_queued (λ t. 56)
 root_most = record {
   most = λ t l.
-      (either_most issued_apart 56
+      (either_most 56
       (wider (literal_most (bytes "root=0\nqueued=none\n")) (λ u. 56) (λ u. omega arith))
-      (either_most spent_apart 56
+      (either_most 56
       (wider (behind_most (comma_most and number_most) (bytes "root=1\nqueued=")) (λ q. 56) (λ q. omega arith))
       (wider (literal_most (bytes "root=2\nqueued=none\n")) (λ u. 56) (λ u. omega arith)))
       ).most (from_root t) l;
@@ -123,7 +123,7 @@ root_most = record {
 edition_most : Most edition_and_default (λ e. 39)
 edition_most = record {
   most = λ e l.
-      (either_most second_apart 39
+      (either_most 39
       (wider (literal_most (bytes "edition=1\ndefault=0\n")) (λ u. 39) (λ u. omega arith))
       (wider (behind_most number_most (bytes "edition=2\ndefault=")) (λ d. 39) (λ d. omega arith))
       ).most (from_edition e) l;

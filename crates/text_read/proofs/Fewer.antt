@@ -15,7 +15,10 @@ use Rattle.rules.specs.Text.Values.{phase, zero_or_one}
 use Rattle.memory.specs.View.{phase_of}
 use Rattle.text_form.specs.Digits.{decimal_of, digits_in}
 use Rattle.text_form.specs.Lines.{line, number}
-use Rattle.text_form.specs.Forms.{Read, found, torn, torn_found, Form}
+use Rattle.text_form.specs.Forms.{Read, found, torn, Form, Lawful}
+use Rattle.text_form.proofs.Forms.{torn_found}
+use Rattle.text_form.proofs.Lines.{line_lawful, number_lawful}
+use Rattle.rules.proofs.Text.Values.{phase_lawful, zero_or_one_lawful}
 use Rattle.text_read_number.specs.declared.Next.{Next}
 use Rattle.text_read_number.specs.declared.Next.TheVariants.{At, Torn}
 use Rattle.text_read_number.specs.declared.Number.{Number}
@@ -23,20 +26,20 @@ use Rattle.text_read_number.specs.Answers.{Told, number_said, NumberRead}
 use Rattle.text_read.specs.Answers.{PhaseRead, MarkRead}
 use Rattle.text_read_number.specs.Reads.{Reads}
 
-module _ {A B : Type 0} (f : Form A) (g : Form B) (code : A → B)
+module _ {A B : Type 0} (f : Form A) (g : Form B) (k : Lawful f) (l : Lawful g) (code : A → B)
     (same : (a : A) → f.write a ≡ g.write (code a)) (fit : (a : A) → f.Fits a × g.Fits (code a)) where
   one_found : (s : List ℕ) (a : A) (rest : List ℕ) → g.read s ≡ found (code a) rest → f.read s ≡ found a rest
   one_found s a rest e =
-      let x = g.exact s (code a) rest e in
-      ap f.read (sym (ap (λ w. w ++ rest) (same a) ∙ x.1)) ∙ f.back a rest (fit a).0
+      let x = l.exact s (code a) rest e in
+      ap f.read (sym (ap (λ w. w ++ rest) (same a) ∙ x.1)) ∙ k.back a rest (fit a).0
 
   none_found : (s : List ℕ) → ((a : A) (rest : List ℕ) → g.read s ≡ found (code a) rest → ⊥) → f.read s ≡ torn
   none_found s other = go (f.read s) refl
     where
       go : (x : Read A) → f.read s ≡ x → x ≡ torn
       go (found a rest) e =
-          let x = f.exact s a rest e in
-          absurd (other a rest (ap g.read (sym (ap (λ w. w ++ rest) (sym (same a)) ∙ x.1)) ∙ g.back (code a) rest (fit a).1))
+          let x = k.exact s a rest e in
+          absurd (other a rest (ap g.read (sym (ap (λ w. w ++ rest) (sym (same a)) ∙ x.1)) ∙ l.back (code a) rest (fit a).1))
       go torn e = refl
 
   -- The same, where a place may lie past the end.
@@ -66,7 +69,7 @@ module _ {A B : Type 0} (f : Form A) (g : Form B) (code : A → B)
   fewer_other t Torn n b a o x = record { said = refl; fits = tt }
 
 -- The numbers up to the top one, each for a value.
-module _ {A : Type 0} (f : Form A) (g : Form ℕ) (code : A → ℕ) (of : ℕ → A) (top : ℕ)
+module _ {A : Type 0} (f : Form A) (g : Form ℕ) (k : Lawful f) (l : Lawful g) (code : A → ℕ) (of : ℕ → A) (top : ℕ)
     (same : (a : A) → f.write a ≡ g.write (code a)) (fit : (a : A) → f.Fits a × g.Fits (code a))
     (low : (a : A) → code a ≤ top) (back : (n : ℕ) → n ≤ top → code (of n) ≡ n)
     (t : List ℕ) (at : Next) (r : Number) (x : NumberRead g.read t at r) where
@@ -74,12 +77,12 @@ module _ {A : Type 0} (f : Form A) (g : Form ℕ) (code : A → ℕ) (of : ℕ �
   number_told h =
       let e = back r.value h in
       record {
-        reads = fewer_next f g code same fit t at r.next (of r.value) (subst (λ n. Reads g.read t at n r.next) (sym e) x.reads);
+        reads = fewer_next f g k l code same fit t at r.next (of r.value) (subst (λ n. Reads g.read t at n r.next) (sym e) x.reads);
         one = x.one ∙ ap (λ n. number_said n r.next) (sym e);
       }
 
   number_over : top < r.value → Told (λ (s : Number). of s.value) (λ s. s.next) (λ a n. number_said (code a) n) f.read t at (number_said 0 Torn)
-  number_over h = record { reads = fewer_other f g code same fit t at r.next r.value (of 0) (λ a e. omega (arith, low a)) x.reads; one = refl }
+  number_over h = record { reads = fewer_other f g k l code same fit t at r.next r.value (of 0) (λ a e. omega (arith, low a)) x.reads; one = refl }
 
 -- 0 to 3 are the phases.
 phase_digit : (p : Phase) → (line "phase" phase).write p ≡ (line "phase" number).write (phase_number p)
@@ -107,11 +110,11 @@ phase_back (suc (suc (suc n))) h = omega arith
 module _ (t : List ℕ) (at : Next) (r : Number) (x : NumberRead (line "phase" number).read t at r) where
   pub phase_told : r.value ≤ 3 → PhaseRead (line "phase" phase).read t at r
   phase_told h =
-      number_told (line "phase" phase) (line "phase" number) phase_number phase_of 3 phase_digit phase_fits phase_low phase_back t at r x h
+      number_told (line "phase" phase) (line "phase" number) (line_lawful "phase" phase_lawful) (line_lawful "phase" number_lawful) phase_number phase_of 3 phase_digit phase_fits phase_low phase_back t at r x h
 
   pub phase_over : 3 < r.value → PhaseRead (line "phase" phase).read t at (number_said 0 Torn)
   phase_over h =
-      number_over (line "phase" phase) (line "phase" number) phase_number phase_of 3 phase_digit phase_fits phase_low phase_back t at r x h
+      number_over (line "phase" phase) (line "phase" number) (line_lawful "phase" phase_lawful) (line_lawful "phase" number_lawful) phase_number phase_of 3 phase_digit phase_fits phase_low phase_back t at r x h
 
 -- 0 and 1 are no and yes.
 abbrev marked : ℕ → Bool
@@ -136,8 +139,8 @@ mark_back (suc n) h = let z : n ≡ 0 = omega arith in rw z
 module _ (t : List ℕ) (at : Next) (r : Number) (x : NumberRead (line "retired" number).read t at r) where
   pub mark_told : r.value ≤ 1 → MarkRead (line "retired" zero_or_one).read t at r
   mark_told h =
-      number_told (line "retired" zero_or_one) (line "retired" number) yes_no marked 1 mark_digit mark_fits mark_low mark_back t at r x h
+      number_told (line "retired" zero_or_one) (line "retired" number) (line_lawful "retired" zero_or_one_lawful) (line_lawful "retired" number_lawful) yes_no marked 1 mark_digit mark_fits mark_low mark_back t at r x h
 
   pub mark_over : 1 < r.value → MarkRead (line "retired" zero_or_one).read t at (number_said 0 Torn)
   mark_over h =
-      number_over (line "retired" zero_or_one) (line "retired" number) yes_no marked 1 mark_digit mark_fits mark_low mark_back t at r x h
+      number_over (line "retired" zero_or_one) (line "retired" number) (line_lawful "retired" zero_or_one_lawful) (line_lawful "retired" number_lawful) yes_no marked 1 mark_digit mark_fits mark_low mark_back t at r x h

@@ -7,13 +7,13 @@ use Rattle.rules.specs.Holds.{port}
 use Rattle.rules_types.specs.declared.Root.{Root}
 use Rattle.rules_types.specs.declared.Root.TheVariants.{Unissued, Queued, Spent}
 use Rattle.rules_types.specs.declared.Edition.TheVariants.{First, Second}
-use Rattle.rules.specs.Text.Values.{key_realm, key_realm_value, unissued, queued, spent, spent_apart, issued_apart, to_root, root_and_queued}
-use Rattle.rules.specs.Text.Values.{first_edition, second_edition, second_apart, to_edition, edition_and_default}
+use Rattle.rules.specs.Text.Values.{key_realm, key_realm_value, unissued, queued, spent, to_root, root_and_queued}
+use Rattle.rules.specs.Text.Values.{first_edition, second_edition, to_edition, edition_and_default}
 use Rattle.memory.specs.View.{parent_of}
 use Rattle.text_form.specs.Bytes.{bytes}
 use Rattle.text_form.specs.Forms.{expect, nothing, literal, ◌then◌, either}
 use Rattle.text_form.specs.Numbers.{read_number}
-use Rattle.text_form.specs.Lines.{number, comma, number_or_none, to_option, none_apart}
+use Rattle.text_form.specs.Lines.{number, comma, number_or_none, to_option}
 use Rattle.text_read_number.specs.declared.Next.{Next}
 use Rattle.text_read_number.specs.declared.Next.TheVariants.{At, Torn}
 use Rattle.text_read.specs.declared.NumberOrNone.{NumberOrNone}
@@ -35,8 +35,8 @@ module _ {t : List ℕ} {at n : Next} {v : ℕ} (x : Reads (read_number 10) t at
   pub option_some : (next : ℕ) → n ≡ At next → OptionRead number_or_none.read t at (record { tag = 1; value = v; next = At next })
   option_some next e = record {
     reads =
-        like_next (either number (literal (bytes "none\n")) none_apart) to_option
-        (either_first number (literal (bytes "none\n")) none_apart (reads_at x e));
+        like_next (either number (literal (bytes "none\n"))) to_option
+        (either_first number (literal (bytes "none\n")) (reads_at x e));
     one = refl;
   }
 
@@ -44,8 +44,8 @@ module _ {t : List ℕ} {at n : Next} {v : ℕ} (x : Reads (read_number 10) t at
       → OptionRead number_or_none.read t at (record { tag = 0; value = 0; next = m })
   option_none m e y = record {
     reads =
-        like_next (either number (literal (bytes "none\n")) none_apart) to_option
-        (either_second number (literal (bytes "none\n")) none_apart (reads_at x e) (literal_next (bytes "none\n") y));
+        like_next (either number (literal (bytes "none\n"))) to_option
+        (either_second number (literal (bytes "none\n")) (reads_at x e) (literal_next (bytes "none\n") y));
     one = none_said m;
   }
 
@@ -77,8 +77,8 @@ module _ {t : List ℕ} {at m : Next} (x : Reads (expect (bytes "root=")) t at t
 
     pub root_unissued : (next : ℕ) → n ≡ At next → Reads root_and_queued.read t at Unissued (At next)
     root_unissued next e =
-        like_next (either unissued (either queued spent spent_apart) issued_apart) to_root
-        (either_first unissued (either queued spent spent_apart) issued_apart (reads_at unissued_next e))
+        like_next (either unissued (either queued spent)) to_root
+        (either_first unissued (either queued spent) (reads_at unissued_next e))
 
     module _ (e : n ≡ Torn) {k l q : Next} {v a : ℕ}
         (y : Reads (expect (bytes "1\nqueued=")) t m tt k) (z : Reads (read_number 44) t k v l) (w : Reads (read_number 10) t l a q) where
@@ -88,15 +88,15 @@ module _ {t : List ℕ} {at m : Next} (x : Reads (expect (bytes "root=")) t at t
 
       pub root_queued : (next : ℕ) → q ≡ At next → Reads root_and_queued.read t at (Queued v a) (At next)
       root_queued next i =
-          like_next (either unissued (either queued spent spent_apart) issued_apart) to_root
-          (either_second unissued (either queued spent spent_apart) issued_apart (reads_at unissued_next e)
-          (either_first queued spent spent_apart (reads_at queued_next i)))
+          like_next (either unissued (either queued spent)) to_root
+          (either_second unissued (either queued spent) (reads_at unissued_next e)
+          (either_first queued spent (reads_at queued_next i)))
 
       pub root_spent : (s : Next) → q ≡ Torn → Reads (expect (bytes "2\nqueued=none\n")) t m tt s → Reads root_and_queued.read t at Spent s
       root_spent s i g =
-          like_next (either unissued (either queued spent spent_apart) issued_apart) to_root
-          (either_second unissued (either queued spent spent_apart) issued_apart (reads_at unissued_next e)
-          (either_second queued spent spent_apart (reads_at queued_next i)
+          like_next (either unissued (either queued spent)) to_root
+          (either_second unissued (either queued spent) (reads_at unissued_next e)
+          (either_second queued spent (reads_at queued_next i)
           (literal_next (bytes "root=2\nqueued=none\n") (expect_next (bytes "root=") (bytes "2\nqueued=none\n") x g))))
 
 pub root_told : {t : List ℕ} {at : Next} (x : Root) (n : Next) (r : Rooted)
@@ -113,12 +113,12 @@ module _ {t : List ℕ} {at m : Next} (x : Reads (expect (bytes "edition=")) t a
 
   pub edition_first : (next : ℕ) → n ≡ At next → Reads edition_and_default.read t at First (At next)
   edition_first next e =
-      like_next (either first_edition second_edition second_apart) to_edition
-      (either_first first_edition second_edition second_apart (reads_at first_next e))
+      like_next (either first_edition second_edition) to_edition
+      (either_first first_edition second_edition (reads_at first_next e))
 
   pub edition_second : n ≡ Torn → {k q : Next} {d : ℕ} → Reads (expect (bytes "2\ndefault=")) t m tt k → Reads (read_number 10) t k d q
       → Reads edition_and_default.read t at (Second d) q
   edition_second e y z =
-      like_next (either first_edition second_edition second_apart) to_edition
-      (either_second first_edition second_edition second_apart (reads_at first_next e)
+      like_next (either first_edition second_edition) to_edition
+      (either_second first_edition second_edition (reads_at first_next e)
       (behind_next (bytes "edition=2\ndefault=") number (expect_next (bytes "edition=") (bytes "2\ndefault=") x y) z))

@@ -48,19 +48,19 @@ from_or : {A : Type 0} (f g : List ℕ → Read A) (t : List ℕ) (at : Next)
 from_or f g t (At at) = torn_or (ltb (length t) at) (f (drop at t)) (g (drop at t))
 from_or f g t Torn = refl
 
-module _ {A B : Type 0} (f : Form A) (g : Form B) (apart : (b : B) (rest : List ℕ) → f.read (g.write b ++ rest) ≡ torn) where
-  from_either : (t : List ℕ) (at : Next) → read_from (either f g apart).read t at
+module _ {A B : Type 0} (f : Form A) (g : Form B) where
+  from_either : (t : List ℕ) (at : Next) → read_from (either f g).read t at
       ≡ or_else (and_then (read_from f.read t at) (λ a r. found (inl a) r)) (and_then (read_from g.read t at) (λ b r. found (inr b) r))
   from_either t at =
       from_or (λ s. and_then (f.read s) (λ a r. found (inl a) r)) (λ s. and_then (g.read s) (λ b r. found (inr b) r)) t at
       ∙ ap (λ z. or_else z (read_from (λ s. and_then (g.read s) (λ b r. found (inr b) r)) t at)) (from_then f.read (λ a r. found (inl a) r) t at)
       ∙ ap (or_else (and_then (read_from f.read t at) (λ a r. found (inl a) r))) (from_then g.read (λ b r. found (inr b) r) t at)
 
-  pub either_first : {t : List ℕ} {at : Next} {a : A} {n : ℕ} → Reads f.read t at a (At n) → Reads (either f g apart).read t at (inl a) (At n)
+  pub either_first : {t : List ℕ} {at : Next} {a : A} {n : ℕ} → Reads f.read t at a (At n) → Reads (either f g).read t at (inl a) (At n)
   either_first {t} {at} x = record { said = sym (from_either t at ∙ rw (← x.said)); fits = x.fits }
 
   pub either_second : {t : List ℕ} {at n : Next} {a : A} {b : B}
-      → Reads f.read t at a Torn → Reads g.read t at b n → Reads (either f g apart).read t at (inr b) n
+      → Reads f.read t at a Torn → Reads g.read t at b n → Reads (either f g).read t at (inr b) n
   either_second {t} {at} {n = At n} x y = record { said = sym (from_either t at ∙ rw (← x.said, ← y.said)); fits = y.fits }
   either_second {t} {at} {n = Torn} x y = record { said = sym (from_either t at ∙ rw (← x.said, ← y.said)); fits = tt }
 

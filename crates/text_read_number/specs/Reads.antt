@@ -3,7 +3,8 @@ use Rattle.std.specs.Prelude.{ℕ, ◌≤◌, ◌<◌, ◌≡◌, refl, Bool, tr
 use Rattle.std.proofs.Common.{arith, sym, ap, ◌∙◌, length-drop, drop_of_length-le, lt-ltb, le-ltb}
 use Rattle.rules_basics.specs.Basics.{pick}
 use Rattle.rules_basics.specs.Tests.{by_test}
-use Rattle.text_form.specs.Forms.{Read, found, torn, and_then, torn_found}
+use Rattle.text_form.specs.Forms.{Read, found, torn, and_then}
+use Rattle.text_form.proofs.Forms.{torn_found}
 use Rattle.text_read_number.specs.declared.Next.{Next}
 use Rattle.text_read_number.specs.declared.Next.TheVariants.{At, Torn}
 

@@ -1,4 +1,4 @@
-//! The archive's functions. That these declarations are those of crates/host is what ../agree looks at.
+//! The archive's functions. That these declarations are those of crates/host_c is what ../agree looks at.
 
 /// The words of a registry.
 pub const WORDS: usize = 4488;

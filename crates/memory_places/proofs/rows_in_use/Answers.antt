@@ -1,6 +1,6 @@
 -- `rows_in_use` meets its contract: the rows so far and those of the places from 4k on are all rows, and the word is shifted by 4k.
 use Rattle.std.proofs.Common.{sym, ◌∙◌, arith}
-use Rattle.memory_places.specs.Rows.{rows_view}
+use Rattle.memory_places.proofs.Rows.{rows_view}
 use Rattle.memory_places.proofs.Loops.{rows_begin, rows_next, rows_end_lem}
 use Rattle.memory_places.proofs.rows_in_use.Goals as goal
 

@@ -13,7 +13,7 @@ use Rattle.ports_given.proofs.gives.Goals.{After-dependency_list-made}
 -- the rule's list from all the keys, which are at most 16: this is what is answered
 abbrev ruled : After-dependency_list-made → List Port
 ruled l =
-    let a = l.before.before.before.before.before.before.args in
+    let a = l.args in
     dependency_list (reached_with a.other a.rows.now) (pairs a.provisions.now) a.anchor a.keys.now (pairs a.parents.now)
 
 made : (c : After-dependency_list-made) → c.dependency_list-made.result ≡ fitted (ruled c)
@@ -29,4 +29,4 @@ returns-then-made-gt-DEPENDENCIES c =
 
 pub returns : goal.returns
 returns c =
-    compared (ruled (goal.at.returns c).After-shared_slice_known-5-1) (pairs c.args.list.now) (made (goal.at.returns c).After-shared_slice_known-5-1) c.if-made-gt-DEPENDENCIES.false c.first_words-ruled.ensures c.same_ports.ensures
+    compared (ruled (goal.at.returns c).After-dependency_list-made) (pairs c.args.list.now) (made (goal.at.returns c).After-dependency_list-made) c.if-made-gt-DEPENDENCIES.false c.first_words-ruled.ensures c.same_ports.ensures

@@ -2,7 +2,7 @@
 use Rattle.std.proofs.Common.{ap, ◌∙◌}
 use Rattle.rules.specs.Ports.{pairs}
 use Rattle.ports_realms.specs.declared.Lookup.{Lookup}
-use Rattle.ports_realms.specs.Reached.{reached_search}
+use Rattle.ports_realms.proofs.Reached.{reached_search}
 use Rattle.ports_realms.proofs.resolve.Goals as goal
 
 pub returns : goal.returns

@@ -9,7 +9,7 @@ pub loop-i-init : goal.loop-i-init
 loop-i-init c = (rows_begin _ _ _ c.requires, refl)
 
 pub row_at-requires : goal.row_at-requires
-row_at-requires c = (index_finds _ _ c.known.ensures c.index-index.ensures, c.loop-i-test.true)
+row_at-requires c = record { indexed = index_finds _ _ c.known.ensures c.index-index.ensures; in_places = c.loop-i-test.true }
 
 pub returns-in_default : goal.returns-in_default
 returns-in_default c =

@@ -7,8 +7,8 @@ pub loop-k-init : goal.loop-k-init
 loop-k-init c =
     let q = c.requires in
     let a = c.args in (
-      subst (λ w. PluginsSoFar a.text.now a.at a.domain a.first a.next w a.at 0 a.first 0) (sym q.0)
-          (plugins_start a.text.now a.at a.domain a.first a.next q.1.0 q.1.2),
+      subst (λ w. PluginsSoFar a.text.now a.at a.domain a.first a.next w a.at 0 a.first 0) (sym q.opened)
+          (plugins_start a.text.now a.at a.domain a.first a.next q.in_text.0 q.in_text.2),
       omega arith,
     )
 

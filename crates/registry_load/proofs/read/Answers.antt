@@ -32,10 +32,11 @@ plugins-end-requires c =
     let t = a.text.now in
     let x = c.read_header-h.ensures in
     let start = c.in-At.is in
-    let o = c.read_header-h.result in (
-      c.open_words.ensures ∙ ap (λ w. opened_with w a.domain o.first o.next) c.requires,
-      (header_within t _ x _ start, omega (arith, c.if-h.false), omega (arith, c.if-h-2.false)),
-    )
+    let o = c.read_header-h.result in
+    record {
+      opened = c.open_words.ensures ∙ ap (λ w. opened_with w a.domain o.first o.next) c.requires;
+      in_text = (header_within t _ x _ start, omega (arith, c.if-h.false), omega (arith, c.if-h-2.false));
+    }
 
 pub returns-in_default-end : goal.returns-in_default-end
 returns-in_default-end c =

@@ -1,13 +1,10 @@
 -- `set_verdict` meets its contract: the ids before place i pass, and are those found at the places seen.
-use Rattle.std.proofs.Common.{◌-◌, ◌≡◌, length, take, drop, ℕ, List}
+use Rattle.std.proofs.Common.{◌-◌, ◌≡◌, length, take, drop}
 use Rattle.rules.specs.Answers.{verdict}
 use Rattle.rules.specs.Orders.{set_checks, checks_behind}
 use Rattle.memory.specs.View.{view}
 use Rattle.registry_order.proofs.Seen.{Seen}
 use Rattle.registry_order.proofs.set_verdict.Given as goal
-
-abbrev pub ids : Asked → List ℕ
-ids v = (entry v).args.set.now
 
 abbrev pub invariant-loop-i : goal.invariant-loop-i
 invariant-loop-i l =

@@ -19,11 +19,12 @@ returns-in_default-lowest_free c =
 
 pub entry-e-requires : goal.entry-e-requires
 entry-e-requires c =
-    let a = c.args in (
-      id_left a.m.now (parent_id a.parent) a.payload a.count a.dependencies.now a.claims.now
-          a.realms.now _ c.rows_in_use-used.ensures _ c.late_verdict.ensures c.in_default.is,
-      c.rows_in_use-used.ensures,
-    )
+    let a = c.args in
+    record {
+      not_last = id_left a.m.now (parent_id a.parent) a.payload a.count a.dependencies.now a.claims.now
+          a.realms.now _ c.rows_in_use-used.ensures _ c.late_verdict.ensures c.in_default.is;
+      at_end = c.rows_in_use-used.ensures;
+    }
 
 pub returns : goal.returns
 returns c =

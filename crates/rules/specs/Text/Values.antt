@@ -1,5 +1,5 @@
 -- The values that stand behind a key in the registry's text, each with the byte that ends it: 10 ends a line.
-use Rattle.std.specs.Prelude.{ℕ, ◌+◌, ◌≡◌, refl, Bool, true, false, List, [], ◌∷◌, ◌++◌, ◌⊎◌}
+use Rattle.std.specs.Prelude.{ℕ, ◌+◌, Bool, true, false, List, [], ◌∷◌, ◌⊎◌}
 use Rattle.std.proofs.Common.{inl, inr}
 use Rattle.rules.specs.Basics.{yes_no}
 use Rattle.rules_types.specs.declared.Port.{Port}
@@ -10,12 +10,12 @@ use Rattle.rules_types.specs.declared.Root.TheVariants.{Unissued, Queued, Spent}
 use Rattle.rules.specs.Holds.{port, Provision, Edition, First, Second}
 use Rattle.rules.specs.Queries.{phase_number}
 use Rattle.text_form.specs.Bytes.{bytes}
-use Rattle.text_form.specs.Forms.{found, torn, expect, Form, read_any, behind, literal, ◌then◌, either, one_of, like}
+use Rattle.text_form.specs.Forms.{Form, behind, literal, ◌then◌, either, one_of, like}
 use Rattle.text_form.specs.Lines.{number, comma, number_or_none}
 
 -- key,realm
 abbrev pub key_realm : Form Port
-key_realm = like (comma then number) (λ p. (p.key, p.realm)) (λ (key, realm). port key realm) (λ a. refl) (λ b. refl)
+key_realm = like (comma then number) (λ p. (p.key, p.realm)) (λ (key, realm). port key realm)
 
 -- key,realm,value or none
 abbrev pub key_realm_value : Form Provision
@@ -24,8 +24,6 @@ key_realm_value =
     (comma then comma then number_or_none)
     (λ v. (v.port.key, (v.port.realm, v.value)))
     (λ (key, (realm, value)). record { port = port key realm; value = value })
-    (λ a. refl)
-    (λ b. refl)
 
 -- One digit alone.
 abbrev pub digit : ℕ → List ℕ
@@ -35,24 +33,12 @@ digit n = (48 + n) ∷ bytes "\n"
 abbrev pub phases : List Phase
 phases = Idle ∷ Loading ∷ Active ∷ Unloading ∷ []
 
-pub phase_back : (ph : Phase) (rest : List ℕ) → read_any (λ p. digit (phase_number p)) phases (digit (phase_number ph) ++ rest) ≡ found ph rest
-unfolding expect
-phase_back Idle rest = refl
-phase_back Loading rest = refl
-phase_back Active rest = refl
-phase_back Unloading rest = refl
-
 abbrev pub phase : Form Phase
-phase = one_of (λ p. digit (phase_number p)) phases phase_back
+phase = one_of (λ p. digit (phase_number p)) phases
 
 -- 0 or 1
-pub zero_or_one_back : (b : Bool) (rest : List ℕ) → read_any (λ m. digit (yes_no m)) (false ∷ true ∷ []) (digit (yes_no b) ++ rest) ≡ found b rest
-unfolding expect
-zero_or_one_back false rest = refl
-zero_or_one_back true rest = refl
-
 abbrev pub zero_or_one : Form Bool
-zero_or_one = one_of (λ m. digit (yes_no m)) (false ∷ true ∷ []) zero_or_one_back
+zero_or_one = one_of (λ m. digit (yes_no m)) (false ∷ true ∷ [])
 
 -- Two lines: root (0 Unissued, 1 Queued, 2 Spent), and queued (revision,argument while root is 1, else none).
 abbrev pub unissued : Form (Unit {0})
@@ -64,15 +50,6 @@ queued = behind (bytes "root=1\nqueued=") (comma then number)
 abbrev pub spent : Form (Unit {0})
 spent = literal (bytes "root=2\nqueued=none\n")
 
-pub spent_apart : (u : Unit {0}) (rest : List ℕ) → queued.read (spent.write u ++ rest) ≡ torn
-unfolding expect
-spent_apart u rest = refl
-
-pub issued_apart : (b : (ℕ × ℕ) ⊎ Unit {0}) (rest : List ℕ) → unissued.read ((either queued spent spent_apart).write b ++ rest) ≡ torn
-unfolding expect
-issued_apart (inl q) rest = refl
-issued_apart (inr u) rest = refl
-
 abbrev pub from_root : Root → Unit {0} ⊎ ((ℕ × ℕ) ⊎ Unit {0})
 from_root Unissued = inl tt
 from_root (Queued v a) = inr (inl (v, a))
@@ -83,18 +60,8 @@ to_root (inl u) = Unissued
 to_root (inr (inl q)) = Queued q.0 q.1
 to_root (inr (inr u)) = Spent
 
-pub root_there : (a : Unit {0} ⊎ ((ℕ × ℕ) ⊎ Unit {0})) → from_root (to_root a) ≡ a
-root_there (inl u) = refl
-root_there (inr (inl q)) = refl
-root_there (inr (inr u)) = refl
-
-pub root_again : (b : Root) → to_root (from_root b) ≡ b
-root_again Unissued = refl
-root_again (Queued v a) = refl
-root_again Spent = refl
-
 abbrev pub root_and_queued : Form Root
-root_and_queued = like (either unissued (either queued spent spent_apart) issued_apart) from_root to_root root_there root_again
+root_and_queued = like (either unissued (either queued spent)) from_root to_root
 
 -- Two lines: edition (1 or 2) and default (0 in edition 1).
 abbrev pub first_edition : Form (Unit {0})
@@ -102,10 +69,6 @@ first_edition = literal (bytes "edition=1\ndefault=0\n")
 
 abbrev pub second_edition : Form ℕ
 second_edition = behind (bytes "edition=2\ndefault=") number
-
-pub second_apart : (d : ℕ) (rest : List ℕ) → first_edition.read (second_edition.write d ++ rest) ≡ torn
-unfolding expect
-second_apart d rest = refl
 
 abbrev pub from_edition : Edition → Unit {0} ⊎ ℕ
 from_edition First = inl tt
@@ -115,13 +78,5 @@ abbrev pub to_edition : Unit {0} ⊎ ℕ → Edition
 to_edition (inl u) = First
 to_edition (inr d) = Second d
 
-pub edition_there : (a : Unit {0} ⊎ ℕ) → from_edition (to_edition a) ≡ a
-edition_there (inl u) = refl
-edition_there (inr d) = refl
-
-pub edition_again : (b : Edition) → to_edition (from_edition b) ≡ b
-edition_again First = refl
-edition_again (Second d) = refl
-
 abbrev pub edition_and_default : Form Edition
-edition_and_default = like (either first_edition second_edition second_apart) from_edition to_edition edition_there edition_again
+edition_and_default = like (either first_edition second_edition) from_edition to_edition

@@ -25,7 +25,8 @@ use Rattle.rules_laws.specs.Kept.Providers.{unprovided}
 use Rattle.rules_laws.specs.Kept.Moves.{fresh, join_only}
 use Rattle.rules_laws.specs.Kept.Operations.{Lawful, lawful}
 use Rattle.rules_orders.specs.Follows.{passes_says}
-use Rattle.rules_orders.specs.Histories.{up_after, active, is_up, Goes, goes}
+use Rattle.rules_orders.specs.Histories.{up_after, active, is_up}
+use Rattle.rules_orders.proofs.Histories.{Goes, goes}
 
 -- the same dependencies, and the same ports provided
 abbrev Like : Plugin → Plugin → Type 0

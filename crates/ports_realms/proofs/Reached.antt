@@ -10,7 +10,7 @@ use Rattle.rules_laws.specs.Laws.Members.{In, same_port_lem, same_self, is_in_le
 use Rattle.rules_laws.specs.Laws.Realms.{rising_at, rising_drop, rising_take}
 use Rattle.ports_realms.specs.Rows.{good_realms}
 use Rattle.ports_realms.specs.Halving.{Search, turned, gone_on, ended, begun, halved, by_halving, passing, reached, reached_in}
-use Rattle.ports_realms.specs.Turns.{nearer_length}
+use Rattle.ports_realms.proofs.Turns.{nearer_length}
 
 -- what is left is one row of the list, or none
 halved_short : (n k : ℕ) (s : Search) → length s.rows ≤ n → length (gone_on n k s).rows ≤ 1

@@ -1,0 +1,55 @@
+// Exported: admission and call.
+ghost use Rattle.rules.specs.Steps.{Admit, Call, Ask};
+ghost use Rattle.rules.specs.Questions.{Admits};
+ghost use Rattle.registry_admit.specs.Answers.{ticket, invocation};
+ghost use Rattle.host_answers.specs.Told.{Tells};
+ghost use Rattle.host.specs.Tells.{answer, DoesAndTells};
+
+use host_answers::ANSWER;
+use memory::WORDS;
+
+#[unsafe(no_mangle)]
+pub extern "C" fn vaskelbi_admit(
+    m: &mut [u64; WORDS],
+    domain: u64,
+    id: u64,
+    generation: u64,
+    kind: u64,
+    argument: u64,
+    out: &mut [u64; ANSWER],
+) -> u64
+    ensures { DoesAndTells m.old (Admit (ticket domain id generation kind) argument)
+        out.old result out.new m.new }
+{
+    host::vaskelbi_admit(m, domain, id, generation, kind, argument, out)
+}
+
+#[unsafe(no_mangle)]
+pub extern "C" fn vaskelbi_admits(
+    m: &[u64; WORDS],
+    domain: u64,
+    id: u64,
+    generation: u64,
+    kind: u64,
+    out: &mut [u64; ANSWER],
+) -> u64
+    ensures { Tells (answer m.now (Ask (Admits (ticket domain id generation kind)))) out.old result out.new }
+{
+    host::vaskelbi_admits(m, domain, id, generation, kind, out)
+}
+
+#[unsafe(no_mangle)]
+pub extern "C" fn vaskelbi_call(
+    m: &mut [u64; WORDS],
+    domain: u64,
+    id: u64,
+    generation: u64,
+    revision: u64,
+    argument: u64,
+    out: &mut [u64; ANSWER],
+) -> u64
+    ensures { DoesAndTells m.old (Call (invocation domain id generation revision argument))
+        out.old result out.new m.new }
+{
+    host::vaskelbi_call(m, domain, id, generation, revision, argument, out)
+}

@@ -1,0 +1,26 @@
+// Exported: the registry as text into the host's bytes, and back.
+ghost use Rattle.rules.specs.Steps.{Write};
+ghost use Rattle.rules.specs.Questions.{Text};
+ghost use Rattle.host.specs.Tells.{ListsAndTells, Loads};
+
+use host_answers::ANSWER;
+use memory::WORDS;
+
+#[unsafe(no_mangle)]
+pub extern "C" fn vaskelbi_write_text(
+    m: &[u64; WORDS],
+    text: &mut [u8],
+    out: &mut [u64; ANSWER],
+) -> u64
+    ensures { ListsAndTells m.now (Write Text text.old)
+        out.old result out.new text.new }
+{
+    host::vaskelbi_write_text(m, text, out)
+}
+
+#[unsafe(no_mangle)]
+pub extern "C" fn vaskelbi_load(m: &mut [u64; WORDS], domain: u64, text: &[u8]) -> u64
+    ensures { Loads m.old domain text.now result m.new }
+{
+    host::vaskelbi_load(m, domain, text)
+}

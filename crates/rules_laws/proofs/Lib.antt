@@ -1,0 +1,2 @@
+pub mod Demand3
+pub mod Ledger

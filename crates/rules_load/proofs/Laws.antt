@@ -1,0 +1,2 @@
+-- Laws on the conditions of a text.
+pub mod Chains

@@ -1,0 +1,4 @@
+pub mod Histories
+pub mod Started
+pub mod OneStart
+pub mod Startup

@@ -1,0 +1,3 @@
+pub mod Dependencies
+pub mod Retirement
+pub mod Admission
