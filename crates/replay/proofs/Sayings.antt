@@ -1,6 +1,6 @@
 -- What the console says, and what an output holds of it.
-use Rattle.std.specs.Prelude.{ℕ, ◌≡◌, ◌+◌, ◌-◌, ◌^◌, ◌<◌, ◌≤◌, Bool, true, false, List, [], ◌∷◌, ◌++◌, length, take, drop, get_or, replicate, refl, IsOk, OnOk}
-use Rattle.std.proofs.Common.{subst, ap, ◌∙◌, sym, append_assoc, length-append, arith, Result, Ok, Err}
+use Rattle.std.specs.Prelude.{ℕ, ◌≡◌, ◌+◌, ◌-◌, ◌^◌, ◌<◌, ◌≤◌, Bool, true, false, List, [], ◌∷◌, ◌++◌, length, take, drop, get_or, replicate, refl}
+use Rattle.std.proofs.Common.{subst, ap, ◌∙◌, sym, append_assoc, length-append, arith}
 use Rattle.std.specs.declared.option.Option.{Option}
 use Rattle.std.specs.Io.KnownBytes.{Consumes, IsAtEnd}
 use Rattle.std.proofs.KnownBytes.{Appends-nil, Appends-trans, Consumes-nil, Consumes-trans}
@@ -8,7 +8,6 @@ use native.Mathlib.Numerals.{add-one}
 use lib.ListN.{drop_of_length-le}
 use lib.Seq.{drop-cons}
 use Rattle.rules.specs.Slot.{Slot, pending}
-use Rattle.rules_laws.specs.Laws.Tests.{by_test}
 use Rattle.memory.specs.Layout.{memory_words}
 use Rattle.demands.specs.Starts.{blank}
 use Rattle.console_words.specs.Bytes.{longest}
@@ -17,7 +16,7 @@ use Rattle.console_load.specs.Loaded.{load_ended}
 use Rattle.replay.specs.declared.Due.{Due}
 use Rattle.replay.specs.declared.Output.{Output}
 use Rattle.replay.specs.Fed.{Kept, kept, due_of, empty_page, byte_fed, fed}
-use Rattle.replay.specs.Said.{Says, page_said, text_said, byte_said, said, end_said, start, FeedsSome, Answers}
+use Rattle.replay.specs.Said.{Says, page_said, text_said, byte_said, said, buffer_room, start, FeedsSome}
 
 module _ {W : Type 0} (contents : W → Option (List ℕ)) where
   pub says_none : (o : Output W) → Says contents o o []
@@ -62,10 +61,10 @@ said_both k (b ∷ x) y = ap (λ (l : List ℕ). byte_said k b ++ l) (said_both 
     ∙ sym (append_assoc (byte_said k b) (said (byte_fed k b) x) (said (fed (byte_fed k b) x) y))
 
 pub begun : (m : List ℕ) (s : Slot) → m ≡ blank (replicate memory_words 0) 0 0 → s ≡ pending 0 0 0
-    → kept m (replicate 100 0) s (replicate longest 0) 0 (replicate text_room 0) (due_of 0 0 0) ≡ start
+    → kept m (replicate buffer_room 0) s (replicate longest 0) 0 (replicate text_room 0) (due_of 0 0 0) ≡ start
 begun m s e f =
-    ap (λ (l : List ℕ). kept l (replicate 100 0) s (replicate longest 0) 0 (replicate text_room 0) (due_of 0 0 0)) e
-    ∙ ap (λ (q : Slot). kept (blank (replicate memory_words 0) 0 0) (replicate 100 0) q (replicate longest 0) 0 (replicate text_room 0) (due_of 0 0 0)) f
+    ap (λ (l : List ℕ). kept l (replicate buffer_room 0) s (replicate longest 0) 0 (replicate text_room 0) (due_of 0 0 0)) e
+    ∙ ap (λ (q : Slot). kept (blank (replicate memory_words 0) 0 0) (replicate buffer_room 0) q (replicate longest 0) 0 (replicate text_room 0) (due_of 0 0 0)) f
 
 -- The turns of a run, before the one that is next: some bytes were read and fed, and what is said of them is written. While there
 -- is more, each turn read a byte at least.

@@ -62,9 +62,13 @@ cut_off_said k = cut_said k.memory k.text k.due
 abbrev pub end_said : Kept → List ℕ
 end_said k = pick (awaiting k.due) (cut_off_said k) (line_said k ++ cut_off_said (end_line k))
 
+-- How many words the buffer has.
+abbrev pub buffer_room : ℕ
+buffer_room = 100
+
 -- What is kept before the first byte: a fresh registry of domain 0, zeros in the buffer, and a Pending slot.
 abbrev pub start : Kept
-start = kept (blank (replicate memory_words 0) 0 0) (replicate 100 0) (pending 0 0 0) (replicate longest 0) 0 (replicate text_room 0) (due_of 0 0 0)
+start = kept (blank (replicate memory_words 0) 0 0) (replicate buffer_room 0) (pending 0 0 0) (replicate longest 0) 0 (replicate text_room 0) (due_of 0 0 0)
 
 -- All that is said of an input.
 abbrev pub all_said : List ℕ → List ℕ
