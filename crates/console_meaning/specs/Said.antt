@@ -1,35 +1,29 @@
--- What a line of the console says is what the rules answer.
+-- What is to be said of each thing asked for, and that what the rows ask for has few values.
 use Rattle.std.specs.Prelude.{ℕ, zero, suc, ◌≡◌, refl, Bool, true, false, List, [], ◌∷◌, get_or}
-use Rattle.std.proofs.Common.{subst}
 use Rattle.std.proofs.Math.Option.{Option, none, some}
 use Rattle.rules.specs.Registration.{Definition}
 use Rattle.rules.specs.Queries.{RowsInUse, Registered, NextId}
 use Rattle.rules.specs.Basics.{pick}
-use Rattle.rules.specs.Steps.{Ask, Write}
-use Rattle.rules.specs.Questions.{CheckOrder, Listed}
+use Rattle.rules.specs.Steps.{Ask}
+use Rattle.rules.specs.Questions.{CheckOrder}
 use Rattle.host.specs.Tells.{answer}
-use Rattle.console_answer.specs.Pages.{Page, put_on, numbers_on}
+use Rattle.console_answer.specs.Pages.{Page, put_on}
 use Rattle.console_answer.specs.Answers.{ok_word}
-use Rattle.console_names.specs.declared.Count.{Count}
 use Rattle.console_names.specs.declared.Values.{Values}
 use Rattle.console_names.specs.declared.Values.TheVariants.{None, Numbers, NumbersOrNone, YesOrNo}
-use Rattle.console_names.specs.declared.Held.{Held}
 use Rattle.console_names.specs.declared.Kind.TheVariants.{Show, Buffer, Lists, Registry, Text, Load, Plan}
 use Rattle.console_names.specs.declared.Row.{Row}
 use Rattle.console_names.specs.declared.Row.TheVariants.{Slot, Register, Check, Takes, Unknown}
-use Rattle.console_names.specs.Table.{Asked, Bad, Open, Stated, Told, Operation, first, second, operations, unknown, operation_at, row_at, asked_at}
-use Rattle.console_definition.specs.Definitions.{definition_in}
-use Rattle.console_show.specs.Spoken.{line_on, spoken_on}
-use Rattle.console_operations.specs.Asked.{which_of}
+use Rattle.console_names.specs.Table.{Asked, Bad, Open, Stated, Told, Operation, first, operations, unknown, operation_at, row_at, asked_at}
+use Rattle.console_show.specs.Spoken.{line_on}
 use Rattle.console_register.specs.Registrations.{registration}
-use Rattle.console_order.specs.Checks.{TwoLists, sets_in, checking}
-use Rattle.console_line.specs.Lines.{line_end, bad, listed, asked_line, numbers_line, register_line, check_line}
+use Rattle.console_order.specs.Checks.{TwoLists, checking}
+use Rattle.console_line.specs.Lines.{line_end, bad}
 use Rattle.console_meaning.specs.Values.{Brief, register_brief, begin_brief, replace_brief, fits_brief, admit_brief, call_brief, child_brief, read_brief}
 use Rattle.console_meaning.specs.Values.{visible_brief, missing_brief, matches_brief, declares_brief, lookup_brief, resolve_brief, total_brief}
-use Rattle.console_meaning.specs.Values.{edition_brief, listed_brief, check_brief}
+use Rattle.console_meaning.specs.Values.{edition_brief, check_brief}
 use Rattle.console_meaning.specs.Values.{Silent, ready_silent, fail_silent, unload_silent, finish_silent}
 use Rattle.console_meaning.specs.Values.{retire_silent, retire_child_silent, remove_silent, offer_silent}
-use Rattle.console_meaning.specs.Told.{said, silent}
 
 infixr 20 ◌&◌
 -- What the line of a thing asked for says: that it is bad, that a registry is opened, or the rules' answer.
@@ -45,21 +39,6 @@ Plain v Bad = Unit {0}
 Plain v (Open domain first) = v ≡ None
 Plain v (Stated o) = Silent o
 Plain v (Told o) = Brief o
-
-open_said : (p : Page) (m : List ℕ) (domain first : ℕ) → asked_line p m None (Open domain first) ≡ line_end (put_on p ok_word)
-unfolding spoken_on numbers_on
-open_said p m domain first = refl
-
-bad_said : (p : Page) (m : List ℕ) (v : Values) → asked_line p m v Bad ≡ bad p
-unfolding spoken_on
-bad_said p m v = refl
-
--- Then the line says the rules' answer.
-pub plainly : (p : Page) (m : List ℕ) (v : Values) (a : Asked) → Plain v a → asked_line p m v a ≡ said_of p m v a
-plainly p m v Bad h = bad_said p m v
-plainly p m v (Open domain first) h = rw h (open_said p m domain first)
-plainly p m v (Stated o) h = silent p m v o h
-plainly p m v (Told o) h = said p m v o h
 
 -- The values that a row says of an acceptance.
 abbrev pub values_by : Row → Values
@@ -149,22 +128,3 @@ plain_check v l = go l.found
     go : (b : Bool) → Plain v (pick b (Told (Ask (CheckOrder l.set l.order))) Bad)
     go true = check_brief l.set l.order
     go false = tt
-
-module _ (p : Page) (m : List ℕ) where
-  -- A line of numbers says the rules' answer, with the row's values;
-  pub numbers_said : (buffer : List ℕ) (place : ℕ) (count : Count) (v : Values) (l : List ℕ) → row_at place ≡ Takes count (Registry v)
-      → (numbers_line p m buffer place (Registry v) l).page ≡ said_of p m v (asked_at place l)
-  numbers_said buffer place count v l e = plainly p m v (asked_at place l) (subst (λ (r : Row). Plain (values_by r) (asked_at place l)) e (plain_asked place l))
-
-  -- so does a registration's line,
-  pub register_said : (buffer line : List ℕ) (from : ℕ) → (register_line p m buffer line from).page ≡ said_of p m Numbers (registration (definition_in line from))
-  register_said buffer line from = plainly p m Numbers (registration (definition_in line from)) (plain_registration Numbers (definition_in line from))
-
-  -- a check's line,
-  pub check_said : (buffer line : List ℕ) (from : ℕ) → (check_line p m buffer line from).page ≡ said_of p m YesOrNo (checking (sets_in line from))
-  check_said buffer line from = plainly p m YesOrNo (checking (sets_in line from)) (plain_check YesOrNo (sets_in line from))
-
-  -- and the line of a listing.
-  pub listed_said : (buffer : List ℕ) (held : Held) (l : List ℕ)
-      → (listed p m buffer held l).page ≡ line_end (line_on p Numbers (answer m (Write (Listed (which_of held) (first l) (second l)) buffer)))
-  listed_said buffer held l = said p m Numbers (Write (Listed (which_of held) (first l) (second l)) buffer) (listed_brief _ _ _ _)

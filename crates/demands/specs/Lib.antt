@@ -3,7 +3,5 @@ pub mod Starts
 pub mod Demand1
 pub mod Demand2
 pub mod Demand3
-pub mod Stays
-pub mod Texts
 pub mod Loads
 pub mod Orders

@@ -1,30 +1,22 @@
 -- Of a load, as the demands speak of operations: a refusal changes nothing, what an accepted one leaves is the rules' loaded registry,
--- and memories and demand 3's sequences begin with it as with an opening. Every made memory's text loads.
-use Rattle.std.specs.Prelude.{ℕ, ◌≡◌, refl, true, List, [], ◌≢◌, ◌⊎◌, eqb}
-use Rattle.std.proofs.Common.{arith, sym, ap, ◌∙◌, subst, inl, inr}
+-- and it is a beginning as an opening is.
+use Rattle.std.specs.Prelude.{ℕ, ◌≡◌, refl, List, [], ◌⊎◌, eqb}
+use Rattle.std.proofs.Common.{arith, ap, ◌∙◌, inl, inr}
 use Rattle.std.proofs.Math.Option.{Option, none, some}
 use Rattle.rules.specs.Holds.{Registry}
-use Rattle.rules.specs.Refusals.{SameDomain}
 use Rattle.rules.specs.Outcomes.{Refused, Accepted}
-use Rattle.rules.specs.Admission.{Invocation}
-use Rattle.rules.specs.Steps.{Op, Call, answer_to}
-use Rattle.rules.specs.Text.{Said, said, text, text_of, read_text}
-use Rattle.rules.proofs.Text.{read_written}
+use Rattle.rules.specs.Text.{Said, text, text_of, read_text}
 use Rattle.rules.specs.Conditions.{loadable}
 use Rattle.rules.specs.Load.{moved_to, loaded, Opening, refused, opens, opening, load, load_answer, after_load}
-use Rattle.rules_laws.specs.History.{story, Demand3}
 use Rattle.rules_laws.specs.Laws.Tests.{by_test}
-use Rattle.rules_load.specs.Loaded.{load_opens, load_same, load_fits}
+use Rattle.rules_load.specs.Loaded.{load_opens}
 use Rattle.rules_load.proofs.Loaded.{text_loaded}
-use Rattle.rules_load.specs.Twin.{built_loadable}
 use Rattle.memory.specs.View.{view}
 use Rattle.memory_load.specs.Loading.{words_of}
 use Rattle.registry_load.specs.Words.{leaves_load}
-use Rattle.text_write.specs.Numbers.{Small, words_fit}
 use Rattle.demands.specs.Starts as starts
-use Rattle.demands.specs.Starts.{Begun, load_view, begun_start}
-use Rattle.demands.specs.Demand2.{Made, begins, made_sound}
-use Rattle.demands.specs.Demand3.{Night, night, demand_3}
+use Rattle.demands.specs.Starts.{Begun, load_view}
+use Rattle.demands.specs.Demand2.{Made, begins}
 
 -- Demand 1: on any words, a refused load answers 24 or 25 and leaves the words as they were.
 pub demand_1_load : (m : List ℕ) (d : ℕ) (t : List ℕ) (n : ℕ) (vs : List ℕ) → load_answer (load d t) ≡ Refused n vs
@@ -70,34 +62,9 @@ module _ (d : ℕ) (t : List ℕ) (r : Registry) (e : load d t ≡ opens r) wher
   pub loads_domain : (view (words_of r)).domain ≡ d
   loads_domain = ap (λ (q : Registry). q.domain) (load_view d t r e ∙ (load_opens d t r e).3)
 
-  -- Demand 3: its sequence starts anew at the load, with the loaded registry.
-  module _ (ops : List Op) where
-    abbrev n : Night
-    n = night (words_of r) ops
-
-    pub demand_3_loaded : (v : Invocation) → Demand3 d v (story r v.id n.events) (answer_to (view n.words) (Call v))
-    demand_3_loaded v =
-        subst (λ (x : ℕ). Demand3 x v (story r v.id n.events) (answer_to (view n.words) (Call v))) loads_domain
-        (subst (λ (q : Registry). Demand3 (view (words_of r)).domain v (story q v.id n.events) (answer_to (view n.words) (Call v)))
-        (load_view d t r e) (demand_3 (words_of r) (begun_start (words_of r) loads_begun) ops v))
-
   -- The text of what it leaves is the loaded text but for the domain and the Queued roots.
   pub text_after_load : (s : Said) → read_text t ≡ some s → text_of (view (words_of r)) ≡ text.write (moved_to d s)
   text_after_load s i =
       let o = load_opens d t r e in
       let j : o.0 ≡ s = cc in
       ap text_of (load_view d t r e ∙ o.3) ∙ text_loaded d o.0 o.2 ∙ ap (λ s. text.write (moved_to d s)) j
-
--- A made memory's text meets the conditions,
-pub made_loadable : (m : List ℕ) → Made m → loadable (said (view m)) ≡ true
-made_loadable m w = built_loadable (view m) (made_sound m w).built
-
--- so it loads under every domain but its own.
-module _ (m : List ℕ) (w : Made m) (h : Small m) where
-  pub made_loads : (d : ℕ) → d ≢ (view m).domain → load d (text_of (view m)) ≡ opens (loaded d (said (view m)))
-  made_loads d n =
-      load_fits d (text_of (view m)) (said (view m)) (read_written (view m) (words_fit m h)) (made_loadable m w) (λ i. n (sym i))
-
-  pub made_loads_same : load (view m).domain (text_of (view m)) ≡ refused SameDomain
-  made_loads_same =
-      load_same (view m).domain (text_of (view m)) (said (view m)) (read_written (view m) (words_fit m h)) (made_loadable m w) refl

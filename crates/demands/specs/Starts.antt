@@ -1,7 +1,6 @@
 -- Where a memory begins: with an opening or a load. All that follows is shown from any start, so a beginning needs a law of its own
 -- that it is one, and nothing else.
 use Rattle.std.specs.Prelude.{ℕ, ◌≤◌, ◌≡◌, List, ◌≢◌, length}
-use Rattle.std.proofs.Common.{sym, subst}
 use Rattle.std.proofs.Math.Path.{subst⁻¹}
 use Rattle.std.proofs.Math.Option.{some}
 use Rattle.rules.specs.Basics.{last}
@@ -10,19 +9,16 @@ use Rattle.rules.specs.Load.{moved_to, opens, load}
 use Rattle.rules_types.specs.declared.Root.TheVariants.{Queued}
 use Rattle.rules_laws.specs.Demand3 as three
 use Rattle.rules_laws.specs.Built.{Built}
-use Rattle.rules_laws.specs.Kept.{opened_built, built_start}
+use Rattle.rules_laws.specs.Kept.{built_start}
 use Rattle.rules_load.specs.Meets.{loadable_meets}
 use Rattle.rules_load.specs.Laws.Unqueued.{moved_loadable}
 use Rattle.rules_load.specs.Loaded.{load_opens}
-use Rattle.rules_load.proofs.Loaded.{opens_built, opens_start}
 use Rattle.memory.specs.View.{view}
 use Rattle.memory.specs.Writes.{opened_with}
 use Rattle.memory.specs.Layout.{memory_words}
 use Rattle.memory_rows.specs.Dense.{Dense}
 use Rattle.memory_load.specs.Loading.{words_of}
 use Rattle.memory_load.proofs.Whole.{words_dense, words_view}
-use Rattle.registry_remove.specs.Refines.{open_refines}
-use Rattle.memory_rows.specs.Opened.{opened_dense}
 
 -- Dense words that say a built registry.
 pub record Sound (m : List ℕ) : Type 0 where
@@ -44,7 +40,7 @@ blank m domain first = opened_with m domain first first
 
 -- The words of a loaded registry are dense, and say it.
 module _ (domain : ℕ) (text : List ℕ) (r : Registry) (e : load domain text ≡ opens r) where
-  load_words_lem : Dense (words_of r) × (view (words_of r) ≡ r)
+  pub load_words_lem : Dense (words_of r) × (view (words_of r) ≡ r)
   load_words_lem =
       let o = load_opens domain text r e in
       let s = moved_to domain o.0 in
@@ -59,17 +55,3 @@ module _ (domain : ℕ) (text : List ℕ) (r : Registry) (e : load domain text �
 pub data Begun : List ℕ → Type 0 where
   opened : (m : List ℕ) → length m ≡ memory_words → (domain first : ℕ) → first ≤ last → Begun (blank m domain first)
   loaded : (domain : ℕ) (text : List ℕ) (r : Registry) → load domain text ≡ opens r → Begun (words_of r)
-
-pub begun_start : (m : List ℕ) → Begun m → Start m
-begun_start _ (opened m size domain first h) =
-    let e = sym (open_refines m domain first size) in
-    record {
-      sound = record { dense = opened_dense m domain first first size; built = subst Built e (opened_built domain first h) };
-      unqueued = (subst three.Start e (three.fresh_start domain first)).unqueued;
-    }
-begun_start _ (loaded domain text r h) =
-    let e = sym (load_view domain text r h) in
-    record {
-      sound = record { dense = (load_words_lem domain text r h).0; built = subst Built e (opens_built domain text r h) };
-      unqueued = (subst three.Start e (opens_start domain text r h)).unqueued;
-    }

@@ -15,8 +15,8 @@ loop-i-preserved c =
     let k = c.is_taken.ensures in (
       omega arith,
       c.loop-i.invariant.1 ∙ (elim c.if-is_taken.branch [
-        then-is_taken w ↦ index_taken _ _ _ l (sym k ∙ w.if-is_taken.true) w.offered_words.ensures (w.index-is ∙ w.note.ensures)
-      | else-is_taken w ↦ index_free _ _ _ l (sym k ∙ w.if-is_taken.false) w.index-is
+        | then-is_taken w ↦ index_taken _ _ _ l (sym k ∙ w.if-is_taken.true) w.offered_words.ensures (w.index-is ∙ w.note.ensures)
+        | else-is_taken w ↦ index_free _ _ _ l (sym k ∙ w.if-is_taken.false) w.index-is
       ]),
     )
 

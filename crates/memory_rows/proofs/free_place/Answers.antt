@@ -16,9 +16,9 @@ returns-after-last-p c =
     let last = c.lower_starts-last.ensures.1 in
     free_steps a.m.now _ (a.place % places) _ _ _ y s_is c_is low last _ _
     (elim c.if-last-p.branch [
-      then-last-p w ↦
-        free_moved a.m.now _ (a.place % places) _ _ _ y s_is c_is low last _ _ w.rows_of.ensures (w.m-is ∙ w.close_gap.ensures)
-    | else-last-p w ↦ free_stays a.m.now _ (a.place % places) _ _ _ y s_is c_is low last _ w.if-last-p.false w.m-is
+      | then-last-p w ↦
+          free_moved a.m.now _ (a.place % places) _ _ _ y s_is c_is low last _ _ w.rows_of.ensures (w.m-is ∙ w.close_gap.ensures)
+      | else-last-p w ↦ free_stays a.m.now _ (a.place % places) _ _ _ y s_is c_is low last _ w.if-last-p.false w.m-is
     ])
     c.vacate.ensures
 

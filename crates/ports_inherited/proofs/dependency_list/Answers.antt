@@ -149,8 +149,8 @@ loop-k-preserved c =
     let s = lists_at c.next.invariant.1.1 c.loop-k.k c.loop-k-test.true in (
       omega arith,
       c.loop-k.invariant.1 ∙ in_miss s (drawn t) (elim c.if-list-k.branch [
-        then-list-k+else-list-k-2 w ↦ λ e f. w.if-list-k-2.false f
-      | else-list-k w ↦ λ e f. w.if-list-k.false e
+        | then-list-k+else-list-k-2 w ↦ λ e f. w.if-list-k-2.false f
+        | else-list-k w ↦ λ e f. w.if-list-k.false e
       ]),
     )
 

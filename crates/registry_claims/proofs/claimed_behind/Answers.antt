@@ -26,9 +26,9 @@ loop-i-preserved c =
     let t = sym c.is_taken.ensures in
     c.loop-i.invariant
     ∙ elim c.if-is_taken.branch [
-      then-is_taken+else-provides w ↦
-        claimed_behind_lem m i (omega arith) (t ∙ w.if-is_taken.true) q (sym w.provides.ensures ∙ w.if-provides.false)
-    | else-is_taken w ↦ ap (is_in q) (claims_free m i (omega arith) (t ∙ w.if-is_taken.false))
+      | then-is_taken+else-provides w ↦
+          claimed_behind_lem m i (omega arith) (t ∙ w.if-is_taken.true) q (sym w.provides.ensures ∙ w.if-provides.false)
+      | else-is_taken w ↦ ap (is_in q) (claims_free m i (omega arith) (t ∙ w.if-is_taken.false))
     ]
 
 pub returns : goal.returns

@@ -38,9 +38,9 @@ loop-i-preserved c =
       v.3,
       v.4
           ∙ elim c.if-is_taken.branch [
-            then-is_taken+else-is_user w ↦
-              any_not (user_at m p) m i h _ (t ∙ w.if-is_taken.true) (own_place m p v.1 _ v.2 _ v.3 i h _ w.is_user.ensures) w.if-is_user.false
-          | else-is_taken w ↦ any_free (user_at m p) m i h (t ∙ w.if-is_taken.false)
+            | then-is_taken+else-is_user w ↦
+                any_not (user_at m p) m i h _ (t ∙ w.if-is_taken.true) (own_place m p v.1 _ v.2 _ v.3 i h _ w.is_user.ensures) w.if-is_user.false
+            | else-is_taken w ↦ any_free (user_at m p) m i h (t ∙ w.if-is_taken.false)
           ],
     )
 

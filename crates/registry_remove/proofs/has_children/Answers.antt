@@ -27,8 +27,8 @@ loop-i-preserved c =
       omega arith,
       c.loop-i.invariant.1
           ∙ elim c.if-is_child_of.branch [
-            then-is_child_of+else-is_taken w ↦ any_free (is_child_of id) m i h (sym w.is_taken.ensures ∙ w.if-is_taken.false)
-          | else-is_child_of w ↦ any_never (is_child_of id) m i h _ n w.if-is_child_of.false
+            | then-is_child_of+else-is_taken w ↦ any_free (is_child_of id) m i h (sym w.is_taken.ensures ∙ w.if-is_taken.false)
+            | else-is_child_of w ↦ any_never (is_child_of id) m i h _ n w.if-is_child_of.false
           ],
     )
 

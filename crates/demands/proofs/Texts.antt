@@ -7,7 +7,8 @@ use Rattle.text_laws.specs.Rising.{InOrder, in_order}
 use Rattle.text_laws.specs.Same.{Same, same_text, text_same}
 use Rattle.text_laws.specs.Sizes.{built_text}
 use Rattle.text_write.specs.Numbers.{Small, words_fit}
-use Rattle.demands.specs.Demand2.{Made, made_sound}
+use Rattle.demands.specs.Demand2.{Made}
+use Rattle.demands.proofs.Demand2.{made_sound}
 
 module _ (m m' : List ℕ) where
   pub text_same_words : Small m → Small m' → text_of (view m) ≡ text_of (view m') → Same (view m) (view m')

@@ -13,7 +13,8 @@ use Rattle.rules_laws.specs.Ledger.{Entry, entered, ledger, entry_rows}
 use Rattle.rules_laws.proofs.Ledger.{Booked, start_booked, step_booked}
 use Rattle.memory.specs.View.{view}
 use Rattle.demands.specs.Leaves.{leaves}
-use Rattle.demands.specs.Demand2.{Made, goes_on, made_sound, demand_2}
+use Rattle.demands.specs.Demand2.{Made, goes_on}
+use Rattle.demands.proofs.Demand2.{made_sound, demand_2}
 use Rattle.demands.specs.Demand3.{Night, onward, onward_with, night}
 
 module _ (m : List ℕ) (w : Made m) (o : Op) where
