@@ -20,7 +20,7 @@ use Rattle.memory.specs.Writes.{opened_with}
 use Rattle.memory.specs.Layout.{memory_words}
 use Rattle.memory_rows.specs.Dense.{Dense}
 use Rattle.memory_load.specs.Loading.{words_of}
-use Rattle.memory_load.specs.Whole.{words_dense, words_view}
+use Rattle.memory_load.proofs.Whole.{words_dense, words_view}
 use Rattle.registry_remove.specs.Refines.{open_refines}
 use Rattle.memory_rows.specs.Opened.{opened_dense}
 

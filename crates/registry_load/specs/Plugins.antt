@@ -23,7 +23,7 @@ use Rattle.rules_load.specs.Laws.Unqueued.{rows_unqueued}
 use Rattle.memory.specs.View.{view}
 use Rattle.memory.specs.Writes.{opened_with}
 use Rattle.memory_load.specs.Loading.{loaded_plugin, zeros}
-use Rattle.memory_load.specs.SoFar.{SoFar, so_far_start, so_far_next}
+use Rattle.memory_load.proofs.SoFar.{SoFar, so_far_start, so_far_next}
 use Rattle.text_form.specs.Forms.{Read, found, torn, and_then, read_many}
 use Rattle.text_form.proofs.Forms.{torn_found, many_exact}
 use Rattle.rules.proofs.Text.{block_lawful}

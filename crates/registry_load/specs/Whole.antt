@@ -24,7 +24,7 @@ use Rattle.rules_laws.specs.Laws.Placed.{held_placed}
 use Rattle.rules_load.specs.Laws.Unqueued.{claims_unqueued}
 use Rattle.memory.specs.View.{view}
 use Rattle.memory_load.specs.Loading.{words_of}
-use Rattle.memory_load.specs.SoFar.{so_far_words}
+use Rattle.memory_load.proofs.SoFar.{so_far_words}
 use Rattle.text_form.specs.Forms.{Read, found, torn, and_then, read_many, alone, ◌then◌}
 use Rattle.text_form.proofs.Forms.{torn_found}
 use Rattle.text_form.specs.Lines.{line, number}

@@ -11,7 +11,7 @@ use Rattle.rules_laws.specs.Laws.Tests.{both}
 use Rattle.memory.specs.View.{view}
 use Rattle.memory_rows.specs.Dense.{Dense}
 use Rattle.memory_load.specs.Loading.{words_of}
-use Rattle.memory_load.specs.SoFar.{SoFar, so_far_start, so_far_next, so_far_words, sum_append}
+use Rattle.memory_load.proofs.SoFar.{SoFar, so_far_start, so_far_next, so_far_words, sum_append}
 
 module _ (domain first next : ℕ) where
   abbrev said : List Plugin → Said
