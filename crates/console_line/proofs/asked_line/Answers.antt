@@ -8,4 +8,4 @@ pub returns : goal.returns
 returns c =
     let x = c.args in
     let o = c.carried_out-status.ensures in
-    (asked_said (up_to x.text.now 0) x.m.now x.values (asked_at x.place x.l.now) _ _ _ o.0.0 o.0.1 c.said.ensures, o.1)
+    record { said = asked_said (up_to x.text.now 0) x.m.now x.values (asked_at x.place x.l.now) _ _ _ o.0.0 o.0.1 c.said.ensures; left = o.1 }

@@ -29,7 +29,7 @@ returns-in-Registry c =
     let x = c.args in
     let o = c.asked_line.ensures in
     same_done _ _ _ _ _ _ (ap (λ (k : Kind). numbers_line (up_to x.text.now 0) x.m.now x.buffer.now x.place k x.l.now) c.in-Registry.is)
-    (o.0, o.1, refl)
+    (o.said, o.left, refl)
 
 pub returns-in-Text : goal.returns-in-Text
 returns-in-Text c =

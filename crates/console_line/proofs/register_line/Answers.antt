@@ -9,8 +9,9 @@ use Rattle.console_line.proofs.register_line.Goals as goal
 pub returns : goal.returns
 returns c =
     let x = c.args in
-    let o = c.registered-status.ensures in (
-      asked_said (up_to x.text.now 0) x.m.now Numbers (registration (definition_in x.bytes.now x.from)) _ _ _ o.0.0 o.0.1
-          c.said.ensures,
-      o.1,
-    )
+    let o = c.registered-status.ensures in
+    record {
+      said = asked_said (up_to x.text.now 0) x.m.now Numbers (registration (definition_in x.bytes.now x.from)) _ _ _ o.0.0 o.0.1
+          c.said.ensures;
+      left = o.1;
+    }
