@@ -5,7 +5,8 @@ use Rattle.rules.specs.Holds.{Registry}
 use Rattle.rules.specs.Refusals.{SameDomain}
 use Rattle.rules.specs.Admission.{Invocation}
 use Rattle.rules.specs.Steps.{Op, Call, answer_to}
-use Rattle.rules.specs.Text.{said, text, text_of, read_written}
+use Rattle.rules.specs.Text.{said, text, text_of}
+use Rattle.rules.proofs.Text.{read_written}
 use Rattle.rules.specs.Conditions.{loadable}
 use Rattle.rules.specs.Load.{loaded, refused, opens, load}
 use Rattle.rules_laws.specs.History.{story, Demand3}
