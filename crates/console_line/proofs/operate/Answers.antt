@@ -17,7 +17,7 @@ returns-in-Register c =
     let x = c.args in
     let o = c.register_line.ensures in
     same_left _ _ _ _ _ _ _ (operate_is (up_to x.text.now 0) x.m.now x.buffer.now (slot_of x.slot) x.bytes.now x.place
-    x.from _ _ c.row_at-row.ensures c.in-Register.is) (o.0, o.1, refl, refl)
+    x.from _ _ c.row_at-row.ensures c.in-Register.is) (o.said, o.left, refl, refl)
 
 pub returns-in-Check : goal.returns-in-Check
 returns-in-Check c =
