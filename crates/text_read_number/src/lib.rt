@@ -117,6 +117,9 @@ fn digits(text: &[u8], from: usize, stop: u8, value: u64) -> Number
     }
 }
 
+// The digit behind which a number ends that begins with it.
+const ZERO: u8 = 48;
+
 // A number with this byte behind it: no leading zero, and no number past 2^64 − 1.
 fn number_to(text: &[u8], at: Next, stop: u8) -> Number
     requires { no_digit stop ≡ true }
@@ -147,7 +150,7 @@ fn number_to(text: &[u8], at: Next, stop: u8) -> Number
             next: Next::Torn,
         };
     }
-    if byte == 48 {
+    if byte == ZERO {
         return ended(text, first + 1, stop, 0);
     }
     digits(text, first + 1, stop, (byte - 48) as u64)

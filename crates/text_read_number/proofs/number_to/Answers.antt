@@ -29,8 +29,8 @@ returns-then-byte-gt57 c =
     let high = number_high stop t i (omega arith) c.if-byte-gt57.true in
     record { reads = reads_torn (read_number stop) t c.args.at 0 i c.in-At.is (omega arith) high; one = refl }
 
-pub returns-then-byte-eq48 : goal.returns-then-byte-eq48
-returns-then-byte-eq48 c =
+pub returns-then-byte-eq-ZERO : goal.returns-then-byte-eq-ZERO
+returns-then-byte-eq-ZERO c =
     let t = c.args.text.now in
     let stop = c.args.stop in
     let i = c.in-At.first in
@@ -42,5 +42,5 @@ returns c =
     let t = c.args.text.now in
     let stop = c.args.stop in
     let i = c.in-At.first in
-    let more = number_digit stop t i (omega arith) (omega arith) (omega arith) c.requires c.if-byte-eq48.false in
+    let more = number_digit stop t i (omega arith) (omega arith) (omega arith) c.requires c.if-byte-eq-ZERO.false in
     number_from (value_to stop _) (read_number stop) t (i + 1) i c.args.at _ c.digits.ensures c.in-At.is (omega arith) (omega arith) more
