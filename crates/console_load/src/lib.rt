@@ -95,7 +95,8 @@ fn carried_out(m: &mut [u64; WORDS], domain: u64, length: u64, bytes: &[u8]) -> 
     ensures { (result ≡ load_status domain length bytes.now)
         × (m.new ≡ load_left m.old domain length bytes.now) }
 {
-    if TEXT_ROOM < length as usize {
+    let too_long = TEXT_ROOM < length as usize;
+    if too_long {
         return BAD;
     }
     host::vaskelbi_load(m, domain, bytes)

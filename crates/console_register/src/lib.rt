@@ -86,7 +86,8 @@ fn with_lists(
     let mut deps = [0u64; 2048];
     let mut provs = [0u64; 2048];
     let all = console_definition::three_lists(bytes, head.stop, &mut rows, &mut deps, &mut provs);
-    if !all.found {
+    let absent = !all.found;
+    if absent {
         return BAD;
     }
     let mut realms = [0u64; 2050];

@@ -31,7 +31,8 @@ pub fn longer(line: &mut [u8; LINE], filled: usize, byte: u8) -> usize
     ensures count { result ≡ longer_count filled }
     ensures bytes { line.new ≡ longer_bytes line.old filled byte }
 {
-    if filled < LINE {
+    let fits = filled < LINE;
+    if fits {
         line[filled] = byte;
         return filled + 1;
     }

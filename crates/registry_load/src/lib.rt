@@ -186,7 +186,8 @@ fn read(w: &mut [u64; WORDS], domain: u64, text: &[u8]) -> Text
     let Next::At(behind) = end else {
         return Text::Bad;
     };
-    if behind < text.len() {
+    let more = behind < text.len();
+    if more {
         return Text::Bad;
     }
     if !registry_cycles::all_hold(w) {

@@ -155,7 +155,8 @@ fn follows(
 fn is_passing(m: &[u64; WORDS], set: &[u64], order: &[u64]) -> bool
     ensures { result ≡ passes (view m.now) set.now order.now }
 {
-    if order.len() != set.len() {
+    let other_length = order.len() != set.len();
+    if other_length {
         return false;
     }
     memory::known(m);

@@ -2,12 +2,12 @@
 use Rattle.console_load.proofs.Laws.{not_loaded, is_loaded}
 use Rattle.console_load.proofs.carried_out.Goals as goal
 
-pub returns-then-length-gt-TEXT_ROOM : goal.returns-then-length-gt-TEXT_ROOM
-returns-then-length-gt-TEXT_ROOM c =
+pub returns-then-too_long : goal.returns-then-too_long
+returns-then-too_long c =
     let x = c.args in
-    not_loaded x.m.now x.domain x.length x.bytes.now c.if-length-gt-TEXT_ROOM.true
+    not_loaded x.m.now x.domain x.length x.bytes.now c.if-too_long.true
 
 pub returns : goal.returns
 returns c =
     let x = c.args in
-    is_loaded x.m.now x.domain x.length x.bytes.now c.if-length-gt-TEXT_ROOM.false _ _ c.vaskelbi_load.ensures
+    is_loaded x.m.now x.domain x.length x.bytes.now c.if-too_long.false _ _ c.vaskelbi_load.ensures

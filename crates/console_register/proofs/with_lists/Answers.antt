@@ -11,18 +11,18 @@ returns-then-not-head c =
     let x = c.args in
     same x.m.now x.out.now _ _ _ _ _ (no_head x.under x.head _ c.if-not-head.true) ((refl, refl), refl)
 
-pub returns-then-not-all : goal.returns-then-not-all
-returns-then-not-all c =
+pub returns-then-absent : goal.returns-then-absent
+returns-then-absent c =
     let x = c.args in
     let t = c.three_lists-all in
-    same x.m.now x.out.now _ _ _ _ _ (no_lists x.under x.head _ t.result.found t.ensures.found c.if-not-all.true) ((refl, refl), refl)
+    same x.m.now x.out.now _ _ _ _ _ (no_lists x.under x.head _ t.result.found t.ensures.found c.if-absent.true) ((refl, refl), refl)
 
 pub returns : goal.returns
 returns c =
     let x = c.args in
     let l = lists_in x.bytes.now x.head.stop in
     let hf = yes x.head.found c.if-not-head.false in
-    let lf = sym c.three_lists-all.ensures.found ∙ yes c.three_lists-all.result.found c.if-not-all.false in
+    let lf = sym c.three_lists-all.ensures.found ∙ yes c.three_lists-all.result.found c.if-absent.false in
     let a = one_list x.head.edition x.head.default l.realms _ _ _ _ _ _ c.three_lists-all.ensures.realms c.realm_list-size.ensures in
     let b = front_is l.deps _ _ _ c.three_lists-all.ensures.deps in
     let d = front_is l.provs _ _ _ c.three_lists-all.ensures.provs in

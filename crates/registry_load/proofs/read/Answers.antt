@@ -46,14 +46,14 @@ returns-in_default-end c =
     let start = c.in-At.is in
     bad _ (plugins_refused t _ x _ start (plugins_unfit c.plugins-end.ensures c.in_default-end.is))
 
-pub returns-then-behind-text : goal.returns-then-behind-text
-returns-then-behind-text c =
+pub returns-then-more : goal.returns-then-more
+returns-then-more c =
     let a = c.args in
     let t = a.text.now in
     let x = c.read_header-h.ensures in
     let start = c.in-At.is in
     let g = plugins_all _ c.plugins-end.ensures c.in-At-end.is in
-    bad _ (too_long t _ x _ start a.domain g.2 (omega (arith, c.if-h.false)) (omega (arith, c.if-behind-text.true)))
+    bad _ (too_long t _ x _ start a.domain g.2 (omega (arith, c.if-h.false)) (omega (arith, c.if-more.true)))
 
 pub returns-then-not-all_hold : goal.returns-then-not-all_hold
 returns-then-not-all_hold c =
@@ -62,7 +62,7 @@ returns-then-not-all_hold c =
     let x = c.read_header-h.ensures in
     let start = c.in-At.is in
     let g = plugins_all _ c.plugins-end.ensures c.in-At-end.is in
-    bad _ (unfit t _ x _ start a.domain g.2 (omega (arith, c.if-h.false)) (omega (arith, g.2.reads.fits, c.if-behind-text.false))
+    bad _ (unfit t _ x _ start a.domain g.2 (omega (arith, c.if-h.false)) (omega (arith, g.2.reads.fits, c.if-more.false))
     (sym c.all_hold.ensures ∙ c.if-not-all_hold.true))
 
 pub returns : goal.returns
@@ -72,5 +72,5 @@ returns c =
     let x = c.read_header-h.ensures in
     let start = c.in-At.is in
     let g = plugins_all _ c.plugins-end.ensures c.in-At-end.is in
-    accepted t _ x _ start a.domain g.2 (omega (arith, c.if-h.false)) (omega (arith, g.2.reads.fits, c.if-behind-text.false))
+    accepted t _ x _ start a.domain g.2 (omega (arith, c.if-h.false)) (omega (arith, g.2.reads.fits, c.if-more.false))
     (sym c.all_hold.ensures ∙ c.if-not-all_hold.false)

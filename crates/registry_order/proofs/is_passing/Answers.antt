@@ -5,16 +5,16 @@ use Rattle.memory_index.specs.Indexed.{index_finds}
 use Rattle.registry_order.proofs.Laws.{pass_length, pass_start, follow_end, follow_not, follow_on}
 use Rattle.registry_order.proofs.is_passing.Goals as goal
 
-pub returns-then-order-set : goal.returns-then-order-set
-returns-then-order-set c =
+pub returns-then-other_length : goal.returns-then-other_length
+returns-then-other_length c =
     let a = c.args in
-    pass_length (view a.m.now) a.set.now a.order.now c.if-order-set.true
+    pass_length (view a.m.now) a.set.now a.order.now c.if-other_length.true
 
 pub loop-i-init : goal.loop-i-init
 loop-i-init c =
     let a = c.args in (
       index_finds a.m.now _ c.known.ensures c.index-index.ensures,
-      pass_start (view a.m.now) a.set.now a.order.now c.if-order-set.false,
+      pass_start (view a.m.now) a.set.now a.order.now c.if-other_length.false,
     )
 
 pub slice_bounds-follows-end : goal.slice_bounds-follows-end
