@@ -31,18 +31,20 @@ realms_lawful =
 
 pub lines_lawful : Lawful lines
 lines_lawful =
-    then_lawful (line_lawful "id" number_lawful)
-    (then_lawful (line_lawful "parent" number_or_none_lawful)
-    (then_lawful (line_lawful "phase" phase_lawful)
-    (then_lawful (line_lawful "retired" zero_or_one_lawful)
-    (then_lawful (line_lawful "generation" number_lawful)
-    (then_lawful (line_lawful "revision" number_lawful)
-    (then_lawful (line_lawful "payload" number_lawful)
-    (then_lawful root_and_queued_lawful
-    (then_lawful (line_lawful "anchor" key_realm_lawful)
-    (then_lawful realms_lawful
-    (then_lawful (list_lawful "deps" "dep" key_realm_lawful)
-    (list_lawful "provs" "prov" key_realm_value_lawful)))))))))))
+    search (
+      then_lawful,
+      line_lawful,
+      list_lawful,
+      number_lawful,
+      number_or_none_lawful,
+      phase_lawful,
+      zero_or_one_lawful,
+      root_and_queued_lawful,
+      key_realm_lawful,
+      key_realm_value_lawful,
+      realms_lawful,
+    )
+    depth 16
 
 pub block_lawful : Lawful block
 block_lawful = like_lawful lines lines_lawful lines_of plugin_of (λ a. refl) (λ b. refl)

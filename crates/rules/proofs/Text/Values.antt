@@ -80,7 +80,7 @@ root_and_queued_lawful =
     from_root to_root root_there root_again
 
 pub first_edition_lawful : Lawful first_edition
-first_edition_lawful = literal_lawful (bytes "edition=1\ndefault=0\n")
+first_edition_lawful = search literal_lawful
 
 pub second_edition_lawful : Lawful second_edition
 second_edition_lawful = behind_lawful (bytes "edition=2\ndefault=") number number_lawful
