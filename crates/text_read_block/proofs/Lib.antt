@@ -1,3 +1,4 @@
+pub mod Forms
 pub mod PortLines
 pub mod ProvisionLines
 pub mod BlockLines
