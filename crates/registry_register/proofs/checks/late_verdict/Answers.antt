@@ -16,7 +16,7 @@ returns-then-registered-ge-PLUGINS c =
 pub returns-then-dependencies-gt-DEPENDENCIES : goal.returns-then-dependencies-gt-DEPENDENCIES
 returns-then-dependencies-gt-DEPENDENCIES c =
     let a = c.args in
-    late_long a.m.now a.rows a.dependencies a.claims _ c.next_id.ensures c.if-next_id-eq18446744073709551615.false _ c.registered-registered.ensures c.if-registered-ge-PLUGINS.false
+    late_long a.m.now a.rows a.dependencies a.claims _ c.next_id.ensures c.if-next_id-eq18446744073709551615.false _ c.registered-registered.ensures (omega arith)
     c.if-dependencies-gt-DEPENDENCIES.true
 
 pub returns-then-rows-gt-ROWS : goal.returns-then-rows-gt-ROWS
