@@ -59,7 +59,8 @@ fn past_word(line: &[u8], from: usize) -> usize
 {
     let mut i = from;
     while i < line.len() {
-        if line[i] == 32 {
+        let space = line[i] == 32;
+        if space {
             return i;
         }
         i += 1;

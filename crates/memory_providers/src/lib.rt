@@ -25,7 +25,8 @@ pub fn provides(m: &[u64; WORDS], place: usize, key: u64, realm: u64) -> bool
 {
     let anchor = memory_lists::anchor(m, place);
     if key == anchor.key {
-        if realm == anchor.realm {
+        let same = realm == anchor.realm;
+        if same {
             return true;
         }
     }

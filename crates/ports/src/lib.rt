@@ -39,7 +39,8 @@ pub fn has_number(numbers: &[u64], n: u64) -> bool
     let mut i = numbers.len();
     while 0 < i {
         i -= 1;
-        if numbers[i] == n {
+        let here = numbers[i] == n;
+        if here {
             return true;
         }
     }

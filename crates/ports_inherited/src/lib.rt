@@ -37,7 +37,8 @@ fn is_own(provisions: &[u64], anchor: Port, key: u64, realm: u64) -> bool
     if ports::has_port(provisions, key, realm) {
         return true;
     }
-    if key != own_key {
+    let another = key != own_key;
+    if another {
         return false;
     }
     realm == own_realm

@@ -98,7 +98,8 @@ pub fn candidate(other: u64, turn: usize, key: u64, realm: u64, rows: &[u64]) ->
     ensures { result ≡ candidate_of other (reached (pairs rows.now)) turn key realm }
 {
     let q = ports_realms::resolve(rows, Port::new(key, other));
-    if turn != 0 {
+    let again = turn != 0;
+    if again {
         return Turn {
             realm: q.realm,
             turns: 1,

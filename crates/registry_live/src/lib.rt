@@ -49,7 +49,8 @@ fn is_queued(root: Root, revision: u64, argument: u64) -> bool
     match root {
         Root::Unissued => false,
         Root::Queued(queued, given) => {
-            if queued == revision {
+            let same = queued == revision;
+            if same {
                 return given == argument;
             }
             false
@@ -63,7 +64,8 @@ pub fn is_live(life: Life, generation: u64, revision: u64, argument: u64) -> boo
     ensures { result ≡ live_of life generation revision argument }
 {
     if is_current(life, generation) {
-        if life.revision == revision {
+        let same = life.revision == revision;
+        if same {
             let root = life.root;
             return is_queued(root, revision, argument);
         }

@@ -38,7 +38,8 @@ pub struct Change {
 pub fn changed(r: PayloadRecord, payload: u64) -> Change
     ensures { result ≡ change_of r payload }
 {
-    if r.revision == u64::MAX {
+    let last = r.revision == u64::MAX;
+    if last {
         return Change {
             next: r,
             answer: Replaced::Refused(refusal::EXHAUSTED, payload),

@@ -116,7 +116,8 @@ pub fn read_decimal(word: &[u8]) -> Decimal
     if word.len() == 1 {
         return read_digits(word);
     }
-    if word[0] == 48 {
+    let leading_zero = word[0] == 48;
+    if leading_zero {
         return Decimal::None;
     }
     read_digits(word)

@@ -155,7 +155,8 @@ fn masked(mask: u64, i: u64, tag: u64) -> u64
     ensures { result ≡ mask_with mask i tag }
 {
     if i < (limits::PROVISION_KEYS as u64) {
-        if tag == 0 {
+        let absent = tag == 0;
+        if absent {
             return mask;
         }
         return mask + (1 << i);

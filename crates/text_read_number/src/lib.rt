@@ -62,7 +62,8 @@ fn ended(text: &[u8], at: usize, stop: u8, value: u64) -> Number
             next: Next::Torn,
         };
     }
-    if text[at] != stop {
+    let another = text[at] != stop;
+    if another {
         return Number {
             value: 0,
             next: Next::Torn,

@@ -3,11 +3,11 @@ use Rattle.std.proofs.Common.{refl}
 use Rattle.console_show.proofs.Fields.{none_queued, some_queued}
 use Rattle.console_show.proofs.root.Goals as goal
 
-pub returns-then-out-eq1 : goal.returns-then-out-eq1
-returns-then-out-eq1 c =
-    none_queued c.args.m.now c.args.id c.requires _ _ _ _ _ refl c.vaskelbi_root.ensures c.answer-at.ensures _ c.if-out-eq1.true
+pub returns-then-unqueued : goal.returns-then-unqueued
+returns-then-unqueued c =
+    none_queued c.args.m.now c.args.id c.requires _ _ _ _ _ refl c.vaskelbi_root-unqueued.ensures c.answer-at.ensures _ c.if-unqueued.true
     c.put.ensures
 
 pub returns : goal.returns
 returns c =
-    some_queued c.args.m.now c.args.id c.requires _ _ _ _ _ refl c.vaskelbi_root.ensures c.answer-at.ensures c.if-out-eq1.false
+    some_queued c.args.m.now c.args.id c.requires _ _ _ _ _ refl c.vaskelbi_root-unqueued.ensures c.answer-at.ensures c.if-unqueued.false

@@ -6,8 +6,8 @@ use Rattle.console_words.proofs.past_word.Goals as goal
 pub loop-i-init : goal.loop-i-init
 loop-i-init c = (omega arith, refl)
 
-pub returns-then-line-i-eq32 : goal.returns-then-line-i-eq32
-returns-then-line-i-eq32 c =
+pub returns-then-space : goal.returns-then-space
+returns-then-space c =
     let e = word_stop c.args.line.now c.loop-i.i (omega arith) (omega arith) in
     (omega arith, omega arith)
 

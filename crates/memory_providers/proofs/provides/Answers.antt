@@ -4,14 +4,14 @@ use Rattle.rules.specs.Holds.{port}
 use Rattle.memory.specs.Layout.{places}
 use Rattle.memory_providers.proofs.Laws.{provides_anchor, provides_provision}
 use Rattle.memory_providers.proofs.provides.Goals as goal
-use Rattle.memory_providers.proofs.provides.Goals.{then-key-anchor+else-realm-anchor, else-key-anchor}
+use Rattle.memory_providers.proofs.provides.Goals.{then-key-anchor+else-same, else-key-anchor}
 
-pub returns-then-realm-anchor : goal.returns-then-realm-anchor
-returns-then-realm-anchor c =
+pub returns-then-same : goal.returns-then-same
+returns-then-same c =
     let a = c.args in
-    provides_anchor a.m.now (a.place % places) (port a.key a.realm) _ c.anchor-anchor.ensures c.if-key-anchor.true c.if-realm-anchor.true
+    provides_anchor a.m.now (a.place % places) (port a.key a.realm) _ c.anchor-anchor.ensures c.if-key-anchor.true c.if-same.true
 
 pub returns : goal.returns
 returns c =
-    provides_provision _ _ _ _ c.anchor-anchor.ensures (elim c.if-key-anchor.branch [ then-key-anchor+else-realm-anchor w ↦ λ e f. w.if-realm-anchor.false f | else-key-anchor w ↦ λ e f. w.if-key-anchor.false e ]) _
+    provides_provision _ _ _ _ c.anchor-anchor.ensures (elim c.if-key-anchor.branch [ then-key-anchor+else-same w ↦ λ e f. w.if-same.false f | else-key-anchor w ↦ λ e f. w.if-key-anchor.false e ]) _
     c.provision_words.ensures _ c.has_port.ensures

@@ -9,12 +9,12 @@ use Rattle.ports.proofs.has_number.Goals as goal
 pub loop-i-init : goal.loop-i-init
 loop-i-init c = (omega arith, ap (any (eqb c.args.n)) (drop-length c.args.numbers.now))
 
-pub returns-then-numbers-i : goal.returns-then-numbers-i
-returns-then-numbers-i c =
+pub returns-then-here : goal.returns-then-here
+returns-then-here c =
     let a = c.args in
     let i = c.loop-i.i - 1 in
     let s = drop-cons a.numbers.now i 0 (omega arith) in
-    sym (any_later (eqb a.n) i a.numbers.now (any_hit (eqb a.n) s (eq-eqb _ _ (sym c.if-numbers-i.true))))
+    sym (any_later (eqb a.n) i a.numbers.now (any_hit (eqb a.n) s (eq-eqb _ _ (sym c.if-here.true))))
 
 pub loop-i-preserved : goal.loop-i-preserved
 loop-i-preserved c =
@@ -22,7 +22,7 @@ loop-i-preserved c =
     let i = c.loop-i.i - 1 in
     let f : suc i ≡ c.loop-i.i = omega arith in
     let s = drop-cons a.numbers.now i 0 (omega arith) in
-    (omega arith, any_miss (eqb a.n) s (ne_eqb _ _ (λ e. c.if-numbers-i.false (sym e))) ∙ ap (λ k. any (eqb a.n) (drop k a.numbers.now)) f ∙ c.loop-i.invariant.1)
+    (omega arith, any_miss (eqb a.n) s (ne_eqb _ _ (λ e. c.if-here.false (sym e))) ∙ ap (λ k. any (eqb a.n) (drop k a.numbers.now)) f ∙ c.loop-i.invariant.1)
 
 pub returns : goal.returns
 returns c = let z : c.loop-i.i ≡ 0 = omega arith in sym (rw z at c.loop-i.invariant.1)

@@ -11,14 +11,14 @@ returns-then-has_port c =
     let there = sym c.has_port.ensures ∙ c.if-has_port.true in
     sym (in_behind (port a.key a.realm) a.anchor (pairs a.provisions.now) ∙ rw there)
 
-pub returns-then-key-own_key : goal.returns-then-key-own_key
-returns-then-key-own_key c =
+pub returns-then-another : goal.returns-then-another
+returns-then-another c =
     let a = c.args in
     let miss = sym c.has_port.ensures ∙ c.if-has_port.false in
-    sym (in_behind (port a.key a.realm) a.anchor (pairs a.provisions.now) ∙ rw (miss, ne_eqb a.key a.anchor.key c.if-key-own_key.true))
+    sym (in_behind (port a.key a.realm) a.anchor (pairs a.provisions.now) ∙ rw (miss, ne_eqb a.key a.anchor.key c.if-another.true))
 
 pub returns : goal.returns
 returns c =
     let a = c.args in
     let miss = sym c.has_port.ensures ∙ c.if-has_port.false in
-    sym (in_behind (port a.key a.realm) a.anchor (pairs a.provisions.now) ∙ rw (miss, eq-eqb a.key a.anchor.key c.if-key-own_key.false))
+    sym (in_behind (port a.key a.realm) a.anchor (pairs a.provisions.now) ∙ rw (miss, eq-eqb a.key a.anchor.key c.if-another.false))

@@ -9,9 +9,9 @@ returns-then-word-eq0 c = sym (number_empty c.args.word.now c.if-word-eq0.true)
 pub returns-then-word-eq1 : goal.returns-then-word-eq1
 returns-then-word-eq1 c = c.read_digits.ensures ∙ sym (number_one c.args.word.now (omega arith))
 
-pub returns-then-word-eq48 : goal.returns-then-word-eq48
-returns-then-word-eq48 c = sym (number_zero c.args.word.now (omega arith) (omega arith))
+pub returns-then-leading_zero : goal.returns-then-leading_zero
+returns-then-leading_zero c = sym (number_zero c.args.word.now (omega arith) (omega arith))
 
 pub returns : goal.returns
 returns c = c.read_digits-2.ensures ∙ sym
-    (number_more c.args.word.now (omega arith) c.if-word-eq48.false)
+    (number_more c.args.word.now (omega arith) c.if-leading_zero.false)

@@ -11,11 +11,11 @@ below i h = pow-lt h
 whole : (i : ℕ) → i < 15 → (1 * 2 ^ i) % 2 ^ 64 ≡ 2 ^ i
 whole i h = let p = below i h in omega arith
 
-pub returns-then-tag-eq0 : goal.returns-then-tag-eq0
+pub returns-then-absent : goal.returns-then-absent
 unfolding mask_with
-returns-then-tag-eq0 c =
+returns-then-absent c =
     let a = c.args in
-    rw (lt-ltb a.i max_provision_keys c.if-i.true, eq-eqb a.tag 0 c.if-tag-eq0.true)
+    rw (lt-ltb a.i max_provision_keys c.if-i.true, eq-eqb a.tag 0 c.if-absent.true)
 
 pub overflow_add-result : goal.overflow_add-result
 overflow_add-result c = let a = c.args in omega (arith, c.requires, below a.i (omega arith))
@@ -24,7 +24,7 @@ pub returns-then-i : goal.returns-then-i
 unfolding mask_with
 returns-then-i c =
     let a = c.args in
-    rw (whole a.i c.if-i.true, lt-ltb a.i max_provision_keys c.if-i.true, ne_eqb a.tag 0 c.if-tag-eq0.false)
+    rw (whole a.i c.if-i.true, lt-ltb a.i max_provision_keys c.if-i.true, ne_eqb a.tag 0 c.if-absent.false)
 
 pub returns : goal.returns
 unfolding mask_with

@@ -14,13 +14,13 @@ returns-then-at-text c =
     let at = c.args.at in
     record { reads = reads_torn (stop_at stop n) t (At at) 0 at refl (omega arith) (stop_end stop n t at (omega arith)); one = refl }
 
-pub returns-then-text-at : goal.returns-then-text-at
-returns-then-text-at c =
+pub returns-then-another : goal.returns-then-another
+returns-then-another c =
     let t = c.args.text.now in
     let stop = c.args.stop in
     let n = c.args.value in
     let at = c.args.at in
-    let other = stop_other stop n t at (omega arith) c.if-text-at.true in
+    let other = stop_other stop n t at (omega arith) c.if-another.true in
     record { reads = reads_torn (stop_at stop n) t (At at) 0 at refl (omega arith) other; one = refl }
 
 pub returns : goal.returns
@@ -29,5 +29,5 @@ returns c =
     let stop = c.args.stop in
     let n = c.args.value in
     let at = c.args.at in
-    let here = stop_here stop n t at (omega arith) c.if-text-at.false in
+    let here = stop_here stop n t at (omega arith) c.if-another.false in
     record { reads = reads_found (stop_at stop n) t (At at) n at refl (omega arith) _ here (omega arith); one = refl }
