@@ -66,7 +66,8 @@ fn root(m: &[u64; WORDS], id: u64, text: &mut [u8; ROOM], from: usize) -> usize
     let mut out = [0u64; ANSWER];
     host::vaskelbi_root(m, id, &mut out);
     let at = console_answer::answer(text, from, &out);
-    let unqueued = out[0] == 1;
+    let told = out[0];
+    let unqueued = told == 1;
     if unqueued {
         return console_answer::put(text, at, b" none");
     }

@@ -41,7 +41,8 @@ fn number_at(realms: &[u64], place: usize) -> u64
 pub fn edition(realms: &[u64]) -> Edition
     ensures { result ≡ (realm_list realms.now).edition }
 {
-    let second = number_at(realms, 0) == 2;
+    let number = number_at(realms, 0);
+    let second = number == 2;
     if second {
         return Edition::Second(number_at(realms, 1));
     }
