@@ -1,2 +1,2 @@
-// What the console says is what the rules answer: theorems alone, in specs/. No code.
+// What the console says is what the rules answer: theorems alone, in specs/ and proofs/. No code.
 #![tactic(auto)]

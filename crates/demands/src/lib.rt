@@ -1,2 +1,2 @@
-// The three demands, as theorems about the words that the functions promise to leave. Theorems alone, in specs/. No code.
+// The three demands, as theorems about the words that the functions promise to leave. Theorems alone, in specs/ and proofs/. No code.
 #![tactic(auto)]

@@ -1,2 +1,2 @@
-// What holds of the rules: theorems alone, in specs/. No code.
+// What holds of the rules: theorems alone, in specs/ and proofs/. No code.
 #![tactic(auto)]

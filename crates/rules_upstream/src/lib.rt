@@ -1,2 +1,2 @@
-// Upstream's clauses follow from the rules: theorems alone, in specs/. No code.
+// Upstream's clauses follow from the rules: theorems alone, in specs/ and proofs/. No code.
 #![tactic(auto)]

@@ -1,2 +1,2 @@
-// Texts as forms: what is written and what is read by one description, with its two laws. Definitions and laws alone, in specs/. No code.
+// Texts as forms: what is written and what is read by one description, with its two laws. Definitions in specs/, laws in specs/ and proofs/. No code.
 #![tactic(auto)]
