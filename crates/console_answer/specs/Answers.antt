@@ -3,7 +3,8 @@ use Rattle.std.specs.Prelude.{ℕ, Bool, false, List, [], ◌∷◌, eqb, get_or
 use Rattle.rules.specs.Basics.{pick}
 use Rattle.rules.specs.Outcomes.{Answer, Refused, Accepted}
 use Rattle.text_form.specs.Bytes.{bytes}
-use Rattle.console_answer.specs.Pages.{Page, put_on, number_on, numbers_on}
+use Rattle.console_answer.specs.Pages.{put_on, number_on, numbers_on}
+use Rattle.console_answer.specs.declared.Page.{Page}
 
 abbrev pub ok_word : List ℕ
 ok_word = bytes "ok"

@@ -1,12 +1,9 @@
 -- A page: the text's bytes, and the place up to which they are written. All that is said is put there, byte by byte.
-use Rattle.std.specs.Prelude.{ℕ, ◌+◌, List, [], ◌∷◌, ltb, length}
+use Rattle.std.specs.Prelude.{ℕ, ◌+◌, List, [], ◌∷◌, ltb, length, replicate}
 use Rattle.rules.specs.Basics.{pick}
 use Rattle.rules.specs.Outcomes.{written}
 use Rattle.text_form.specs.Digits.{decimal_of}
-
-pub record Page : Type 0 where
-  pub text : List ℕ
-  pub place : ℕ
+use Rattle.console_answer.specs.declared.Page.{Page}
 
 abbrev pub up_to : List ℕ → ℕ → Page
 up_to text place = record { text = text; place = place }
@@ -21,6 +18,10 @@ text_room = 131072
 -- How many bytes a page has.
 abbrev pub room : ℕ
 room = line_room + text_room
+
+-- Nothing is written yet.
+abbrev pub empty_page : Page
+empty_page = up_to (replicate room 0) 0
 
 -- Bytes at the page's place, if they fit the room; if they do not, all stays.
 unfoldable pub put_on : Page → List ℕ → Page

@@ -1,11 +1,11 @@
 -- A slot's line: DOMAIN PARENT GENERATION STATE.
-use Rattle.std.specs.Prelude.{ℕ, List}
-use Rattle.std.proofs.Math.Option.{Option, none, some}
+use Rattle.std.specs.Prelude.{ℕ, List, Option, Some, None}
 use Rattle.rules.specs.Outcomes.{Answer, Refused, Accepted}
 use Rattle.rules.specs.Retirement.{Identity}
 use Rattle.rules.specs.Slot.{Slot, Decided, Decision, Pending, Assigned, Failed, Cancelled}
 use Rattle.text_form.specs.Bytes.{bytes}
-use Rattle.console_answer.specs.Pages.{Page, put_on, number_on}
+use Rattle.console_answer.specs.Pages.{put_on, number_on}
+use Rattle.console_answer.specs.declared.Page.{Page}
 use Rattle.console_answer.specs.Answers.{ok_word, none_word, word_on, answer_on}
 
 abbrev pub pending_word : List ℕ
@@ -22,8 +22,8 @@ cancelled_word = bytes "cancelled"
 
 -- GENERATION is a number or `none`.
 abbrev pub generation_on : Page → Option ℕ → Page
-generation_on p (some n) = number_on p n
-generation_on p none = word_on p none_word
+generation_on p (Some n) = number_on p n
+generation_on p None = word_on p none_word
 
 unfoldable pub identity_on : Page → Identity → Page
 identity_on p c = number_on (number_on (number_on (word_on p assigned_word) c.domain) c.parent) c.id

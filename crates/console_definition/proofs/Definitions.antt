@@ -1,39 +1,36 @@
 -- The parts of a registration's line, each from its words. Assumes nothing.
-use Prim.Native.Nat.{ℕ}
-use mathlib.Core.Path.{◌≡◌, refl}
-use mathlib.Core.Bool.{Bool, true, false, ◌&&◌}
+use Rattle.std.specs.Prelude.{Option, Some, None, option_map}
+use Prim.Native.Nat.{ℕ, ◌≤◌}
+use mathlib.Core.Path.{◌≡◌, refl, sym, ap, ◌∙◌}
+use mathlib.Core.Bool.{true, false}
 use mathlib.Core.List.{List}
-use mathlib.Core.Option.{none, some}
-use lib.Dec.{eqb}
 use lib.ListN.{length}
+use borrow.Author.Tests.{eq-eqb, ne_eqb}
 use Rattle.rules.specs.Basics.{same_numbers}
 use Rattle.text_form.specs.Bytes.{bytes}
 use Rattle.text_form.specs.Words.{number_of}
 use Rattle.console_words.specs.Words.{next_word, bytes_of}
-use Rattle.console_words.specs.Runs.{number_at, run_from, Gathered}
+use Rattle.console_words.specs.Runs.{Numbers, number_at, Gathered}
 use Rattle.console_words.specs.declared.Span.{Span}
 use Rattle.console_words.specs.declared.Run.{Run}
-use Rattle.console_definition.specs.declared.Parent.TheVariants.{Of, None, Bad}
-use Rattle.console_definition.specs.declared.Number.{Number}
-use Rattle.console_definition.specs.declared.Head.{Head}
-use Rattle.console_definition.specs.declared.Counted.{Counted}
-use Rattle.console_definition.specs.Definitions.{word_from, parent_in, under_in, number_in, head_in, Listed, listed, list_behind, three, lists_in}
-use Rattle.console_definition.specs.Found.{count_of, Behind, behind_front, Three}
+use Rattle.console_definition.specs.Definitions.{word_from, past, parent_in, under, under_in, numbered, number_in, list_behind, next_list}
+use Rattle.console_definition.specs.Definitions.{three, realms_in, deps_in, provs_in, lists_in}
+use Rattle.console_definition.specs.Found.{count_of, counts, Behind, behind_missing, behind_listed, Three}
 
 module _ (line : List ℕ) (from : ℕ) (w : Span) (e : w ≡ next_word line from) where
-  pub number_is : (n : ℕ) → number_of (bytes_of line w) ≡ some n → record { is = true; value = n; stop = w.stop } ≡ number_in line from
+  pub number_is : (n : ℕ) → Some n ≡ number_of (bytes_of line w) → Some (numbered w.stop n) ≡ number_in line from
   unfolding number_in
   number_is n d =
-      let f : number_at line from ≡ some n = rw e at d in
-      rw (e, f)
+      let f : Some n ≡ number_at line from = rw e at d in
+      rw (e, ← f)
 
-  pub number_not : number_of (bytes_of line w) ≡ none → record { is = false; value = 0; stop = w.stop } ≡ number_in line from
+  pub number_not : None ≡ number_of (bytes_of line w) → None ≡ number_in line from
   unfolding number_in
   number_not d =
-      let f : number_at line from ≡ none = rw e at d in
-      rw (e, f)
+      let f : None ≡ number_at line from = rw e at d in
+      rw (← f)
 
-  pub nobody : same_numbers (bytes_of line w) (bytes "none") ≡ true → record { parent = None; stop = w.stop } ≡ under_in line from
+  pub nobody : same_numbers (bytes_of line w) (bytes "none") ≡ true → Some (under w.stop None) ≡ under_in line from
   unfolding parent_in
   nobody d =
       let f : same_numbers (word_from line from) (bytes "none") ≡ true = rw e at d in
@@ -43,78 +40,138 @@ module _ (line : List ℕ) (from : ℕ) (w : Span) (e : w ≡ next_word line fro
     other : same_numbers (word_from line from) (bytes "none") ≡ false
     other = rw e at h
 
-    pub parent_of : (n : ℕ) → number_of (bytes_of line w) ≡ some n → record { parent = Of n; stop = w.stop } ≡ under_in line from
+    pub parent_of : (n : ℕ) → Some n ≡ number_of (bytes_of line w) → Some (under w.stop (Some n)) ≡ under_in line from
     unfolding parent_in
     parent_of n d =
-        let f : number_at line from ≡ some n = rw e at d in
-        rw (e, other, f)
+        let f : Some n ≡ number_at line from = rw e at d in
+        rw (e, other, ← f)
 
-    pub no_parent : number_of (bytes_of line w) ≡ none → record { parent = Bad; stop = w.stop } ≡ under_in line from
+    pub no_parent : None ≡ number_of (bytes_of line w) → None ≡ under_in line from
     unfolding parent_in
     no_parent d =
-        let f : number_at line from ≡ none = rw e at d in
-        rw (e, other, f)
+        let f : None ≡ number_at line from = rw e at d in
+        rw (other, ← f)
 
   module _ (name before : List ℕ) where
-    here : same_numbers (bytes_of line w) name ≡ true → list_behind line from name ≡ listed (run_from 2048 line w.stop)
-    unfolding list_behind
-    here h =
-        let f : same_numbers (word_from line from) name ≡ true = rw e at h in
-        rw (e, f)
-
     pub list_here : (after : List ℕ) (run : Run) → same_numbers (bytes_of line w) name ≡ true → Gathered line w.stop before after run
-        → Behind (list_behind line from name) before after (record { found = true; count = run.count; stop = run.stop })
-    list_here after run h g = rw (here h) (record { list = rw (g.count, g.stop); numbers = g.numbers })
+        → Behind (list_behind line from name) before after (Some run)
+    unfolding list_behind
+    list_here after run h g =
+        let f : same_numbers (word_from line from) name ≡ true = rw e at h in
+        let k : Gathered line (past line from) before after run = rw e at g in
+        rw f (record { list = λ i. Some (record { count = k.count i; stop = k.stop i }); numbers = k.numbers })
 
-    pub list_missing : same_numbers (bytes_of line w) name ≡ false
-        → Behind (list_behind line from name) before before (record { found = false; count = 0; stop = length line })
+    pub list_missing : same_numbers (bytes_of line w) name ≡ false → Behind (list_behind line from name) before before None
     unfolding list_behind
     list_missing h =
         let f : same_numbers (word_from line from) name ≡ false = rw e at h in
         rw f (record { list = refl; numbers = refl })
 
-module _ (line : List ℕ) (from : ℕ) where
-  abbrev head : Bool → Number → Number → Number → Number → Number → Head
-  head found a b c d e = record {
-    found = found;
-    key = a.value;
-    realm = b.value;
-    payload = c.value;
-    edition = d.value;
-    default = e.value;
-    stop = e.stop;
-  }
+-- The list behind another is looked for where that stops.
+behind_list : (line name : List ℕ) (l : Option Numbers) (r : Run) → Some r ≡ option_map count_of l → next_list line name l ≡ list_behind line r.stop name
+behind_list line name None r e = cc
+behind_list line name (Some x) r e =
+    let k : r ≡ count_of x = cc in
+    rw k
 
-  pub head_of : (a b c d e : Number) (last found : Bool) → a ≡ number_in line from → b ≡ number_in line a.stop → c ≡ number_in line b.stop
-      → d ≡ number_in line c.stop → e ≡ number_in line d.stop → last ≡ (c.is && (d.is && e.is)) → found ≡ (a.is && (b.is && last))
-      → head found a b c d e ≡ head_in line from
-  unfolding head_in
-  head_of a b c d e last found ea eb ec ed ee el ef = rw (← ea, ← eb, ← ec, ← ed, ← ee, ef, el)
+module _ (size : ℕ) where
+  no_deps : (x y z : Option Numbers) → y ≡ None → None ≡ option_map counts (three size x y z)
+  no_deps None y z e = refl
+  no_deps (Some x) y z e = rw e
 
-  abbrev realms_of : Listed
-  realms_of = list_behind line from (bytes "realms")
+  no_provs : (x y z : Option Numbers) → z ≡ None → None ≡ option_map counts (three size x y z)
+  no_provs None y z e = refl
+  no_provs (Some x) None z e = refl
+  no_provs (Some x) (Some y) z e = rw e
 
-  abbrev deps_of : Counted → Listed
-  deps_of a = list_behind line a.stop (bytes "deps")
+  more_behind : (x y z : Option Numbers) (r : Run) → Some r ≡ option_map count_of z → (r.stop ≡ size → ⊥) → None ≡ option_map counts (three size x y z)
+  more_behind None y z r e n = refl
+  more_behind (Some x) None z r e n = refl
+  more_behind (Some x) (Some y) None r e n = refl
+  more_behind (Some x) (Some y) (Some z) r e n =
+      let k : r ≡ count_of z = cc in
+      let s : r.stop ≡ z.stop = ap (λ (q : Run). q.stop) k in
+      rw (ne_eqb z.stop size (λ i. n (s ∙ i)))
 
-  abbrev provs_of : Counted → Listed
-  provs_of b = list_behind line b.stop (bytes "provs")
+  all_three : (x y z : Option Numbers) (a b c : Run) → Some a ≡ option_map count_of x → Some b ≡ option_map count_of y → Some c ≡ option_map count_of z
+      → c.stop ≡ size → Some (record { realms = a.count; deps = b.count; provs = c.count }) ≡ option_map counts (three size x y z)
+  all_three None y z a b c ea eb ec s = cc
+  all_three (Some x) None z a b c ea eb ec s = cc
+  all_three (Some x) (Some y) None a b c ea eb ec s = cc
+  all_three (Some x) (Some y) (Some z) a b c ea eb ec s =
+      let ka : a ≡ count_of x = cc in
+      let kb : b ≡ count_of y = cc in
+      let kc : c ≡ count_of z = cc in
+      let t : z.stop ≡ size = sym (ap (λ (q : Run). q.stop) kc) ∙ s in
+      rw (ka, kb, kc, eq-eqb z.stop size t)
 
-  lists_are : (a b : Counted) → a ≡ count_of realms_of → b ≡ count_of (deps_of a) → lists_in line from ≡ three (length line) realms_of (deps_of a) (provs_of b)
+fit : (l : Option Numbers) (before after : List ℕ) (r : Run) → Behind l before after (Some r) → r.count ≤ length after
+fit l before after r h = (behind_listed l before after r h).front.fits
+
+module _ (line : List ℕ) (from : ℕ) (r r' d d' p p' : List ℕ) where
+  pub no_first : Behind (realms_in line from) r r' None → Three line from r r' d d p p None
   unfolding lists_in
-  lists_are a b ea eb = rw (eb, ea)
+  no_first h =
+      let e : realms_in line from ≡ None = behind_missing (realms_in line from) r r' h in
+      record { found = rw e; realms = h.numbers; deps = rw e; provs = rw e; fits = tt }
 
-  pub three_of : (a b c : Counted) (r r' d d' p p' : List ℕ) → Behind realms_of r r' a → Behind (deps_of a) d d' b → Behind (provs_of b) p p' c
-      → (last found : Bool) → last ≡ (c.found && eqb c.stop (length line)) → found ≡ (a.found && (b.found && last))
-      → Three (lists_in line from) r r' d d' p p' (record { found = found; realms = a.count; deps = b.count; provs = c.count })
-  three_of a b c r r' d d' p p' ha hb hc last found el ef =
-      rw (lists_are a b ha.list hb.list)
-      (record {
-        found = rw (ef, el, hc.list, hb.list, ha.list);
-        realms = behind_front realms_of r r' a ha;
-        deps = behind_front (deps_of a) d d' b hb;
-        provs = behind_front (provs_of b) p p' c hc;
-      })
+  module _ (a : Run) (ha : Behind (realms_in line from) r r' (Some a)) where
+    deps_are : deps_in line from ≡ list_behind line a.stop (bytes "deps")
+    deps_are = behind_list line (bytes "deps") (realms_in line from) a ha.list
 
-pub ends_if : (found : Bool) (stop size : ℕ) → found ≡ true → eqb stop size ≡ (found && eqb stop size)
-ends_if found stop size e = rw e
+    pub no_second : Behind (list_behind line a.stop (bytes "deps")) d d' None → Three line from r r' d d' p p None
+    unfolding lists_in
+    no_second h =
+        let e : deps_in line from ≡ None = deps_are ∙ behind_missing _ d d' h in
+        record {
+          found = no_deps (length line) (realms_in line from) (deps_in line from) (provs_in line from) e;
+          realms = ha.numbers;
+          deps = rw deps_are h.numbers;
+          provs = rw e;
+          fits = tt;
+        }
+
+    module _ (b : Run) (hb : Behind (list_behind line a.stop (bytes "deps")) d d' (Some b)) where
+      second : Behind (deps_in line from) d d' (Some b)
+      second = rw deps_are hb
+
+      provs_are : provs_in line from ≡ list_behind line b.stop (bytes "provs")
+      provs_are = behind_list line (bytes "provs") (deps_in line from) b second.list
+
+      pub no_third : Behind (list_behind line b.stop (bytes "provs")) p p' None → Three line from r r' d d' p p' None
+      unfolding lists_in
+      no_third h =
+          let e : provs_in line from ≡ None = provs_are ∙ behind_missing _ p p' h in
+          record {
+            found = no_provs (length line) (realms_in line from) (deps_in line from) (provs_in line from) e;
+            realms = ha.numbers;
+            deps = second.numbers;
+            provs = rw provs_are h.numbers;
+            fits = tt;
+          }
+
+      module _ (c : Run) (hc : Behind (list_behind line b.stop (bytes "provs")) p p' (Some c)) where
+        third : Behind (provs_in line from) p p' (Some c)
+        third = rw provs_are hc
+
+        pub no_end : (c.stop ≡ length line → ⊥) → Three line from r r' d d' p p' None
+        unfolding lists_in
+        no_end n =
+            record {
+              found = more_behind (length line) (realms_in line from) (deps_in line from) (provs_in line from) c third.list n;
+              realms = ha.numbers;
+              deps = second.numbers;
+              provs = third.numbers;
+              fits = tt;
+            }
+
+        pub all_there : c.stop ≡ length line → Three line from r r' d d' p p' (Some (record { realms = a.count; deps = b.count; provs = c.count }))
+        unfolding lists_in
+        all_there s =
+            record {
+              found = all_three (length line) (realms_in line from) (deps_in line from) (provs_in line from) a b c ha.list second.list third.list s;
+              realms = ha.numbers;
+              deps = second.numbers;
+              provs = third.numbers;
+              fits = (fit _ _ _ a ha, fit _ _ _ b second, fit _ _ _ c third);
+            }

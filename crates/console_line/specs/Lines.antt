@@ -1,6 +1,5 @@
 -- The lines of the console, each kind: what it says on a page, and what it leaves.
-use Rattle.std.specs.Prelude.{ℕ, ◌≡◌, List, [], ◌∷◌, eqb, length, get_or, take, replicate}
-use Rattle.std.proofs.Math.Option.{Option, none, some}
+use Rattle.std.specs.Prelude.{ℕ, List, [], ◌∷◌, eqb, length, get_or, take, replicate, Option, Some, None}
 use Rattle.rules.specs.Basics.{pick}
 use Rattle.rules.specs.Steps.{lent_after_step, Write}
 use Rattle.rules.specs.Questions.{Listed}
@@ -8,7 +7,8 @@ use Rattle.rules.specs.Questions as writing
 use Rattle.memory.specs.View.{view}
 use Rattle.host_answers.specs.Told.{status_of, words_of}
 use Rattle.host.specs.Tells.{answer}
-use Rattle.console_answer.specs.Pages.{Page, up_to, text_room, put_on, numbers_on}
+use Rattle.console_answer.specs.Pages.{text_room, put_on, numbers_on}
+use Rattle.console_answer.specs.declared.Page.{Page}
 use Rattle.console_answer.specs.Answers.{ok_word, bad_word, told_in}
 use Rattle.console_names.specs.declared.Count.{Count}
 use Rattle.console_names.specs.declared.Values.{Values}
@@ -16,7 +16,7 @@ use Rattle.console_names.specs.declared.Values.TheVariants.{Numbers, YesOrNo}
 use Rattle.console_names.specs.declared.Held.{Held}
 use Rattle.console_names.specs.declared.Kind.{Kind}
 use Rattle.console_names.specs.declared.Kind.TheVariants.{Show, Buffer, Lists, Registry, Text, Load, Plan}
-use Rattle.console_names.specs.Table.{Asked, Told, takes, first, second, rest, asked_at}
+use Rattle.console_names.specs.Table.{Asked, Told, takes, first, second, rest, asked}
 use Rattle.console_definition.specs.Definitions.{definition_in}
 pub use Rattle.console_show.specs.Spoken.{untold}
 use Rattle.console_show.specs.Spoken.{spoken_on}
@@ -34,10 +34,6 @@ pub record Done : Type 0 where
   pub memory : List ℕ
   pub buffer : List ℕ
 
--- A text, the words and a buffer as a line leaves them.
-abbrev pub Does : Done → List ℕ → ℕ → List ℕ → List ℕ → Type 0
-Does d text place memory buffer = (up_to text place ≡ d.page) × (memory ≡ d.memory) × (buffer ≡ d.buffer)
-
 -- Byte 10 ends an answer's line.
 abbrev pub line_end : Page → Page
 line_end p = put_on p (10 ∷ [])
@@ -48,6 +44,9 @@ bad p = line_end (put_on p bad_word)
 -- What is asked of the registry, said and done.
 abbrev pub asked_line : Page → List ℕ → Values → Asked → Page
 asked_line p m v a = line_end (spoken_on p v (status_by m a) (told_in (words_by m a untold)))
+
+abbrev pub asked_done : Page → List ℕ → List ℕ → Values → Asked → Done
+asked_done p m buffer v a = record { page = asked_line p m v a; memory = left_by m a; buffer = buffer }
 
 -- deps, provs, realms: ID PLACE
 abbrev pub listed : Page → List ℕ → List ℕ → Held → List ℕ → Done
@@ -69,29 +68,27 @@ lent_bytes size = take size (replicate text_room 0)
 
 -- Numbers, as many as are due: show ID, buffer FROM TO, a list, what the registry is asked for, write SIZE, or plan SIZE ID.. Of load
 -- DOMAIN LENGTH nothing is said before its text has come.
-abbrev pub numbers_line : Page → List ℕ → List ℕ → ℕ → Kind → List ℕ → Done
-numbers_line p m buffer place Show l = record { page = line_end (shown_on p m (first l)); memory = m; buffer = buffer }
-numbers_line p m buffer place Buffer l = record
+abbrev pub numbers_line : Page → List ℕ → List ℕ → Kind → List ℕ → Done
+numbers_line p m buffer Show l = record { page = line_end (shown_on p m (first l)); memory = m; buffer = buffer }
+numbers_line p m buffer Buffer l = record
     { page = line_end (numbers_on (put_on p ok_word) (between (first l) (second l) buffer)); memory = m; buffer = buffer }
-numbers_line p m buffer place (Lists held) l = listed p m buffer held l
-numbers_line p m buffer place (Registry v) l = record { page = asked_line p m v (asked_at place l); memory = left_by m (asked_at place l); buffer = buffer }
-numbers_line p m buffer place Text l = record { page = text_on p m (lent_bytes (first l)); memory = m; buffer = buffer }
-numbers_line p m buffer place Load l = record { page = p; memory = m; buffer = buffer }
-numbers_line p m buffer place Plan l = record { page = line_end (planned_on p m (rest l) (lent_ids (first l))); memory = m; buffer = buffer }
+numbers_line p m buffer (Lists held) l = listed p m buffer held l
+numbers_line p m buffer (Registry r v) l = asked_done p m buffer v (asked r l)
+numbers_line p m buffer Text l = record { page = text_on p m (lent_bytes (first l)); memory = m; buffer = buffer }
+numbers_line p m buffer Load l = record { page = p; memory = m; buffer = buffer }
+numbers_line p m buffer Plan l = record { page = line_end (planned_on p m (rest l) (lent_ids (first l))); memory = m; buffer = buffer }
 
 abbrev pub bad_line : Page → List ℕ → List ℕ → Done
 bad_line p m buffer = record { page = bad p; memory = m; buffer = buffer }
 
 -- An operation whose words are all numbers.
-abbrev pub or_bad : Page → List ℕ → List ℕ → ℕ → Count → Kind → Option (List ℕ) → Done
-or_bad p m buffer place count kind none = bad_line p m buffer
-or_bad p m buffer place count kind (some l) = pick (takes count (length l)) (numbers_line p m buffer place kind l) (bad_line p m buffer)
+abbrev pub or_bad : Page → List ℕ → List ℕ → Count → Kind → Option (List ℕ) → Done
+or_bad p m buffer count kind None = bad_line p m buffer
+or_bad p m buffer count kind (Some l) = pick (takes count (length l)) (numbers_line p m buffer kind l) (bad_line p m buffer)
 
 -- register
 abbrev pub register_line : Page → List ℕ → List ℕ → List ℕ → ℕ → Done
-register_line p m buffer line from =
-    let a = registration (definition_in line from) in
-    record { page = asked_line p m Numbers a; memory = left_by m a; buffer = buffer }
+register_line p m buffer line from = asked_done p m buffer Numbers (registration (definition_in line from))
 
 -- check
 abbrev pub check_line : Page → List ℕ → List ℕ → List ℕ → ℕ → Done

@@ -4,7 +4,8 @@ use Rattle.rules.specs.Basics.{pick, last}
 use Rattle.rules.specs.Load.{load, load_answer}
 use Rattle.registry_load.specs.Words.{leaves_load}
 use Rattle.host_answers.specs.Told.{status_of}
-use Rattle.console_answer.specs.Pages.{Page, up_to, text_room}
+use Rattle.console_answer.specs.Pages.{text_room}
+use Rattle.console_answer.specs.declared.Page.{Page}
 use Rattle.console_names.specs.declared.Values.TheVariants.{None}
 use Rattle.console_show.specs.Spoken.{spoken_on}
 use Rattle.console_line.specs.Lines.{line_end}
@@ -27,6 +28,6 @@ load_ended p m domain length text = record {
   memory = load_left m domain length text;
 }
 
--- A text and the words as a load leaves them.
-abbrev pub Ends : Loaded → List ℕ → ℕ → List ℕ → Type 0
-Ends l text place memory = (up_to text place ≡ l.page) × (memory ≡ l.memory)
+-- A page and the words as a load leaves them.
+abbrev pub Ends : Loaded → Page → List ℕ → Type 0
+Ends l page memory = (page ≡ l.page) × (memory ≡ l.memory)

@@ -4,16 +4,18 @@ use Rattle.std.proofs.Common.{subst}
 use Rattle.rules.specs.Steps.{Write}
 use Rattle.rules.specs.Questions.{Listed}
 use Rattle.host.specs.Tells.{answer}
-use Rattle.console_answer.specs.Pages.{Page, put_on, numbers_on}
+use Rattle.console_answer.specs.Pages.{put_on, numbers_on}
+use Rattle.console_answer.specs.declared.Page.{Page}
 use Rattle.console_answer.specs.Answers.{ok_word}
 use Rattle.console_names.specs.declared.Count.{Count}
 use Rattle.console_names.specs.declared.Values.{Values}
 use Rattle.console_names.specs.declared.Values.TheVariants.{None, Numbers, YesOrNo}
 use Rattle.console_names.specs.declared.Held.{Held}
 use Rattle.console_names.specs.declared.Kind.TheVariants.{Registry}
+use Rattle.console_names.specs.declared.Request.{Request}
 use Rattle.console_names.specs.declared.Row.{Row}
 use Rattle.console_names.specs.declared.Row.TheVariants.{Takes}
-use Rattle.console_names.specs.Table.{Asked, Bad, Open, Stated, Told, first, second, row_at, asked_at}
+use Rattle.console_names.specs.Table.{Asked, Bad, Open, Stated, Told, first, second, row_at, asked, asked_by, asked_at}
 use Rattle.console_definition.specs.Definitions.{definition_in}
 use Rattle.console_show.specs.Spoken.{line_on, spoken_on}
 use Rattle.console_operations.specs.Asked.{which_of}
@@ -41,9 +43,10 @@ plainly p m v (Told o) h = said p m v o h
 
 module _ (p : Page) (m : List ℕ) where
   -- A line of numbers says the rules' answer, with the row's values;
-  pub numbers_said : (buffer : List ℕ) (place : ℕ) (count : Count) (v : Values) (l : List ℕ) → row_at place ≡ Takes count (Registry v)
-      → (numbers_line p m buffer place (Registry v) l).page ≡ said_of p m v (asked_at place l)
-  numbers_said buffer place count v l e = plainly p m v (asked_at place l) (subst (λ (r : Row). Plain (values_by r) (asked_at place l)) e (plain_asked place l))
+  pub numbers_said : (buffer : List ℕ) (place : ℕ) (count : Count) (r : Request) (v : Values) (l : List ℕ) → row_at place ≡ Takes count (Registry r v)
+      → (numbers_line p m buffer (Registry r v) l).page ≡ said_of p m v (asked_at place l)
+  numbers_said buffer place count r v l e =
+      rw e (plainly p m v (asked r l) (subst (λ (w : Row). Plain (values_by w) (asked_by w l)) e (plain_asked place l)))
 
   -- so does a registration's line,
   pub register_said : (buffer line : List ℕ) (from : ℕ) → (register_line p m buffer line from).page ≡ said_of p m Numbers (registration (definition_in line from))

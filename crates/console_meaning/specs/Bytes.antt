@@ -10,7 +10,8 @@ use Rattle.text_form.specs.Bytes.{bytes}
 use Rattle.text_form.specs.Digits.{digits_in, decimal_of}
 use Rattle.text_form.specs.Numbers.{digits_most_20}
 use Rattle.memory.specs.View.{view}
-use Rattle.console_answer.specs.Pages.{Page, up_to, text_room, room, put_on, number_on}
+use Rattle.console_answer.specs.Pages.{up_to, text_room, room, put_on, number_on}
+use Rattle.console_answer.specs.declared.Page.{Page}
 use Rattle.console_answer.specs.Answers.{ok_word, no_word, refusal_on}
 use Rattle.console_line.specs.Lines.{line_end, text_on, lent_bytes}
 use Rattle.console_meaning.specs.Written.{write_said, write_short}

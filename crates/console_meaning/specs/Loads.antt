@@ -1,10 +1,9 @@
 -- What is awaited and said of `load DOMAIN LENGTH`: `load` with two numbers awaits a text, and when it has come the rule's answer
 -- is said. That nothing is said before is `says_nothing` (console_load).
-use Rattle.std.specs.Prelude.{ℕ, suc, ◌≤◌, ◌<◌, Bool, true, false, eqb}
+use Rattle.std.specs.Prelude.{ℕ, suc, ◌≤◌, ◌<◌, Bool, true, false, eqb, Option, Some, None}
 use Rattle.std.proofs.Common.{arith, ◌∙◌}
 use Rattle.std.proofs.Math.Path.{◌≡◌, refl, sym, ap}
 use mathlib.Core.List.{List, [], ◌∷◌, ◌++◌}
-use Rattle.std.proofs.Math.Option.{Option, none, some}
 use Rattle.std.proofs.Math.ListN.{length, get_or, length-append}
 use borrow.Author.Tests.{eqb-true, eqb-false, ne_eqb, lt-ltb, le-ltb}
 use Rattle.rules.specs.Basics.{pick, last, same_numbers}
@@ -18,18 +17,19 @@ use Rattle.text_form.specs.Numbers.{digits_most_20}
 use Rattle.host_answers.specs.Told.{status_of}
 use Rattle.registry_load.specs.Words.{leaves_load}
 use Rattle.console_words.specs.Words.{next_word, bytes_of}
-use Rattle.console_answer.specs.Pages.{Page, up_to, text_room, room, put_on, number_on, numbers_on}
+use Rattle.console_answer.specs.Pages.{up_to, text_room, room, put_on, number_on, numbers_on}
+use Rattle.console_answer.specs.declared.Page.{Page}
 use Rattle.console_answer.specs.Answers.{ok_word, no_word, bad_word, answer_on, refusal_on}
 use Rattle.console_names.specs.declared.Count.TheVariants.{Exactly}
-use Rattle.console_names.specs.declared.Values.TheVariants.{None}
+use Rattle.console_names.specs.declared.Values.TheVariants as values
 use Rattle.console_names.specs.Names.{place_among}
 use Rattle.console_names.specs.Behind.{numbers_behind}
 use Rattle.console_names.specs.Table.{names, operation_at, row_at, place_of}
 use Rattle.console_names.specs.Others.{the_others}
 use Rattle.console_show.specs.Spoken.{spoken_on}
 use Rattle.console_line.specs.Lines.{line_end, bad}
-use Rattle.console_load.specs.declared.Awaited.TheVariants.{Text, Nothing}
-use Rattle.console_load.specs.Awaited.{as_many, awaited_by, awaited_in}
+use Rattle.console_load.specs.declared.Awaited.{Awaited}
+use Rattle.console_load.specs.Awaited.{text, as_many, awaited_by, awaited_in}
 use Rattle.console_load.specs.Loaded.{load_ended}
 use Rattle.console_meaning.specs.Bytes.{Stands, stands_put, blank_page}
 
@@ -53,14 +53,16 @@ at_place w (n ∷ ns) h = go (same_numbers w n) refl h (at_place w ns)
     go false e k f = f (omega arith)
 
 module _ (domain size : ℕ) where
-  two_numbers : (u : Option (List ℕ)) → as_many (Exactly 2) u ≡ Text domain size → u ≡ some (domain ∷ size ∷ [])
-  two_numbers none h = cc
-  two_numbers (some []) h = cc
-  two_numbers (some (a ∷ [])) h = cc
-  two_numbers (some (a ∷ b ∷ [])) h = cc
-  two_numbers (some (a ∷ b ∷ c ∷ l)) h =
+  two_numbers : (u : Option (List ℕ)) → as_many (Exactly 2) u ≡ Some (text domain size) → u ≡ Some (domain ∷ size ∷ [])
+  two_numbers None h = cc
+  two_numbers (Some []) h = cc
+  two_numbers (Some (a ∷ [])) h = cc
+  two_numbers (Some (a ∷ b ∷ [])) h =
+      let e : text a b ≡ text domain size = cc in
+      ap (λ (t : Awaited). Some (t.domain ∷ t.length ∷ [])) e
+  two_numbers (Some (a ∷ b ∷ c ∷ l)) h =
       let e = ne_eqb (suc (suc (suc (length l)))) 2 (λ e. omega arith) in
-      let k : Nothing ≡ Text domain size = rw e at h in
+      let k : None ≡ Some (text domain size) = rw e at h in
       cc
 
   module _ (line : List ℕ) where
@@ -69,20 +71,20 @@ module _ (domain size : ℕ) where
     at_load = refl
 
     -- `load` and two numbers await a text,
-    pub load_awaits : bytes_of line (next_word line 0) ≡ bytes "load" → numbers_behind line (next_word line 0).stop ≡ some (domain ∷ size ∷ [])
-        → awaited_in line ≡ Text domain size
+    pub load_awaits : bytes_of line (next_word line 0) ≡ bytes "load" → numbers_behind line (next_word line 0).stop ≡ Some (domain ∷ size ∷ [])
+        → awaited_in line ≡ Some (text domain size)
     unfolding awaited_in
     load_awaits w n =
         let from = (next_word line 0).stop in
         ap (λ (b : List ℕ). awaited_by (row_at (place_among b names)) line from) w ∙ at_load ∙ ap (as_many (Exactly 2)) n
 
-    not_else : (place : ℕ) → (place ≡ place_of "load" → ⊥) → awaited_by (row_at place) line (next_word line 0).stop ≡ Nothing
+    not_else : (place : ℕ) → (place ≡ place_of "load" → ⊥) → awaited_by (row_at place) line (next_word line 0).stop ≡ None
     unfolding place_among
-    not_else place h = the_others Nothing ("load" ∷ []) (λ o. awaited_by o.row line (next_word line 0).stop) (λ o. Nothing) refl place (tt, h)
+    not_else place h = the_others None ("load" ∷ []) (λ o. awaited_by o.row line (next_word line 0).stop) (λ o. None) refl place (tt, h)
 
     -- .. and no other line does.
-    pub only_load : awaited_in line ≡ Text domain size
-        → (bytes_of line (next_word line 0) ≡ bytes "load") × (numbers_behind line (next_word line 0).stop ≡ some (domain ∷ size ∷ []))
+    pub only_load : awaited_in line ≡ Some (text domain size)
+        → (bytes_of line (next_word line 0) ≡ bytes "load") × (numbers_behind line (next_word line 0).stop ≡ Some (domain ∷ size ∷ []))
     unfolding awaited_in place_among
     only_load h =
         let place = place_among (bytes_of line (next_word line 0)) names in
@@ -95,7 +97,7 @@ module _ (domain size : ℕ) where
         (λ n. let k = not_else place (eqb-false place (place_of "load") n) in let z : ◌≡◌ {A = ℕ} 0 1 = cc in absurd (omega arith))
 
 -- the line of a status is that of the answer
-spoken : (p : Page) (o : Opening) → spoken_on p None (status_of (load_answer o)) [] ≡ answer_on p (load_answer o)
+spoken : (p : Page) (o : Opening) → spoken_on p values.None (status_of (load_answer o)) [] ≡ answer_on p (load_answer o)
 unfolding spoken_on status_of
 spoken p (refused x) =
     let h = number_within x in

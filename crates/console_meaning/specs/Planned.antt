@@ -1,6 +1,6 @@
 -- What the line `plan SIZE ID..` says: the order's ids, that there is none, or the refusal; and that a room of 32 ids is as good as a
 -- larger one.
-use Rattle.std.specs.Prelude.{ℕ, ◌+◌, min, ◌≤◌, ◌≡◌, refl, List, [], ◌∷◌, ◌++◌, ltb, drop, replicate}
+use Rattle.std.specs.Prelude.{ℕ, ◌+◌, min, ◌≤◌, ◌≡◌, refl, List, [], ◌∷◌, ◌++◌, ltb, drop, replicate, Result, Ok, Err}
 use Rattle.std.proofs.Common.{arith, ap, ◌∙◌, sym, length-take}
 use Rattle.std.proofs.Math.ListN.{length}
 use Rattle.std.proofs.lemmas.List.{length-replicate}
@@ -12,13 +12,12 @@ use Rattle.rules.specs.Outcomes.{Outcome, answers, refuses, writes, Check, ◌�
 use Rattle.rules.specs.Answers.{verdict}
 use Rattle.rules.specs.Limits.{max_plugins}
 use Rattle.rules.specs.Orders.{set_checks, planned, plan, plan_order}
-use Rattle.rules_types.specs.declared.Done.{Done}
-use Rattle.rules_types.specs.declared.Done.TheVariants as done
 use Rattle.rules_laws.specs.Laws.Tests.{by_test}
 use Rattle.memory.specs.View.{view}
 use Rattle.registry_plan.specs.Fits.{set_fits}
 use Rattle.host_answers.specs.Told.{status_of, words_of}
-use Rattle.console_answer.specs.Pages.{Page, put_on, numbers_on}
+use Rattle.console_answer.specs.Pages.{put_on, numbers_on}
+use Rattle.console_answer.specs.declared.Page.{Page}
 use Rattle.console_answer.specs.Answers.{ok_word, none_word, word_on, refusal_on}
 use Rattle.console_show.specs.Spoken.{spoken_on}
 use Rattle.console_order.specs.Plans.{planned_on, lent_ids}
@@ -42,11 +41,11 @@ module _ (p : Page) (m set lent : List ℕ) where
       rw e (rw (ne_eqb (number x) last (λ i. omega arith), ne_eqb (number x) 0 (λ i. omega arith)))
 
 -- Where a check refuses, those behind it do not matter.
-refused_first : (cs ds es : List Check) (u : Outcome) (n : ℕ) → verdict cs ≡ done.Refused n → checked (cs ++ ds) u ≡ checked (cs ++ es) u
+refused_first : (cs ds es : List Check) (u : Outcome) (x : Refusal) → verdict cs ≡ Err x → checked (cs ++ ds) u ≡ checked (cs ++ es) u
 unfolding verdict checked
-refused_first [] ds es u n e = let z : ◌≡◌ {A = ℕ} 0 1 = cc in absurd (omega arith)
-refused_first (c ∷ cs) ds es u n e =
-    let r = refused_first cs ds es u n in
+refused_first [] ds es u x e = cc
+refused_first (c ∷ cs) ds es u x e =
+    let r = refused_first cs ds es u x in
     by_test c.test (λ t. rw t) (λ f. rw f (r (rw f at e)))
 
 -- A room for more than 32 ids is lent as one for 32: it comes to the same, for no set of more ids passes the checks.
@@ -71,6 +70,6 @@ plan_room m set size = go (verdict cs) refl
         (λ t. let k = ltb-true size (length set) t in lt-ltb (min size max_plugins) (length set) (omega arith) ∙ sym t)
         (λ f. let k = ltb-false size (length set) f in le-ltb (min size max_plugins) (length set) (omega arith) ∙ sym f))
 
-    go : (v : Done) → verdict cs ≡ v → checked (cs ++ short (lent_ids size)) u ≡ checked (cs ++ short (replicate size 0)) u
-    go done.Accepted e = rw (same (set_fits m set e))
-    go (done.Refused n) e = refused_first cs (short (lent_ids size)) (short (replicate size 0)) u n e
+    go : (v : Result (Unit {0}) Refusal) → verdict cs ≡ v → checked (cs ++ short (lent_ids size)) u ≡ checked (cs ++ short (replicate size 0)) u
+    go (Ok t) e = rw (same (set_fits m set e))
+    go (Err x) e = refused_first cs (short (lent_ids size)) (short (replicate size 0)) u x e

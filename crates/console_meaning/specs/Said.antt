@@ -1,20 +1,17 @@
 -- What is to be said of each thing asked for, and that what the rows ask for has few values.
-use Rattle.std.specs.Prelude.{ℕ, zero, suc, ◌≡◌, refl, Bool, true, false, List, [], ◌∷◌, get_or}
-use Rattle.std.proofs.Math.Option.{Option, none, some}
+use Rattle.std.specs.Prelude.{ℕ, zero, suc, ◌≡◌, refl, List, [], ◌∷◌, get_or, Option, Some, None}
 use Rattle.rules.specs.Registration.{Definition}
 use Rattle.rules.specs.Queries.{RowsInUse, Registered, NextId}
-use Rattle.rules.specs.Basics.{pick}
-use Rattle.rules.specs.Steps.{Ask}
-use Rattle.rules.specs.Questions.{CheckOrder}
 use Rattle.host.specs.Tells.{answer}
-use Rattle.console_answer.specs.Pages.{Page, put_on}
+use Rattle.console_answer.specs.Pages.{put_on}
+use Rattle.console_answer.specs.declared.Page.{Page}
 use Rattle.console_answer.specs.Answers.{ok_word}
 use Rattle.console_names.specs.declared.Values.{Values}
 use Rattle.console_names.specs.declared.Values.TheVariants.{None, Numbers, NumbersOrNone, YesOrNo}
 use Rattle.console_names.specs.declared.Kind.TheVariants.{Show, Buffer, Lists, Registry, Text, Load, Plan}
 use Rattle.console_names.specs.declared.Row.{Row}
 use Rattle.console_names.specs.declared.Row.TheVariants.{Slot, Register, Check, Takes, Unknown}
-use Rattle.console_names.specs.Table.{Asked, Bad, Open, Stated, Told, Operation, first, operations, unknown, operation_at, row_at, asked_at}
+use Rattle.console_names.specs.Table.{Asked, Bad, Open, Stated, Told, Operation, first, operations, unknown, operation_at, row_at, asked_by, asked_at}
 use Rattle.console_show.specs.Spoken.{line_on}
 use Rattle.console_register.specs.Registrations.{registration}
 use Rattle.console_order.specs.Checks.{TwoLists, checking}
@@ -48,7 +45,7 @@ values_by Check = YesOrNo
 values_by (Takes count Show) = Numbers
 values_by (Takes count Buffer) = Numbers
 values_by (Takes count (Lists held)) = Numbers
-values_by (Takes count (Registry v)) = v
+values_by (Takes count (Registry r v)) = v
 values_by (Takes count Text) = Numbers
 values_by (Takes count Load) = None
 values_by (Takes count Plan) = NumbersOrNone
@@ -67,7 +64,7 @@ a & b = (a, b)
 
 abbrev ShownRows : List ℕ → List Operation → Type 0
 ShownRows l [] = Unit {0}
-ShownRows l (o ∷ os) = Shown (values_by o.row) (o.asks l) (ShownRows l os)
+ShownRows l (o ∷ os) = Shown (values_by o.row) (asked_by o.row l) (ShownRows l os)
 
 shown_plain : (v : Values) (a : Asked) (N : Type 0) → Shown v a N → Plain v a × N
 shown_plain v Bad N h = (tt, h)
@@ -75,10 +72,10 @@ shown_plain v (Open domain first) N h = h
 shown_plain v (Stated o) N h = h
 shown_plain v (Told o) N h = h
 
-plain_in : (l : List ℕ) (os : List Operation) → ShownRows l os → (place : ℕ) → Plain (values_by (get_or os place unknown).row) ((get_or os place unknown).asks l)
+plain_in : (l : List ℕ) (os : List Operation) → ShownRows l os → (place : ℕ) → Plain (values_by (get_or os place unknown).row) (asked_by (get_or os place unknown).row l)
 plain_in l [] h place = tt
-plain_in l (o ∷ os) h zero = (shown_plain (values_by o.row) (o.asks l) (ShownRows l os) h).0
-plain_in l (o ∷ os) h (suc place) = plain_in l os (shown_plain (values_by o.row) (o.asks l) (ShownRows l os) h).1 place
+plain_in l (o ∷ os) h zero = (shown_plain (values_by o.row) (asked_by o.row l) (ShownRows l os) h).0
+plain_in l (o ∷ os) h (suc place) = plain_in l os (shown_plain (values_by o.row) (asked_by o.row l) (ShownRows l os) h).1 place
 
 -- a fact for each row that asks for something, in the table's order
 shown : (l : List ℕ) → ShownRows l operations
@@ -118,13 +115,10 @@ plain_asked place l = plain_in l operations (shown l) place
 
 -- .. and a registration.
 pub plain_registration : (v : Values) (d : Option Definition) → Plain v (registration d)
-plain_registration v none = tt
-plain_registration v (some d) = register_brief d
+plain_registration v None = tt
+plain_registration v (Some d) = register_brief d
 
 -- .. and a check.
-pub plain_check : (v : Values) (l : TwoLists) → Plain v (checking l)
-plain_check v l = go l.found
-  where
-    go : (b : Bool) → Plain v (pick b (Told (Ask (CheckOrder l.set l.order))) Bad)
-    go true = check_brief l.set l.order
-    go false = tt
+pub plain_check : (v : Values) (l : Option TwoLists) → Plain v (checking l)
+plain_check v None = tt
+plain_check v (Some l) = check_brief l.set l.order

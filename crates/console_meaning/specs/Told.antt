@@ -8,7 +8,7 @@ use Rattle.rules.specs.Steps.{Op, step}
 use Rattle.memory.specs.View.{view}
 use Rattle.host_answers.specs.Told.{status_of, words_of}
 use Rattle.host.specs.Tells.{answer}
-use Rattle.console_answer.specs.Pages.{Page}
+use Rattle.console_answer.specs.declared.Page.{Page}
 use Rattle.console_answer.specs.Answers.{told_in}
 use Rattle.console_show.specs.Spoken.{spoken_on, line_on}
 use Rattle.console_show.specs.Shown.{values_of}

@@ -1,7 +1,6 @@
 -- How many numbers an operation answers: six at most, and none where its status says all.
-use Rattle.std.specs.Prelude.{ℕ, ◌≤◌, ◌≡◌, refl, Bool, true, false, List, [], ◌∷◌, eqb, length}
+use Rattle.std.specs.Prelude.{ℕ, ◌≤◌, ◌≡◌, refl, Bool, true, false, List, [], ◌∷◌, eqb, length, Option, Some, None}
 use Rattle.std.proofs.Common.{arith}
-use Rattle.std.proofs.Math.Option.{Option, none, some}
 use Rattle.rules.specs.Basics.{pick, is_none, one}
 use Rattle.rules_types.specs.declared.Port.{Port}
 use Rattle.rules.specs.Holds.{Plugin, Provision, Registry, lookup, provider, is_active}
@@ -37,8 +36,8 @@ module _ (P : List ℕ → Type 0) (z : P []) where
   of_known r id f h = found_elim (λ v. P (saying v)) (lookup r id) f z (λ p e. h p)
 
   of_child : (parent : ℕ) (u : Option Plugin) → P (saying (retire_found parent u))
-  of_child parent none = z
-  of_child parent (some p) = after_checks _ _ z
+  of_child parent None = z
+  of_child parent (Some p) = after_checks _ _ z
 
 -- no more than six
 abbrev Few : List ℕ → Type 0
@@ -78,20 +77,20 @@ few_missing [] = omega arith
 few_missing (v ∷ vs) = few_picked (is_none v.value) (flat (v.port ∷ [])) (first_missing vs) (omega arith) (few_missing vs)
 
 few_identity : (d id : ℕ) (parent : Option ℕ) → Few (identity d id parent)
-few_identity d id none = omega arith
-few_identity d id (some parent) = omega arith
+few_identity d id None = omega arith
+few_identity d id (Some parent) = omega arith
 
 few_given : (p : Plugin) (u : Option ℕ) → Few (given p u)
-few_given p none = omega arith
-few_given p (some n) = omega arith
+few_given p None = omega arith
+few_given p (Some n) = omega arith
 
 few_served : (q : Port) (u : Option Plugin) → Few (served q u)
-few_served q none = omega arith
-few_served q (some p) = few_given p (value_in q p.provisions)
+few_served q None = omega arith
+few_served q (Some p) = few_given p (value_in q p.provisions)
 
 few_seen : (q : Port) (u : Option Plugin) → Few (seen q u)
-few_seen q none = omega arith
-few_seen q (some p) = few_picked (is_active p.phase) (one (value_in q p.provisions)) [] (few_one (value_in q p.provisions)) (omega arith)
+few_seen q None = omega arith
+few_seen q (Some p) = few_picked (is_active p.phase) (one (value_in q p.provisions)) [] (few_one (value_in q p.provisions)) (omega arith)
 
 -- The operation answers six numbers at most, whatever the registry.
 abbrev pub Brief : Op → Type 0

@@ -10,7 +10,8 @@ use Rattle.rules.specs.Outcomes.{refuses, writes, checked, lent_after}
 use Rattle.rules.specs.Text.{text_of, write_text}
 use Rattle.memory.specs.View.{view}
 use Rattle.host_answers.specs.Told.{status_of, words_of}
-use Rattle.console_answer.specs.Pages.{Page, text_room, put_on, number_on, numbers_on}
+use Rattle.console_answer.specs.Pages.{text_room, put_on, number_on, numbers_on}
+use Rattle.console_answer.specs.declared.Page.{Page}
 use Rattle.console_answer.specs.Answers.{ok_word, refusal_on}
 use Rattle.console_show.specs.Spoken.{spoken_on}
 use Rattle.console_line.specs.Lines.{line_end, text_on, lent_bytes}

@@ -1,4 +1,5 @@
 -- A word's place among names, one name at a time. Assumes nothing.
+use Rattle.std.specs.Prelude.{Some, None}
 use Prim.Native.Nat.{ℕ, suc, ◌+◌, ◌-◌, ◌≤◌, ◌<◌}
 use mathlib.Core.Path.{◌≡◌, refl, sym, ap, ◌∙◌}
 use mathlib.Core.Bool.{true, false}
@@ -13,7 +14,7 @@ use Rattle.console_words.specs.declared.Span.{Span}
 use Rattle.console_words.specs.Parted.{words, words_after, closed, next_of_words, no_next_word}
 use Rattle.console_words.specs.Runs.{run_from, Gathered}
 use Rattle.console_words.specs.declared.Run.{Run}
-use Rattle.console_words.specs.Fronts.{Front, fronted}
+use Rattle.console_words.specs.Fronts.{fronted}
 use Rattle.console_names.specs.Names.{place_among}
 use Rattle.console_names.specs.Behind.{Numbered}
 
@@ -61,11 +62,12 @@ not_before names at s e h =
     omega arith
 
 module _ (line : List ℕ) (from : ℕ) (before after : List ℕ) (run : Run) (g : Gathered line from before after run) where
-  front : Front (run_from 2048 line from).found run.count before after
-  front = fronted _ run.count before after g.count g.numbers
+  pub other_behind : run.stop < length line → Numbered line from before after None
+  other_behind h =
+      let b = lt-ltb (run_from 2048 line from).stop (length line) (rw g.stop at h) in
+      record { count = rw b; numbers = g.numbers; front = tt }
 
-  pub other_behind : run.stop < length line → Numbered line from before after (record { only = false; count = run.count })
-  other_behind h = record { only = rw (lt-ltb (run_from 2048 line from).stop (length line) (rw g.stop at h)); numbers = front }
-
-  pub none_behind : length line ≤ run.stop → Numbered line from before after (record { only = true; count = run.count })
-  none_behind h = record { only = rw (le-ltb (run_from 2048 line from).stop (length line) (rw g.stop at h)); numbers = front }
+  pub none_behind : length line ≤ run.stop → Numbered line from before after (Some run.count)
+  none_behind h =
+      let b = le-ltb (run_from 2048 line from).stop (length line) (rw g.stop at h) in
+      record { count = rw (b, g.count); numbers = g.numbers; front = fronted _ run.count before after g.count g.numbers }

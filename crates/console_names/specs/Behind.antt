@@ -1,35 +1,32 @@
 -- The numbers behind an operation's name.
-use Rattle.std.specs.Prelude.{ℕ, ◌≡◌, refl, Bool, true, false, not, List, ltb, length, take}
-use Rattle.std.proofs.Common.{sym, ap, ◌∙◌}
-use Rattle.std.proofs.Math.Option.{Option, none, some}
+use Rattle.std.specs.Prelude.{ℕ, ◌≡◌, refl, Bool, true, false, List, ltb, length, take, Option, Some, None, IfSome, option_map}
+use Rattle.std.proofs.Common.{ap, sym, ◌∙◌}
 use Rattle.rules.specs.Basics.{pick}
+use Rattle.text_form.specs.Digits.{over}
 use Rattle.console_words.specs.Runs.{run_from}
 use Rattle.console_words.specs.Fronts.{Front, front_is}
-use Rattle.console_names.specs.declared.Behind.{Behind}
 
--- No other word stands behind the numbers.
-abbrev pub only : List ℕ → ℕ → Bool
-only line from = not (ltb (run_from 2048 line from).stop (length line))
-
--- The numbers from a place on, if nothing else stands there.
+-- The numbers from a place on, if no other word stands behind them.
 abbrev pub numbers_behind : List ℕ → ℕ → Option (List ℕ)
-numbers_behind line from = pick (only line from) (some (run_from 2048 line from).found) none
+numbers_behind line from = pick (ltb (run_from 2048 line from).stop (length line)) None (Some (run_from 2048 line from).found)
 
-pub record Numbered (line : List ℕ) (from : ℕ) (before after : List ℕ) (r : Behind) : Type 0 where
-  pub only : r.only ≡ only line from
-  pub numbers : Front (run_from 2048 line from).found r.count before after
+-- How many they are; those that come first go to the front of an array.
+pub record Numbered (line : List ℕ) (from : ℕ) (before after : List ℕ) (r : Option ℕ) : Type 0 where
+  pub count : r ≡ option_map length (numbers_behind line from)
+  pub numbers : after ≡ over (run_from 2048 line from).found before
+  pub front : IfSome r (λ n. Front (run_from 2048 line from).found n before after)
 
-module _ (line : List ℕ) (from : ℕ) (before after : List ℕ) (r : Behind) (n : Numbered line from before after r) where
-  pub no_numbers : not r.only ≡ true → numbers_behind line from ≡ none
-  no_numbers e = go (only line from) refl (sym (ap not n.only) ∙ e)
+module _ (line : List ℕ) (from : ℕ) (before after : List ℕ) where
+  pub no_numbers : Numbered line from before after None → numbers_behind line from ≡ None
+  no_numbers n = go (numbers_behind line from) n.count
     where
-      go : (b : Bool) → only line from ≡ b → not b ≡ true → numbers_behind line from ≡ none
-      go true d f = cc
-      go false d f = rw d
+      go : (l : Option (List ℕ)) → None ≡ option_map length l → l ≡ None
+      go None e = refl
+      go (Some l) e = cc
 
-  pub all_numbers : not r.only ≡ false → numbers_behind line from ≡ some (take r.count after)
-  all_numbers e = go (only line from) refl (sym (ap not n.only) ∙ e) ∙ ap some (sym (front_is _ r.count before after n.numbers))
+  pub all_numbers : (n : ℕ) → Numbered line from before after (Some n) → numbers_behind line from ≡ Some (take n after)
+  all_numbers n h = go (ltb (run_from 2048 line from).stop (length line)) h.count ∙ ap Some (sym (front_is _ n before after h.front))
     where
-      go : (b : Bool) → only line from ≡ b → not b ≡ false → numbers_behind line from ≡ some (run_from 2048 line from).found
-      go true d f = rw d
-      go false d f = cc
+      go : (b : Bool) → Some n ≡ option_map length (pick b None (Some (run_from 2048 line from).found)) → pick b None (Some (run_from 2048 line from).found) ≡ Some (run_from 2048 line from).found
+      go true e = cc
+      go false e = refl

@@ -1,12 +1,10 @@
 -- The console's operations: one table, a row for each. The code's table has the same rows in the same order.
-use Rattle.std.specs.Prelude.{ℕ, suc, ◌≡◌, refl, Bool, true, false, List, [], ◌∷◌, eqb, leb, get_or, drop}
+use Rattle.std.specs.Prelude.{ℕ, suc, ◌≡◌, refl, Bool, List, [], ◌∷◌, eqb, leb, get_or, drop}
 use Prim.Native.String.{String}
-use Rattle.rules.specs.Holds as rules
 use Rattle.rules.specs.Holds.{port}
-use Rattle.rules.specs.Outcomes.{Outcome}
 use Rattle.rules.specs.Queries.{RowsInUse, Registered, NextId, EditionOf}
 use Rattle.rules.specs.Steps.{Op, Begin, Ready, Fail, Unload, Finish, Replace, Admit, Call, Retire, RetireChild, Remove, Offer, Ask}
-use Rattle.rules.specs.Questions.{Question, ResolveKey, DependencyPort, Fits, ChildIdentity, Read, Visible, FirstMissing, Matching, Declares}
+use Rattle.rules.specs.Questions.{ResolveKey, DependencyPort, Fits, ChildIdentity, Read, Visible, FirstMissing, Matching, Declares}
 use Rattle.rules.specs.Questions.{AskPlugin, AskRegistry}
 use Rattle.text_form.specs.Bytes.{bytes}
 use Rattle.console_names.specs.declared.Count.{Count}
@@ -14,6 +12,8 @@ use Rattle.console_names.specs.declared.Count.TheVariants.{Exactly, AtLeast}
 use Rattle.console_names.specs.declared.Values.{Values}
 use Rattle.console_names.specs.declared.Values.TheVariants.{None, Numbers, NumbersOrNone, YesOrNo}
 use Rattle.console_names.specs.declared.Held.TheVariants.{Deps, Provs, Realms}
+use Rattle.console_names.specs.declared.Request.{Request}
+use Rattle.console_names.specs.declared.Request.TheVariants as request
 use Rattle.console_names.specs.declared.Kind.TheVariants.{Show, Buffer, Lists, Registry, Text, Load, Plan}
 use Rattle.console_names.specs.declared.Row.{Row}
 use Rattle.console_names.specs.declared.Row.TheVariants.{Slot, Register, Check, Takes, Unknown}
@@ -26,42 +26,15 @@ pub data Asked : Type 0 where
   Open : (domain first : ℕ) → Asked
   Stated Told : Op → Asked
 
--- An operation: its name, what stands behind it, whether it may change the registry, and what its numbers ask the registry for.
+-- An operation: its name, and what stands behind it.
 pub record Operation : Type 0 where
   pub name : String
   pub row : Row
-  pub changes : Bool
-  pub asks : List ℕ → Asked
 
 -- So many numbers are what is due.
 abbrev pub takes : Count → ℕ → Bool
 takes (Exactly due) given = eqb given due
 takes (AtLeast due) given = leb due given
-
-abbrev pub asked : Values → Op → Asked
-asked None o = Stated o
-asked Numbers o = Told o
-asked NumbersOrNone o = Told o
-asked YesOrNo o = Told o
-
-abbrev pub asking : Bool → String → Count → Values → (List ℕ → Asked) → Operation
-asking changes name count v f = record { name = name; row = Takes count (Registry v); changes = changes; asks = f }
-
--- An operation of so many numbers, which may change the registry.
-abbrev pub step : String → ℕ → Values → (List ℕ → Op) → Operation
-step name n v f = asking true name (Exactly n) v (λ l. asked v (f l))
-
--- A question of so many numbers; f is what it comes to.
-abbrev pub ask : {k : ℕ} {f : List ℕ → rules.Registry → Outcome} → String → ℕ → Values → ((l : List ℕ) → Question k (f l)) → Operation
-ask name n v q = asking false name (Exactly n) v (λ l. asked v (Ask (q l)))
-
--- The same, and then as many as wished.
-abbrev pub ask_more : {k : ℕ} {f : List ℕ → rules.Registry → Outcome} → String → ℕ → Values → ((l : List ℕ) → Question k (f l)) → Operation
-ask_more name n v q = asking false name (AtLeast n) v (λ l. asked v (Ask (q l)))
-
--- An operation that is not the registry's alone.
-abbrev pub other : String → Row → Operation
-other name r = record { name = name; row = r; changes = false; asks = λ l. Bad }
 
 -- The numbers behind a name, one by one; one that is missing is 0.
 abbrev pub first : List ℕ → ℕ
@@ -82,44 +55,81 @@ fifth l = get_or l 4 0
 abbrev pub rest : List ℕ → List ℕ
 rest l = drop 1 l
 
--- Name, count of numbers, kind of values, and what is asked for.
+-- What a request of the numbers l asks the registry for. A question changes nothing.
+abbrev pub asked : Request → List ℕ → Asked
+asked request.Open l = Open (first l) (second l)
+asked request.Begin l = Told (Begin (first l))
+asked request.Ready l = Stated (Ready (first l))
+asked request.Fail l = Stated (Fail (first l))
+asked request.Unload l = Stated (Unload (first l))
+asked request.Finish l = Stated (Finish (first l))
+asked request.Replace l = Told (Replace (first l) (second l))
+asked request.Fits l = Told (Ask (Fits (first l) (second l)))
+asked request.Admit l = Told (Admit (record { domain = first l; id = second l; generation = third l; kind = fourth l }) (fifth l))
+asked request.Call l = Told (Call (record { domain = first l; id = second l; generation = third l; revision = fourth l; argument = fifth l }))
+asked request.Retire l = Stated (Retire (first l))
+asked request.RetireChild l = Stated (RetireChild (record { domain = first l; parent = second l; id = third l }))
+asked request.Remove l = Stated (Remove (first l))
+asked request.Child l = Told (Ask (ChildIdentity (first l)))
+asked request.Offer l = Stated (Offer (first l) (port (second l) (third l)) (fourth l))
+asked request.Read l = Told (Ask (Read (first l) (port (second l) (third l))))
+asked request.Visible l = Told (Ask (Visible (port (first l) (second l))))
+asked request.Missing l = Told (Ask (FirstMissing (first l)))
+asked request.Matches l = Told (Ask (Matching (first l) (rest l)))
+asked request.Declares l = Told (Ask (Declares (first l) (port (second l) (third l))))
+asked request.Lookup l = Told (Ask (DependencyPort (first l) (second l)))
+asked request.Resolve l = Told (Ask (ResolveKey (rest l) (first l)))
+asked request.Rows l = Told (Ask (AskRegistry RowsInUse))
+asked request.Count l = Told (Ask (AskRegistry Registered))
+asked request.Next l = Told (Ask (AskRegistry NextId))
+asked request.Edition l = Told (Ask (AskPlugin EditionOf (first l)))
+
+-- An operation that is not the registry's alone.
+abbrev pub other : String → Row → Operation
+other name r = record { name = name; row = r }
+
+-- An operation of so many numbers, which the registry is asked for, and the values of its answer.
+abbrev pub ask : String → Count → Request → Values → Operation
+ask name n r v = other name (Takes n (Registry r v))
+
+-- Name, count of numbers, what is asked for, and kind of values.
 abbrev pub operations : List Operation
 operations =
-    asking true "open" (Exactly 2) None (λ l. Open (first l) (second l))
+    ask "open" (Exactly 2) request.Open None
     ∷ other "register" Register
-    ∷ step "begin" 1 Numbers (λ l. Begin (first l))
-    ∷ step "ready" 1 None (λ l. Ready (first l))
-    ∷ step "fail" 1 None (λ l. Fail (first l))
-    ∷ step "unload" 1 None (λ l. Unload (first l))
-    ∷ step "finish" 1 None (λ l. Finish (first l))
-    ∷ step "replace" 2 Numbers (λ l. Replace (first l) (second l))
-    ∷ ask "fits" 2 YesOrNo (λ l. Fits (first l) (second l))
-    ∷ step "admit" 5 Numbers (λ l. Admit (record { domain = first l; id = second l; generation = third l; kind = fourth l }) (fifth l))
-    ∷ step "call" 5 Numbers (λ l. Call (record { domain = first l; id = second l; generation = third l; revision = fourth l; argument = fifth l }))
-    ∷ step "retire" 1 None (λ l. Retire (first l))
-    ∷ step "retire_child" 3 None (λ l. RetireChild (record { domain = first l; parent = second l; id = third l }))
-    ∷ step "remove" 1 None (λ l. Remove (first l))
-    ∷ ask "child" 1 NumbersOrNone (λ l. ChildIdentity (first l))
-    ∷ step "offer" 4 None (λ l. Offer (first l) (port (second l) (third l)) (fourth l))
-    ∷ ask "read" 3 Numbers (λ l. Read (first l) (port (second l) (third l)))
-    ∷ ask "visible" 2 NumbersOrNone (λ l. Visible (port (first l) (second l)))
-    ∷ ask "missing" 1 NumbersOrNone (λ l. FirstMissing (first l))
-    ∷ ask_more "matches" 1 YesOrNo (λ l. Matching (first l) (rest l))
-    ∷ ask "declares" 3 YesOrNo (λ l. Declares (first l) (port (second l) (third l)))
-    ∷ ask "lookup" 2 NumbersOrNone (λ l. DependencyPort (first l) (second l))
-    ∷ ask_more "resolve" 3 Numbers (λ l. ResolveKey (rest l) (first l))
+    ∷ ask "begin" (Exactly 1) request.Begin Numbers
+    ∷ ask "ready" (Exactly 1) request.Ready None
+    ∷ ask "fail" (Exactly 1) request.Fail None
+    ∷ ask "unload" (Exactly 1) request.Unload None
+    ∷ ask "finish" (Exactly 1) request.Finish None
+    ∷ ask "replace" (Exactly 2) request.Replace Numbers
+    ∷ ask "fits" (Exactly 2) request.Fits YesOrNo
+    ∷ ask "admit" (Exactly 5) request.Admit Numbers
+    ∷ ask "call" (Exactly 5) request.Call Numbers
+    ∷ ask "retire" (Exactly 1) request.Retire None
+    ∷ ask "retire_child" (Exactly 3) request.RetireChild None
+    ∷ ask "remove" (Exactly 1) request.Remove None
+    ∷ ask "child" (Exactly 1) request.Child NumbersOrNone
+    ∷ ask "offer" (Exactly 4) request.Offer None
+    ∷ ask "read" (Exactly 3) request.Read Numbers
+    ∷ ask "visible" (Exactly 2) request.Visible NumbersOrNone
+    ∷ ask "missing" (Exactly 1) request.Missing NumbersOrNone
+    ∷ ask "matches" (AtLeast 1) request.Matches YesOrNo
+    ∷ ask "declares" (Exactly 3) request.Declares YesOrNo
+    ∷ ask "lookup" (Exactly 2) request.Lookup NumbersOrNone
+    ∷ ask "resolve" (AtLeast 3) request.Resolve Numbers
     ∷ other "deps" (Takes (Exactly 2) (Lists Deps))
     ∷ other "provs" (Takes (Exactly 2) (Lists Provs))
     ∷ other "realms" (Takes (Exactly 2) (Lists Realms))
     ∷ other "buffer" (Takes (Exactly 2) Buffer)
-    ∷ ask "rows" 0 Numbers (λ l. AskRegistry RowsInUse)
-    ∷ ask "count" 0 Numbers (λ l. AskRegistry Registered)
-    ∷ ask "next" 0 Numbers (λ l. AskRegistry NextId)
+    ∷ ask "rows" (Exactly 0) request.Rows Numbers
+    ∷ ask "count" (Exactly 0) request.Count Numbers
+    ∷ ask "next" (Exactly 0) request.Next Numbers
     ∷ other "show" (Takes (Exactly 1) Show)
     ∷ other "slot" Slot
     ∷ other "write" (Takes (Exactly 1) Text)
     ∷ other "load" (Takes (Exactly 2) Load)
-    ∷ ask "edition" 1 Numbers (λ l. AskPlugin EditionOf (first l))
+    ∷ ask "edition" (Exactly 1) request.Edition Numbers
     ∷ other "plan" (Takes (AtLeast 1) Plan)
     ∷ other "check" Check
     ∷ []
@@ -135,8 +145,22 @@ operation_at place = get_or operations place unknown
 abbrev pub row_at : ℕ → Row
 row_at place = (operation_at place).row
 
+-- What an operation's numbers ask the registry for.
+abbrev pub asked_by : Row → List ℕ → Asked
+asked_by (Takes n (Registry r v)) l = asked r l
+asked_by (Takes n Show) l = Bad
+asked_by (Takes n Buffer) l = Bad
+asked_by (Takes n (Lists held)) l = Bad
+asked_by (Takes n Text) l = Bad
+asked_by (Takes n Load) l = Bad
+asked_by (Takes n Plan) l = Bad
+asked_by Slot l = Bad
+asked_by Register l = Bad
+asked_by Check l = Bad
+asked_by Unknown l = Bad
+
 abbrev pub asked_at : ℕ → List ℕ → Asked
-asked_at place l = (operation_at place).asks l
+asked_at place l = asked_by (row_at place) l
 
 abbrev pub names_of : List Operation → List (List ℕ)
 names_of [] = []

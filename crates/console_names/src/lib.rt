@@ -5,8 +5,11 @@ ghost use Rattle.std.specs.Prelude.{◌≡◌, get_or, drop};
 ghost use Rattle.console_words.specs.Parted.{words};
 ghost use Rattle.console_names.specs.Names.{place_among};
 ghost use Rattle.console_names.specs.Table.{names, row_at, takes};
-ghost use Rattle.console_names.specs.Rows.{kind_of, row_of};
 ghost use Rattle.console_names.specs.Behind.{Numbered};
+
+use self::Count::{AtLeast, Exactly};
+use self::Kind::Registry;
+use self::Values::{Numbers, NumbersOrNone, YesOrNo};
 
 // How many numbers stand behind a name: so many, or so many and then as many as wished.
 #[derive(Clone, Copy)]
@@ -32,6 +35,37 @@ pub enum Held {
     Realms,
 }
 
+// What the registry is asked for.
+#[derive(Clone, Copy)]
+pub enum Request {
+    Open,
+    Begin,
+    Ready,
+    Fail,
+    Unload,
+    Finish,
+    Replace,
+    Fits,
+    Admit,
+    Call,
+    Retire,
+    RetireChild,
+    Remove,
+    Child,
+    Offer,
+    Read,
+    Visible,
+    Missing,
+    Matches,
+    Declares,
+    Lookup,
+    Resolve,
+    Rows,
+    Count,
+    Next,
+    Edition,
+}
+
 // What is done with the numbers: a plugin or the buffer is shown, a list goes to the buffer, the registry is asked, its text is
 // written, a text is awaited that it is loaded from, or a start order is planned.
 #[derive(Clone, Copy)]
@@ -39,7 +73,7 @@ pub enum Kind {
     Show,
     Buffer,
     Lists(Held),
-    Registry(Values),
+    Registry(Request, Values),
     Text,
     Load,
     Plan,
@@ -55,162 +89,49 @@ pub enum Row {
     Unknown,
 }
 
-// The places in the table of the operations that the registry is asked for.
-pub const OPEN: usize = 0;
-
-pub const BEGIN: usize = 2;
-
-pub const READY: usize = 3;
-
-pub const FAIL: usize = 4;
-
-pub const UNLOAD: usize = 5;
-
-pub const FINISH: usize = 6;
-
-pub const REPLACE: usize = 7;
-
-pub const FITS: usize = 8;
-
-pub const ADMIT: usize = 9;
-
-pub const CALL: usize = 10;
-
-pub const RETIRE: usize = 11;
-
-pub const RETIRE_CHILD: usize = 12;
-
-pub const REMOVE: usize = 13;
-
-pub const CHILD: usize = 14;
-
-pub const OFFER: usize = 15;
-
-pub const READ: usize = 16;
-
-pub const VISIBLE: usize = 17;
-
-pub const MISSING: usize = 18;
-
-pub const MATCHES: usize = 19;
-
-pub const DECLARES: usize = 20;
-
-pub const LOOKUP: usize = 21;
-
-pub const RESOLVE: usize = 22;
-
-pub const ROWS: usize = 27;
-
-pub const COUNT: usize = 28;
-
-pub const NEXT: usize = 29;
-
-pub const EDITION: usize = 34;
-
 // How many operations there are.
 const OPERATIONS: usize = 37;
 
-// What is done with the numbers, as the table says it; each has its place among these.
-const KINDS: [Kind; 12] = [
-    Kind::Show,
-    Kind::Buffer,
-    Kind::Lists(Held::Deps),
-    Kind::Lists(Held::Provs),
-    Kind::Lists(Held::Realms),
-    Kind::Registry(Values::None),
-    Kind::Registry(Values::Numbers),
-    Kind::Registry(Values::NumbersOrNone),
-    Kind::Registry(Values::YesOrNo),
-    Kind::Text,
-    Kind::Load,
-    Kind::Plan,
+// A row for each operation. A new one goes to the end, and its name to the end of the names below.
+const TABLE: [Row; OPERATIONS] = [
+    Row::Takes(Exactly(2), Registry(Request::Open, Values::None)),
+    Row::Register,
+    Row::Takes(Exactly(1), Registry(Request::Begin, Numbers)),
+    Row::Takes(Exactly(1), Registry(Request::Ready, Values::None)),
+    Row::Takes(Exactly(1), Registry(Request::Fail, Values::None)),
+    Row::Takes(Exactly(1), Registry(Request::Unload, Values::None)),
+    Row::Takes(Exactly(1), Registry(Request::Finish, Values::None)),
+    Row::Takes(Exactly(2), Registry(Request::Replace, Numbers)),
+    Row::Takes(Exactly(2), Registry(Request::Fits, YesOrNo)),
+    Row::Takes(Exactly(5), Registry(Request::Admit, Numbers)),
+    Row::Takes(Exactly(5), Registry(Request::Call, Numbers)),
+    Row::Takes(Exactly(1), Registry(Request::Retire, Values::None)),
+    Row::Takes(Exactly(3), Registry(Request::RetireChild, Values::None)),
+    Row::Takes(Exactly(1), Registry(Request::Remove, Values::None)),
+    Row::Takes(Exactly(1), Registry(Request::Child, NumbersOrNone)),
+    Row::Takes(Exactly(4), Registry(Request::Offer, Values::None)),
+    Row::Takes(Exactly(3), Registry(Request::Read, Numbers)),
+    Row::Takes(Exactly(2), Registry(Request::Visible, NumbersOrNone)),
+    Row::Takes(Exactly(1), Registry(Request::Missing, NumbersOrNone)),
+    Row::Takes(AtLeast(1), Registry(Request::Matches, YesOrNo)),
+    Row::Takes(Exactly(3), Registry(Request::Declares, YesOrNo)),
+    Row::Takes(Exactly(2), Registry(Request::Lookup, NumbersOrNone)),
+    Row::Takes(AtLeast(3), Registry(Request::Resolve, Numbers)),
+    Row::Takes(Exactly(2), Kind::Lists(Held::Deps)),
+    Row::Takes(Exactly(2), Kind::Lists(Held::Provs)),
+    Row::Takes(Exactly(2), Kind::Lists(Held::Realms)),
+    Row::Takes(Exactly(2), Kind::Buffer),
+    Row::Takes(Exactly(0), Registry(Request::Rows, Numbers)),
+    Row::Takes(Exactly(0), Registry(Request::Count, Numbers)),
+    Row::Takes(Exactly(0), Registry(Request::Next, Numbers)),
+    Row::Takes(Exactly(1), Kind::Show),
+    Row::Slot,
+    Row::Takes(Exactly(1), Kind::Text),
+    Row::Takes(Exactly(2), Kind::Load),
+    Row::Takes(Exactly(1), Registry(Request::Edition, Numbers)),
+    Row::Takes(AtLeast(1), Kind::Plan),
+    Row::Check,
 ];
-
-const SHOW: usize = 0;
-
-const BUFFER: usize = 1;
-
-const DEPS: usize = 2;
-
-const PROVS: usize = 3;
-
-const REALMS: usize = 4;
-
-const NONE: usize = 5;
-
-const NUMBERS: usize = 6;
-
-const NUMBERS_OR_NONE: usize = 7;
-
-const YES_OR_NO: usize = 8;
-
-const TEXT: usize = 9;
-
-const LOAD: usize = 10;
-
-const PLAN: usize = 11;
-
-// Words of its own stand behind the name.
-const SLOT: usize = 12;
-
-const REGISTER: usize = 13;
-
-const CHECK: usize = 14;
-
-// No more numbers than are due, or as many more as wished.
-const ONLY: usize = 0;
-
-const MORE: usize = 1;
-
-// A row for each operation: how many numbers are due, whether more may stand there, what is done with them. A new one goes to
-// the end, and its name to the end of the names below.
-const TABLE: [[usize; 3]; OPERATIONS] = [
-    [2, ONLY, NONE], // open
-    [0, ONLY, REGISTER], // register
-    [1, ONLY, NUMBERS], // begin
-    [1, ONLY, NONE], // ready
-    [1, ONLY, NONE], // fail
-    [1, ONLY, NONE], // unload
-    [1, ONLY, NONE], // finish
-    [2, ONLY, NUMBERS], // replace
-    [2, ONLY, YES_OR_NO], // fits
-    [5, ONLY, NUMBERS], // admit
-    [5, ONLY, NUMBERS], // call
-    [1, ONLY, NONE], // retire
-    [3, ONLY, NONE], // retire_child
-    [1, ONLY, NONE], // remove
-    [1, ONLY, NUMBERS_OR_NONE], // child
-    [4, ONLY, NONE], // offer
-    [3, ONLY, NUMBERS], // read
-    [2, ONLY, NUMBERS_OR_NONE], // visible
-    [1, ONLY, NUMBERS_OR_NONE], // missing
-    [1, MORE, YES_OR_NO], // matches
-    [3, ONLY, YES_OR_NO], // declares
-    [2, ONLY, NUMBERS_OR_NONE], // lookup
-    [3, MORE, NUMBERS], // resolve
-    [2, ONLY, DEPS], // deps
-    [2, ONLY, PROVS], // provs
-    [2, ONLY, REALMS], // realms
-    [2, ONLY, BUFFER], // buffer
-    [0, ONLY, NUMBERS], // rows
-    [0, ONLY, NUMBERS], // count
-    [0, ONLY, NUMBERS], // next
-    [1, ONLY, SHOW], // show
-    [0, ONLY, SLOT], // slot
-    [1, ONLY, TEXT], // write
-    [2, ONLY, LOAD], // load
-    [1, ONLY, NUMBERS], // edition
-    [1, MORE, PLAN], // plan
-    [0, ONLY, CHECK], // check
-];
-
-// How many numbers stand behind a name, and whether nothing else does.
-#[derive(Clone, Copy)]
-pub struct Behind {
-    pub only: bool,
-    pub count: usize,
-}
 
 // The status of a line that is no operation; no refusal has this number.
 pub const BAD: u64 = u64::MAX;
@@ -226,15 +147,13 @@ pub fn which(word: &[u8], names: &[u8]) -> usize
     let mut i: usize = 0;
     while at < names.len() {
         let next = console_words::next_word(names, at);
-        let start = next.start;
-        let stop = next.stop;
-        if stop == start {
+        if next.start == next.stop {
             return i;
         }
-        if console_words::is_word(word, &names[start..stop]) {
+        if console_words::is_word(word, &names[next.start..next.stop]) {
             return i;
         }
-        at = stop;
+        at = next.stop;
         i += 1;
     }
     i
@@ -252,41 +171,12 @@ pub fn operation(name: &[u8]) -> usize
     )
 }
 
-fn kind_of(kind: usize) -> Kind
-    ensures { result ≡ kind_of kind }
-{
-    if kind < 12 {
-        return KINDS[kind];
-    }
-    Kind::Show
-}
-
-fn row_of(due: usize, more: usize, kind: usize) -> Row
-    ensures { result ≡ row_of due more kind }
-{
-    if kind == SLOT {
-        return Row::Slot;
-    }
-    if kind == REGISTER {
-        return Row::Register;
-    }
-    if kind == CHECK {
-        return Row::Check;
-    }
-    let done = kind_of(kind);
-    if more == MORE {
-        return Row::Takes(Count::AtLeast(due), done);
-    }
-    Row::Takes(Count::Exactly(due), done)
-}
-
 // An operation's row; a place that none has is unknown.
 pub fn row_at(place: usize) -> Row
     ensures { result ≡ row_at place }
 {
     if place < OPERATIONS {
-        let row = TABLE[place];
-        return row_of(row[0], row[1], row[2]);
+        return TABLE[place];
     }
     Row::Unknown
 }
@@ -305,31 +195,26 @@ pub fn takes(count: Count, given: usize) -> bool
 pub fn nth(l: &[u64], place: usize) -> u64
     ensures { result ≡ get_or l.now place 0 }
 {
-    if place < l.len() {
-        return l[place];
-    }
-    0
+    l.get(place).copied().unwrap_or(0)
 }
 
 // The numbers behind the first.
 pub fn rest(l: &[u64]) -> &[u64]
     ensures { result.now ≡ drop 1 l.now }
 {
-    let n = l.len();
-    if n == 0 {
+    if l.is_empty() {
         return l;
     }
-    &l[1..n]
+    &l[1..]
 }
 
-// Numbers from a place on go to the front of n, whose rest stays.
-pub fn numbers(bytes: &[u8], from: usize, n: &mut [u64; 2048]) -> Behind
+// Numbers from a place on go to the front of n, whose rest stays: how many, if nothing else stands there.
+pub fn numbers(bytes: &[u8], from: usize, n: &mut [u64; 2048]) -> Option<usize>
     ensures { Numbered bytes.now from n.old n.new result }
 {
     let run = console_words::numbers(bytes, from, n);
-    let count = run.count;
     if run.stop < bytes.len() {
-        return Behind { only: false, count };
+        return None;
     }
-    Behind { only: true, count }
+    Some(run.count)
 }

@@ -1,62 +1,72 @@
 -- The two lists of a check, found and not found, and what the line of a plan says by what was told.
-use Prim.Native.Nat.{ℕ, ◌≤◌, ◌<◌}
-use native.Mathlib.Omega.{arith}
-use mathlib.Core.Path.{◌≡◌, sym, ◌∙◌}
-use mathlib.Core.Bool.{Bool, true, false, not, ◌&&◌}
+use Rattle.std.specs.Prelude.{Option, Some, None}
+use Prim.Native.Nat.{ℕ}
+use mathlib.Core.Path.{◌≡◌, sym, ap, ◌∙◌}
 use mathlib.Core.List.{List}
-use lib.Dec.{eqb}
-use lib.ListN.{length, get_or, take, replicate, length-replicate}
-use lib.Seq.{take_all, length-take-le}
-use borrow.Author.Tests.{eq-eqb, ne_eqb, not-true, not-false}
+use lib.ListN.{length, get_or}
+use borrow.Author.Tests.{eq-eqb, ne_eqb}
 use Rattle.rules.specs.Steps.{Ask, Write}
 use Rattle.rules.specs.Questions.{CheckOrder, Order}
 use Rattle.text_form.specs.Bytes.{bytes}
 use Rattle.memory.specs.Layout.{part}
 use Rattle.host.specs.Tells.{ListsAndTells}
-use Rattle.console_answer.specs.Pages.{Page, put_on, numbers_on}
+use Rattle.console_words.specs.declared.Run.{Run}
+use Rattle.console_answer.specs.Pages.{put_on, numbers_on}
+use Rattle.console_answer.specs.declared.Page.{Page}
 use Rattle.console_answer.specs.Answers.{ok_word, told_in}
-use Rattle.console_names.specs.Table.{Asked, Bad, Told}
+use Rattle.console_names.specs.Table.{Asked, Told}
 use Rattle.console_operations.specs.Carried.{Answers}
 use Rattle.console_names.specs.declared.Values.TheVariants.{NumbersOrNone}
 use Rattle.console_show.specs.Spoken.{spoken_on, untold}
-use Rattle.console_definition.specs.Definitions.{Listed, list_behind}
-use Rattle.console_definition.specs.Found.{count_of, Behind, behind_front}
-use Rattle.console_definition.specs.declared.Counted.{Counted}
-use Rattle.console_order.specs.Checks.{TwoLists, two, sets_in, checking, Two}
+use Rattle.console_definition.specs.Definitions.{list_behind}
+use Rattle.console_definition.specs.Found.{Behind, Listed, behind_missing, behind_listed}
+use Rattle.console_order.specs.Checks.{TwoLists, set_in, sets_in, checking, Fronts}
 use Rattle.console_order.specs.Plans.{planned_on}
 
-module _ (line : List ℕ) (from : ℕ) where
-  abbrev set_of : Listed
-  set_of = list_behind line from (bytes "set")
-
-  abbrev order_of : Counted → Listed
-  order_of a = list_behind line a.stop (bytes "order")
-
-  sets_are : (a : Counted) → a ≡ count_of set_of → sets_in line from ≡ two (length line) set_of (order_of a)
+module _ (line : List ℕ) (from : ℕ) (a a' b b' : List ℕ) where
+  pub no_set : Behind (set_in line from) a a' None → sets_in line from ≡ None
   unfolding sets_in
-  sets_are a e = rw e
+  no_set h = rw (behind_missing (set_in line from) a a' h)
 
-  pub two_of : (a b : Counted) (s s' o o' : List ℕ) → Behind set_of s s' a → Behind (order_of a) o o' b
-      → (found : Bool) → found ≡ (a.found && (b.found && eqb b.stop (length line)))
-      → Two (sets_in line from) s s' o o' (record { found = found; set = a.count; order = b.count })
-  two_of a b s s' o o' ha hb found e =
-      rw (sets_are a ha.list)
-      (record {
-        found = rw (e, hb.list, ha.list);
-        set = behind_front set_of s s' a ha;
-        order = behind_front (order_of a) o o' b hb;
-      })
+  module _ (r : Run) (h : Behind (set_in line from) a a' (Some r)) where
+    first : Listed (set_in line from) a a' r
+    first = behind_listed (set_in line from) a a' r h
+
+    pub no_order : Behind (list_behind line r.stop (bytes "order")) b b' None → sets_in line from ≡ None
+    unfolding sets_in
+    no_order k =
+        let e : list_behind line first.numbers.stop (bytes "order") ≡ None = rw first.stop at (behind_missing _ b b' k) in
+        rw (first.is, e)
+
+    module _ (q : Run) (k : Behind (list_behind line r.stop (bytes "order")) b b' (Some q)) where
+      second : Listed (list_behind line r.stop (bytes "order")) b b' q
+      second = behind_listed _ b b' q k
+
+      order_is : list_behind line first.numbers.stop (bytes "order") ≡ Some second.numbers
+      order_is = ap (λ (n : ℕ). list_behind line n (bytes "order")) (sym first.stop) ∙ second.is
+
+      pub more_behind : (q.stop ≡ length line → ⊥) → sets_in line from ≡ None
+      unfolding sets_in
+      more_behind n = rw (first.is, order_is, ne_eqb second.numbers.stop (length line) (λ i. n (second.stop ∙ i)))
+
+      pub both_there : q.stop ≡ length line → Fronts line from a a' b b' (record { set = r.count; order = q.count })
+      unfolding sets_in
+      both_there s =
+          let t : second.numbers.stop ≡ length line = sym second.stop ∙ s in
+          record {
+            lists = record { set = first.numbers.found; order = second.numbers.found };
+            is = rw (first.is, order_is, eq-eqb second.numbers.stop (length line) t);
+            set = first.front;
+            order = second.front;
+          }
+
+pub checks : (o : Option TwoLists) (l : TwoLists) → o ≡ Some l → (set order : List ℕ) → set ≡ l.set → order ≡ l.order
+    → checking o ≡ Told (Ask (CheckOrder set order))
+checks o l e set order s t = rw (e, s, t)
 
 -- What is answered of one thing asked for is answered of the same.
 pub same : (m out : List ℕ) (status : ℕ) (out' : List ℕ) (a b : Asked) → a ≡ b → Answers m b out status out' → Answers m a out status out'
 same m out status out' a b e t = rw e t
-
-module _ (l : TwoLists) (found : Bool) (e : found ≡ l.found) where
-  pub not_both : not found ≡ true → checking l ≡ Bad
-  not_both h = rw (sym e ∙ not-true found h)
-
-  pub both_there : not found ≡ false → (set order : List ℕ) → set ≡ l.set → order ≡ l.order → checking l ≡ Told (Ask (CheckOrder set order))
-  both_there h set order s o = rw (sym e ∙ not-false found h, s, o)
 
 module _ (p : Page) (m set lent : List ℕ) (status : ℕ) (out lent' : List ℕ) (t : ListsAndTells m (Write (Order set) lent) untold status out lent') where
   pub planned_other : get_or out 0 0 ≡ 0 → (q : Page) → q ≡ spoken_on p NumbersOrNone status (told_in out) → q ≡ planned_on p m set lent
@@ -67,10 +77,3 @@ module _ (p : Page) (m set lent : List ℕ) (status : ℕ) (out lent' : List ℕ
       → (r : Page) → r ≡ numbers_on q ids → r ≡ planned_on p m set lent
   unfolding planned_on
   planned_ids z q e ids g r f = f ∙ rw (e, g, t.1) (sym (rw (← t.0.1, ne_eqb (get_or out 0 0) 0 z)))
-
--- So many zeros of a room: all where there are no more, and else as many.
-pub all_lent : (room size : ℕ) → room < size → take {A = ℕ} size (replicate room 0) ≡ replicate room 0
-all_lent room size h = take_all size (replicate {A = ℕ} room 0) (rw (length-replicate {A = ℕ} room 0) (omega arith))
-
-pub lent_length : (room size : ℕ) → size ≤ room → size ≡ length {A = ℕ} (take size (replicate room 0))
-lent_length room size h = sym (length-take-le size (replicate {A = ℕ} room 0) (rw (length-replicate {A = ℕ} room 0) h))

@@ -7,7 +7,8 @@ use Rattle.rules.specs.Questions.{Order}
 use Rattle.memory.specs.View.{view}
 use Rattle.host_answers.specs.Told.{status_of, words_of}
 use Rattle.host.specs.Tells.{answer}
-use Rattle.console_answer.specs.Pages.{Page, put_on, numbers_on}
+use Rattle.console_answer.specs.Pages.{put_on, numbers_on}
+use Rattle.console_answer.specs.declared.Page.{Page}
 use Rattle.console_answer.specs.Answers.{ok_word, told_in}
 use Rattle.console_names.specs.declared.Values.TheVariants.{NumbersOrNone}
 use Rattle.console_show.specs.Spoken.{spoken_on, untold}

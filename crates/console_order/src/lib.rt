@@ -2,38 +2,42 @@
 #![tactic(auto)]
 
 ghost use Rattle.std.specs.Prelude.{◌≡◌};
-ghost use Rattle.console_answer.specs.Pages.{up_to};
 ghost use Rattle.console_operations.specs.Carried.{Answers};
 ghost use Rattle.console_order.specs.Checks.{sets_in, Two, checking};
 ghost use Rattle.console_order.specs.Plans.{planned_on, lent_ids};
 
-use console_answer::ROOM;
+use console_answer::Page;
 use console_names::{BAD, Values};
 use host_answers::ANSWER;
 use memory::WORDS;
 use memory::layout::PLACES;
 
-// How many numbers the two lists have; found if each is and nothing stands behind them.
+// How many numbers the two lists have.
 #[derive(Clone, Copy)]
 struct Sets {
-    found: bool,
     set: usize,
     order: usize,
 }
 
-// The two lists, one behind the other, each at the front of its array, whose rest stays.
-fn two_lists(bytes: &[u8], from: usize, set: &mut [u64; 2048], order: &mut [u64; 2048]) -> Sets
-    ensures { Two (sets_in bytes.now from) set.old set.new order.old order.new result }
+// The two lists, one behind the other, each at the front of its array. Nothing stands behind them.
+fn two_lists(
+    bytes: &[u8],
+    from: usize,
+    set: &mut [u64; 2048],
+    order: &mut [u64; 2048],
+) -> Option<Sets>
+    ensures { Two bytes.now from set.old set.new order.old order.new result }
 {
-    let first = console_definition::list_behind(bytes, from, b"set", set);
-    let second = console_definition::list_behind(bytes, first.stop, b"order", order);
-    let last = second.stop == bytes.len();
-    let found = console_definition::all(first.found, second.found, last);
-    Sets {
-        found,
+    let first = console_definition::list_behind(bytes, from, b"set", set)?;
+    let second = console_definition::list_behind(bytes, first.stop, b"order", order)?;
+    let ends = second.stop == bytes.len();
+    if !ends {
+        return None;
+    }
+    Some(Sets {
         set: first.count,
         order: second.count,
-    }
+    })
 }
 
 // What stands behind the word `check`: a set and an order.
@@ -42,34 +46,31 @@ pub fn checked(m: &[u64; WORDS], bytes: &[u8], from: usize, out: &mut [u64; ANSW
 {
     let mut set = [0u64; 2048];
     let mut order = [0u64; 2048];
-    let lists = two_lists(bytes, from, &mut set, &mut order);
-    if !lists.found {
+    let Some(lists) = two_lists(bytes, from, &mut set, &mut order) else {
         return BAD;
-    }
+    };
     host::vaskelbi_check_order(m, &set[..lists.set], &order[..lists.order], out)
 }
 
 // The order's ids in a lent room, or what else the registry answered.
-fn planned_in(m: &[u64; WORDS], set: &[u64], room: &mut [u64], text: &mut [u8; ROOM]) -> usize
-    ensures { up_to text.new result ≡ planned_on (up_to text.old 0) m.now set.now room.old }
+fn planned_in(m: &[u64; WORDS], set: &[u64], room: &mut [u64], page: &mut Page)
+    ensures { page.new ≡ planned_on page.old m.now set.now room.old }
 {
     let mut out = [0u64; ANSWER];
     let status = host::vaskelbi_plan_order(m, set, room, &mut out);
     if out[0] == 0 {
-        return console_show::spoken(text, Values::NumbersOrNone, status, &out);
+        console_show::spoken(page, Values::NumbersOrNone, status, &out);
+        return;
     }
-    let at = console_answer::put(text, 0, b"ok");
-    console_answer::numbers(text, at, memory_lists::some_words(room, 0, out[1] as usize))
+    page.put(b"ok");
+    page.numbers(memory_lists::some_words(room, 0, out[1] as usize));
 }
 
 // A room of so many ids is lent, or of 32: no order has more.
-pub fn planned(m: &[u64; WORDS], size: u64, set: &[u64], text: &mut [u8; ROOM]) -> usize
-    ensures { up_to text.new result ≡ planned_on (up_to text.old 0) m.now set.now (lent_ids size) }
+pub fn planned(m: &[u64; WORDS], size: u64, set: &[u64], page: &mut Page)
+    ensures { page.new ≡ planned_on page.old m.now set.now (lent_ids size) }
 {
     let mut room = [0u64; PLACES];
-    let most = size as usize;
-    if PLACES < most {
-        return planned_in(m, set, &mut room, text);
-    }
-    planned_in(m, set, &mut room[..most], text)
+    let most = PLACES.min(size as usize);
+    planned_in(m, set, &mut room[..most], page);
 }

@@ -1,8 +1,8 @@
 -- A plugin's fields, one question after the other, and the line of all of them. Assumes nothing.
+use Rattle.std.specs.Prelude.{Option, Some, None}
 use Prim.Native.Nat.{ℕ, ◌<◌}
 use mathlib.Core.Path.{◌≡◌, refl, sym, ap, ◌∙◌}
 use mathlib.Core.List.{List, [], ◌∷◌}
-use mathlib.Core.Option.{Option, none, some}
 use native.Mathlib.Omega.{arith}
 use lib.ListN.{length, get_or, replicate}
 use Rattle.rules.specs.Holds.{Plugin, lookup}
@@ -10,7 +10,8 @@ use Rattle.rules.specs.Outcomes.{Answer, Accepted, answers, answer_of, found}
 use Rattle.rules.specs.Queries.{Field, Parent, Anchor, PhaseOf, RetiredMark, Generation, Revision, Payload, RootOf, field_of, ask_plugin}
 use Rattle.memory.specs.View.{view}
 use Rattle.host_answers.specs.Told.{status_of, counted, words_of, Tells}
-use Rattle.console_answer.specs.Pages.{Page, put_on, numbers_on}
+use Rattle.console_answer.specs.Pages.{put_on, numbers_on}
+use Rattle.console_answer.specs.declared.Page.{Page}
 use Rattle.console_answer.specs.Answers.{ok_word, none_word, word_on, told_in, answer_in, answer_on, or_none_on}
 use Rattle.console_show.specs.Shown.{values_of, asked, Registered, field_on, life_on, queued_on, root_on, shown_as, shown_on}
 use Rattle.console_show.specs.Told.{count_told, told_back, words_length, field_fits}
@@ -21,14 +22,14 @@ answered o f = answer_of (found o λ p. answers (field_of f p))
 
 fits : (o : Option Plugin) (f : Field) → length (values_of (answered o f)) < 7
 unfolding answered found
-fits none f = omega arith
-fits (some p) f = field_fits f p
+fits None f = omega arith
+fits (Some p) f = field_fits f p
 
 -- Where one question is accepted, any is.
 accepts : (o : Option Plugin) (f : Field) → status_of (answered o Parent) ≡ 0 → answered o f ≡ Accepted (values_of (answered o f))
 unfolding answered found status_of
-accepts none f h = absurd (omega arith)
-accepts (some p) f h = refl
+accepts None f h = absurd (omega arith)
+accepts (Some p) f h = refl
 
 -- The root's number alone, and with what is queued.
 root_alone : (p q r : Page) (l : List ℕ) → q ≡ numbers_on p l → length l ≡ 1 → r ≡ word_on q none_word → r ≡ queued_on p l
@@ -98,8 +99,8 @@ module _ (m : List ℕ) (id : ℕ) (known : Registered m id) where
 refuses : (m : List ℕ) (id s : ℕ) (out' : List ℕ) (p r : Page) (o : Option Plugin) → Tells (answered o Parent) (replicate 7 0) s out' → (s ≡ 0 → ⊥)
     → r ≡ answer_on p (answer_in s (told_in out')) → r ≡ shown_as p m id (answered o Parent)
 unfolding answered found status_of words_of
-refuses m id s out' p r none t h e = e ∙ rw (t.0, t.1)
-refuses m id s out' p r (some q) t h e = absurd (h t.0)
+refuses m id s out' p r None t h e = e ∙ rw (t.0, t.1)
+refuses m id s out' p r (Some q) t h e = absurd (h t.0)
 
 pub refusal_shown : (m : List ℕ) (id s : ℕ) (out' : List ℕ) (p r : Page) → Tells (asked m id Parent) (replicate 7 0) s out' → (s ≡ 0 → ⊥)
     → r ≡ answer_on p (answer_in s (told_in out')) → r ≡ shown_on p m id

@@ -6,7 +6,8 @@ use Rattle.rules.specs.Steps.{Ask}
 use Rattle.rules.specs.Questions.{AskPlugin}
 use Rattle.host_answers.specs.Told.{status_of}
 use Rattle.host.specs.Tells.{answer}
-use Rattle.console_answer.specs.Pages.{Page, put_on, number_on, numbers_on}
+use Rattle.console_answer.specs.Pages.{put_on, number_on, numbers_on}
+use Rattle.console_answer.specs.declared.Page.{Page}
 use Rattle.console_answer.specs.Answers.{ok_word, answer_on, or_none_on}
 
 -- The numbers of an answer, of either kind.

@@ -4,7 +4,8 @@ use Rattle.rules.specs.Basics.{pick, last}
 use Rattle.rules.specs.Outcomes.{Answer}
 use Rattle.console_names.specs.declared.Values.{Values}
 use Rattle.console_names.specs.declared.Values.TheVariants.{None, Numbers, NumbersOrNone, YesOrNo}
-use Rattle.console_answer.specs.Pages.{Page, put_on}
+use Rattle.console_answer.specs.Pages.{put_on}
+use Rattle.console_answer.specs.declared.Page.{Page}
 use Rattle.console_answer.specs.Answers.{bad_word, answer_in, answer_on, answer_or_none_on, answer_yes_no_on}
 
 -- The status of a line that is no operation; no refusal has this number.

@@ -1,7 +1,6 @@
 -- What is told in a host's words is read back from them.
-use Rattle.std.specs.Prelude.{ℕ, suc, ◌+◌, ◌<◌, ◌≡◌, refl, List, [], ◌∷◌, ◌++◌, length, get_or, drop, set}
+use Rattle.std.specs.Prelude.{ℕ, suc, ◌+◌, ◌<◌, ◌≡◌, refl, List, [], ◌∷◌, ◌++◌, length, get_or, drop, set, Option, Some, None}
 use Rattle.std.proofs.Common.{ap, ◌∙◌, arith}
-use Rattle.std.proofs.Math.Option.{Option, none, some}
 use Rattle.std.proofs.lemmas.List.Edits.{sets, sets-eq}
 use Rattle.std.proofs.Math.Seq.{take-append_seam}
 use Rattle.rules.specs.Basics.{one}
@@ -42,8 +41,8 @@ words_length (Accepted vs) out = puts_length (length vs ∷ vs) out 0 0
 
 -- A field's numbers fit the words that a host lends, behind their count.
 pub one_fits : (o : Option ℕ) → length (one o) < 7
-one_fits none = omega arith
-one_fits (some n) = omega arith
+one_fits None = omega arith
+one_fits (Some n) = omega arith
 
 root_fits : (r : Root) → length (root_numbers r) < 7
 root_fits Unissued = omega arith

@@ -1,9 +1,9 @@
 -- Which operation a name with numbers is. Assumes nothing.
+use Rattle.std.specs.Prelude.{Option, Some, None}
 use Prim.Native.Nat.{ℕ}
 use mathlib.Core.Path.{◌≡◌, refl}
 use mathlib.Core.Bool.{true, false}
 use mathlib.Core.List.{List, [], ◌∷◌}
-use mathlib.Core.Option.{Option, none, some}
 use native.Mathlib.Omega.{arith}
 use lib.ListN.{length, get_or}
 use Rattle.rules.specs.Basics.{same_numbers}
@@ -13,38 +13,38 @@ use Rattle.text_form.specs.Bytes.{bytes}
 use Rattle.console_slot.specs.Operations.{new_slot, with_none, with_three, decided_by}
 
 abbrev pub new_decides : rules.Slot → Option rules.Decided
-new_decides s = some (new_slot s)
+new_decides s = Some (new_slot s)
 
 module _ (s : rules.Slot) (name : List ℕ) where
-  pub is_reject : same_numbers name (bytes "reject") ≡ true → some (rules.reject s) ≡ with_none s name
+  pub is_reject : same_numbers name (bytes "reject") ≡ true → Some (rules.reject s) ≡ with_none s name
   unfolding with_none
   is_reject e = rw e
 
   module _ (n : same_numbers name (bytes "reject") ≡ false) where
-    pub is_cancel : same_numbers name (bytes "cancel") ≡ true → some (rules.cancel s) ≡ with_none s name
+    pub is_cancel : same_numbers name (bytes "cancel") ≡ true → Some (rules.cancel s) ≡ with_none s name
     unfolding with_none
     is_cancel e = rw (n, e)
 
-    pub neither : same_numbers name (bytes "cancel") ≡ false → none ≡ with_none s name
+    pub neither : same_numbers name (bytes "cancel") ≡ false → None ≡ with_none s name
     unfolding with_none
     neither e = rw (n, e)
 
 module _ (s : rules.Slot) (name : List ℕ) (c : Identity) where
-  pub is_pending_lem : same_numbers name (bytes "pending") ≡ true → some (new_slot (rules.pending c.domain c.parent c.id)) ≡ with_three s name c
+  pub is_pending_lem : same_numbers name (bytes "pending") ≡ true → Some (new_slot (rules.pending c.domain c.parent c.id)) ≡ with_three s name c
   unfolding with_three
   is_pending_lem e = rw e
 
   module _ (n : same_numbers name (bytes "pending") ≡ false) where
-    pub is_assigned : same_numbers name (bytes "assigned") ≡ true → some (new_slot (rules.assigned c)) ≡ with_three s name c
+    pub is_assigned : same_numbers name (bytes "assigned") ≡ true → Some (new_slot (rules.assigned c)) ≡ with_three s name c
     unfolding with_three
     is_assigned e = rw (n, e)
 
     module _ (m : same_numbers name (bytes "assigned") ≡ false) where
-      pub is_assign : same_numbers name (bytes "assign") ≡ true → some (rules.assign s c) ≡ with_three s name c
+      pub is_assign : same_numbers name (bytes "assign") ≡ true → Some (rules.assign s c) ≡ with_three s name c
       unfolding with_three
       is_assign e = rw (n, m, e)
 
-      pub no_name : same_numbers name (bytes "assign") ≡ false → none ≡ with_three s name c
+      pub no_name : same_numbers name (bytes "assign") ≡ false → None ≡ with_three s name c
       unfolding with_three
       no_name e = rw (n, m, e)
 
@@ -62,7 +62,7 @@ module _ (s : rules.Slot) (name : List ℕ) where
   three_numbers (a ∷ b ∷ c ∷ []) e = refl
   three_numbers (a ∷ b ∷ c ∷ d ∷ l) e = absurd (omega arith)
 
-  pub other_count : (l : List ℕ) → (length l ≡ 0 → ⊥) → (length l ≡ 3 → ⊥) → none ≡ decided_by s name l
+  pub other_count : (l : List ℕ) → (length l ≡ 0 → ⊥) → (length l ≡ 3 → ⊥) → None ≡ decided_by s name l
   unfolding decided_by
   other_count [] z t = absurd (z refl)
   other_count (a ∷ []) z t = refl

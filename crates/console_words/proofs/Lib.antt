@@ -1,4 +1,3 @@
 pub mod Places
-pub mod Alike
 pub mod Runs
 pub mod Bytes

@@ -1,8 +1,8 @@
 -- A run of numbers, one at a time. Assumes nothing.
+use Rattle.std.specs.Prelude.{Some, None}
 use Prim.Native.Nat.{ℕ, suc, ◌+◌, ◌-◌, ◌≤◌, ◌<◌}
 use mathlib.Core.Path.{◌≡◌, sym, ap, ◌∙◌}
 use mathlib.Core.List.{List, [], ◌∷◌, ◌++◌, append-nil, append_assoc}
-use mathlib.Core.Option.{none, some}
 use native.Mathlib.Numerals.{add-one}
 use native.Mathlib.Omega.{arith}
 use lib.ListN.{length, take, drop, set, length-set, take-append-drop}
@@ -24,10 +24,10 @@ module _ (line l : List ℕ) (at count : ℕ) where
         let k : 2048 - count ≡ suc (2048 - (count + 1)) = omega arith in
         rw (k, e)
 
-    pub run_stop : number_of (bytes_of line w) ≡ none → ahead l (run_from (2048 - count) line at) ≡ record { found = l; stop = w.start }
+    pub run_stop : number_of (bytes_of line w) ≡ None → ahead l (run_from (2048 - count) line at) ≡ record { found = l; stop = w.start }
     run_stop d = rw (step, d, append-nil)
 
-    pub run_next : (n : ℕ) → number_of (bytes_of line w) ≡ some n
+    pub run_next : (n : ℕ) → number_of (bytes_of line w) ≡ Some n
         → ahead l (run_from (2048 - count) line at) ≡ ahead (l ++ n ∷ []) (run_from (2048 - (count + 1)) line w.stop)
     run_next n d = rw (step, d, append_assoc)
 

@@ -1,9 +1,8 @@
 -- What places and runs come to: the words of a line in order, and the numbers that come first among them.
-use Rattle.std.specs.Prelude.{ℕ, zero, suc, ◌+◌, ◌-◌, ◌≤◌, ◌<◌, ◌≡◌, refl, Bool, true, false, ◌⊎◌, eqb, take}
+use Rattle.std.specs.Prelude.{ℕ, zero, suc, ◌+◌, ◌-◌, ◌≤◌, ◌<◌, ◌≡◌, refl, Bool, true, false, ◌⊎◌, eqb, take, Option, Some, None}
 use Rattle.std.proofs.Math.Path.{ap}
 use Rattle.std.proofs.Common.{◌∙◌, inl, inr, eq-zero-or-pos, le_refl, add-one, lt-ltb, le-ltb}
 use mathlib.Core.List.{List, [], ◌∷◌, ◌++◌, append-nil, append_assoc}
-use Rattle.std.proofs.Math.Option.{Option, none, some}
 use Rattle.std.proofs.Math.Logic.{⊎_elim}
 use native.Mathlib.Omega.{arith}
 use Rattle.std.proofs.Math.ListN.{length, drop, drop_of_length-le}
@@ -110,15 +109,15 @@ module _ (line : List ℕ) (from : ℕ) where
       within
 
 abbrev pub or_nothing : Option ℕ → List ℕ → List ℕ
-or_nothing none ns = []
-or_nothing (some n) ns = n ∷ ns
+or_nothing None ns = []
+or_nothing (Some n) ns = n ∷ ns
 
 -- The numbers that come first among words.
 abbrev pub leading : List (List ℕ) → List ℕ
 leading [] = []
 leading (w ∷ ws) = or_nothing (number_of w) (leading ws)
 
-empty_word : number_of [] ≡ none
+empty_word : number_of [] ≡ None
 unfolding number_of
 empty_word = refl
 
@@ -133,8 +132,8 @@ run_of_words (suc k) line from = go (bytes_of line (next_word line from)) refl (
 
     one : (n : Option ℕ) → (run_from k line behind).found ≡ take k (leading (words (drop behind line)))
         → (or_stop n (next_word line from).start (run_from k line behind)).found ≡ take (suc k) (or_nothing n (leading (words (drop behind line))))
-    one none e = refl
-    one (some n) e = ap (λ (l : List ℕ). n ∷ l) e
+    one None e = refl
+    one (Some n) e = ap (λ (l : List ℕ). n ∷ l) e
 
     go : (w : List ℕ) → bytes_of line (next_word line from) ≡ w → (run_from k line behind).found ≡ take k (leading (words (drop behind line)))
         → (run_from (suc k) line from).found ≡ take (suc k) (leading (words (drop from line)))

@@ -1,6 +1,5 @@
 -- A run of numbers in a line.
-use Rattle.std.specs.Prelude.{ℕ, zero, suc, ◌≤◌, ◌≡◌, List, [], ◌∷◌, length}
-use Rattle.std.proofs.Math.Option.{Option, none, some}
+use Rattle.std.specs.Prelude.{ℕ, zero, suc, ◌≤◌, ◌≡◌, List, [], ◌∷◌, length, Option, Some, None}
 use Rattle.text_form.specs.Digits.{over}
 use Rattle.text_form.specs.Words.{number_of}
 use Rattle.console_words.specs.Words.{next_word, bytes_of}
@@ -16,8 +15,8 @@ abbrev pub number_at : List ℕ → ℕ → Option ℕ
 number_at line from = number_of (bytes_of line (next_word line from))
 
 abbrev pub or_stop : Option ℕ → ℕ → Numbers → Numbers
-or_stop none start rest = record { found = []; stop = start }
-or_stop (some n) start rest = record { found = n ∷ rest.found; stop = rest.stop }
+or_stop None start rest = record { found = []; stop = start }
+or_stop (Some n) start rest = record { found = n ∷ rest.found; stop = rest.stop }
 
 -- Numbers from a place on, at most so many, up to the first word that is none.
 unfoldable pub run_from : ℕ → List ℕ → ℕ → Numbers

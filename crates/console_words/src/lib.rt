@@ -7,8 +7,6 @@ ghost use Rattle.console_words.specs.Words.{spaces, word_length, Spanned};
 ghost use Rattle.console_words.specs.Runs.{Gathered};
 ghost use Rattle.console_words.specs.Bytes.{longer_bytes, longer_count};
 
-use text_decimal::Decimal;
-
 // The most bytes of a line, its byte 10 not counted.
 pub const LINE: usize = 4096;
 
@@ -43,29 +41,25 @@ fn past_spaces(line: &[u8], from: usize) -> usize
     requires { from ≤ length line.now }
     ensures { (result ≡ from + spaces (drop from line.now)) × (result ≤ length line.now) }
 {
-    let mut i = from;
-    while i < line.len() {
-        if line[i] != 32 {
+    for i in from..line.len() {
+        if line[i] != b' ' {
             return i;
         }
-        i += 1;
     }
-    i
+    line.len()
 }
 
 fn past_word(line: &[u8], from: usize) -> usize
     requires { from ≤ length line.now }
     ensures { (result ≡ from + word_length (drop from line.now)) × (result ≤ length line.now) }
 {
-    let mut i = from;
-    while i < line.len() {
-        let space = line[i] == 32;
+    for i in from..line.len() {
+        let space = line[i] == b' ';
         if space {
             return i;
         }
-        i += 1;
     }
-    i
+    line.len()
 }
 
 // The first word at or after a place; without one, both ends are the line's.
@@ -88,50 +82,27 @@ pub fn next_word(line: &[u8], from: usize) -> Span
 pub fn is_word(word: &[u8], name: &[u8]) -> bool
     ensures { result ≡ same_numbers word.now name.now }
 {
-    if word.len() != name.len() {
-        return false;
-    }
-    let mut i: usize = 0;
-    while i < word.len() {
-        if word[i] != name[i] {
-            return false;
-        }
-        i += 1;
-    }
-    true
+    word == name
 }
 
 // Numbers from a place on, up to the first word that is none, go to the front of out, whose rest stays.
 pub fn numbers(line: &[u8], from: usize, out: &mut [u64; 2048]) -> Run
     ensures { Gathered line.now from out.old out.new result }
 {
-    known(out);
     let mut at = from;
-    let mut count: usize = 0;
-    while count < 2048 {
+    for count in 0..2048 {
         let word = next_word(line, at);
-        let start = word.start;
-        let stop = word.stop;
-        let number = text_decimal::read_decimal(&line[start..stop]);
-        let Decimal::Is(n) = number else {
-            return Run { count, stop: start };
+        let Some(n) = text_decimal::read_decimal(&line[word.start..word.stop]) else {
+            return Run {
+                count,
+                stop: word.start,
+            };
         };
         out[count] = n;
-        count += 1;
-        at = stop;
+        at = word.stop;
     }
-    Run { count, stop: at }
-}
-
-fn count(numbers: &[u64]) -> usize
-    ensures { result ≡ length numbers.now }
-{
-    numbers.len()
-}
-
-// An array's list is as long as its type says.
-fn known(out: &[u64; 2048])
-    ensures { length out.now ≡ 2048 }
-{
-    count(out);
+    Run {
+        count: 2048,
+        stop: at,
+    }
 }

@@ -1,9 +1,8 @@
 -- Of the engine's words: no operation changes the domain or the first id, only begin changes a generation, and rows in use are the
 -- ledger's sum.
-use Rattle.std.specs.Prelude.{ℕ, ◌+◌, ◌≡◌, List, [], ◌∷◌}
+use Rattle.std.specs.Prelude.{ℕ, ◌+◌, ◌≡◌, List, [], ◌∷◌, Some}
 use Rattle.std.proofs.Common.{sym, ap, ◌∙◌}
 use Rattle.std.proofs.Math.Path.{subst⁻¹}
-use Rattle.std.proofs.Math.Option.{some}
 use Rattle.rules.specs.Basics.{sum}
 use Rattle.rules.specs.Holds.{Plugin, Registry, lookup, rows_in_use}
 use Rattle.rules.specs.Steps.{Op, answer_to}
@@ -25,7 +24,7 @@ module _ (m : List ℕ) (w : Made m) (o : Op) where
   first_stays_words = ap (λ (r : Registry). r.first) (demand_2 m w o).registry ∙ first_stays (view m) o
 
   -- only its accepted begin changes a plugin's generation, and makes it one more
-  pub generation_stays_words : (x : ℕ) (p q : Plugin) → lookup (view m) x ≡ some p → lookup (view (leaves m o)) x ≡ some q
+  pub generation_stays_words : (x : ℕ) (p q : Plugin) → lookup (view m) x ≡ Some p → lookup (view (leaves m o)) x ≡ Some q
       → q.generation ≡ p.generation + begun_by x (answer_to (view m) o) (act o)
   generation_stays_words x p q e f =
       generation_stays (view m) (made_sound m w).built o x p q e (ap (λ (r : Registry). lookup r x) (sym (demand_2 m w o).registry) ∙ f)

@@ -1,7 +1,6 @@
 -- Demand 1: on any words, a refusal answers one of document 01's numbers and leaves the words and the lent buffer as they were.
-use Rattle.std.specs.Prelude.{ℕ, ◌≡◌, refl, List}
+use Rattle.std.specs.Prelude.{ℕ, ◌≡◌, refl, List, Option, Some, None}
 use Rattle.std.proofs.Common.{arith, ap, ◌∙◌}
-use Rattle.std.proofs.Math.Option.{Option, none, some}
 use Rattle.rules.specs.Refusals.{Refusal, number}
 use Rattle.rules.specs.Outcomes.{Refused, Outcome, tells, refusing, accepting, refuses, writes, stores, adds, removes, answer_of}
 use Rattle.rules.specs.Steps.{Op, step, answer_to, lent, lent_after_step}
@@ -27,8 +26,8 @@ refused (removes id ws) n vs e = let z : ◌≡◌ {A = ℕ} 0 1 = cc in absurd 
 
 left_same : (w : Option Way) (m : List ℕ) (x : Refusal) (vs : List ℕ) → left w m (refuses x vs) ≡ m
 unfolding left_by
-left_same none m x vs = refl
-left_same (some w) m x vs = refl
+left_same None m x vs = refl
+left_same (Some w) m x vs = refl
 
 leaves_same : (m : List ℕ) (o : Op) (n : ℕ) → IsRefusal (step (view m) o) n → leaves m o ≡ m
 leaves_same m o n w = ap (left (way_of o) m) w.outcome ∙ left_same (way_of o) m w.refusal w.values

@@ -1,6 +1,5 @@
 -- What each operation leaves in the words: what its function promises. A question leaves them as they are.
-use Rattle.std.specs.Prelude.{ℕ, ◌≡◌, refl, List, length}
-use Rattle.std.proofs.Math.Option.{Option, none, some}
+use Rattle.std.specs.Prelude.{ℕ, ◌≡◌, refl, List, length, Option, Some, None}
 use Rattle.rules.specs.Outcomes.{Outcome}
 use Rattle.rules.specs.Steps.{Op, step, Register, Begin, Ready, Fail, Unload, Finish, Replace, Admit, Call, Retire, RetireChild, Remove, Offer, Ask, Write}
 use Rattle.memory.specs.View.{view}
@@ -14,33 +13,33 @@ use Rattle.registry_offer.specs.Words.{offering, offered_sized}
 
 -- The ways that the functions' promises name; a question, and what is written to a lent buffer, has none.
 abbrev pub way_of : Op → Option Way
-way_of (Register d) = some adding
-way_of (Begin id) = some storing
-way_of (Ready id) = some storing
-way_of (Fail id) = some storing
-way_of (Unload id) = some storing
-way_of (Finish id) = some finishing
-way_of (Replace id payload) = some replacing
-way_of (Admit t argument) = some storing
-way_of (Call t) = some storing
-way_of (Retire id) = some storing
-way_of (RetireChild c) = some storing
-way_of (Remove id) = some removing
-way_of (Offer id q value) = some (offering id q value)
-way_of (Ask q) = none
-way_of (Write w buffer) = none
+way_of (Register d) = Some adding
+way_of (Begin id) = Some storing
+way_of (Ready id) = Some storing
+way_of (Fail id) = Some storing
+way_of (Unload id) = Some storing
+way_of (Finish id) = Some finishing
+way_of (Replace id payload) = Some replacing
+way_of (Admit t argument) = Some storing
+way_of (Call t) = Some storing
+way_of (Retire id) = Some storing
+way_of (RetireChild c) = Some storing
+way_of (Remove id) = Some removing
+way_of (Offer id q value) = Some (offering id q value)
+way_of (Ask q) = None
+way_of (Write w buffer) = None
 
 abbrev pub left : Option Way → List ℕ → Outcome → List ℕ
-left none m u = m
-left (some w) m u = left_by w m u
+left None m u = m
+left (Some w) m u = left_by w m u
 
 abbrev pub leaves : List ℕ → Op → List ℕ
 leaves m o = left (way_of o) m (step (view m) o)
 
 -- On any words, there are as many afterwards.
 abbrev AllSized : Option Way → Type 0
-AllSized none = Unit {0}
-AllSized (some w) = Sized w
+AllSized None = Unit {0}
+AllSized (Some w) = Sized w
 
 way_sized : (o : Op) → AllSized (way_of o)
 way_sized (Register d) = added_sized
@@ -60,8 +59,8 @@ way_sized (Ask q) = tt
 way_sized (Write w buffer) = tt
 
 same_size : (w : Option Way) → AllSized w → (m : List ℕ) (u : Outcome) → length (left w m u) ≡ length m
-same_size none s m u = refl
-same_size (some w) s m u = left_size w s m u
+same_size None s m u = refl
+same_size (Some w) s m u = left_size w s m u
 
 pub leaves_size : (m : List ℕ) (o : Op) → length (leaves m o) ≡ length m
 leaves_size m o = same_size (way_of o) (way_sized o) m (step (view m) o)

@@ -1,8 +1,7 @@
 -- Of a load, as the demands speak of operations: a refusal changes nothing, what an accepted one leaves is the rules' loaded registry,
 -- and it is a beginning as an opening is.
-use Rattle.std.specs.Prelude.{ℕ, ◌≡◌, refl, List, [], ◌⊎◌, eqb}
+use Rattle.std.specs.Prelude.{ℕ, ◌≡◌, refl, List, [], ◌⊎◌, eqb, Option, Some, None}
 use Rattle.std.proofs.Common.{arith, ap, ◌∙◌, inl, inr}
-use Rattle.std.proofs.Math.Option.{Option, none, some}
 use Rattle.rules.specs.Holds.{Registry}
 use Rattle.rules.specs.Outcomes.{Refused, Accepted}
 use Rattle.rules.specs.Text.{Said, text, text_of, read_text}
@@ -25,8 +24,8 @@ unfolding load leaves_load
 demand_1_load m d t n vs = go (read_text t)
   where
     go : (u : Option Said) → load_answer (opening d u) ≡ Refused n vs → ((n ≡ 24) ⊎ (n ≡ 25)) × (leaves_load m (opening d u) ≡ m)
-    go none h = (inl cc, refl)
-    go (some s) h = by_test (loadable s)
+    go None h = (inl cc, refl)
+    go (Some s) h = by_test (loadable s)
         (λ y. by_test (eqb s.domain d)
         (λ a. let k : Refused 25 [] ≡ Refused n vs = rw (y, a) at h in rw (y, a) (inr cc, refl))
         (λ b. let k : Accepted [] ≡ Refused n vs = rw (y, b) at h in let z : ◌≡◌ {A = ℕ} 0 1 = cc in absurd (omega arith)))
@@ -63,7 +62,7 @@ module _ (d : ℕ) (t : List ℕ) (r : Registry) (e : load d t ≡ opens r) wher
   loads_domain = ap (λ (q : Registry). q.domain) (load_view d t r e ∙ (load_opens d t r e).3)
 
   -- The text of what it leaves is the loaded text but for the domain and the Queued roots.
-  pub text_after_load : (s : Said) → read_text t ≡ some s → text_of (view (words_of r)) ≡ text.write (moved_to d s)
+  pub text_after_load : (s : Said) → read_text t ≡ Some s → text_of (view (words_of r)) ≡ text.write (moved_to d s)
   text_after_load s i =
       let o = load_opens d t r e in
       let j : o.0 ≡ s = cc in

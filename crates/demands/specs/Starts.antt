@@ -1,8 +1,7 @@
 -- Where a memory begins: with an opening or a load. All that follows is shown from any start, so a beginning needs a law of its own
 -- that it is one, and nothing else.
-use Rattle.std.specs.Prelude.{ℕ, ◌≤◌, ◌≡◌, List, ◌≢◌, length}
+use Rattle.std.specs.Prelude.{ℕ, ◌≤◌, ◌≡◌, List, ◌≢◌, length, Some}
 use Rattle.std.proofs.Math.Path.{subst⁻¹}
-use Rattle.std.proofs.Math.Option.{some}
 use Rattle.rules.specs.Basics.{last}
 use Rattle.rules.specs.Holds.{Plugin, Registry, lookup}
 use Rattle.rules.specs.Load.{moved_to, opens, load}
@@ -28,7 +27,7 @@ pub record Sound (m : List ℕ) : Type 0 where
 -- What a memory may begin with: sound words in which no root is Queued.
 pub record Start (m : List ℕ) : Type 0 where
   pub sound : Sound m
-  pub unqueued : (x : ℕ) (p : Plugin) → lookup (view m) x ≡ some p → (v a : ℕ) → p.root ≢ Queued v a
+  pub unqueued : (x : ℕ) (p : Plugin) → lookup (view m) x ≡ Some p → (v a : ℕ) → p.root ≢ Queued v a
 
 -- Its registry is a start of the rules.
 pub start_view : (m : List ℕ) → Start m → three.Start (view m)

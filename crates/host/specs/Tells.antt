@@ -1,6 +1,5 @@
 -- What the engine answers to an operation on a memory's words, and what it leaves.
 use Rattle.std.specs.Prelude.{ℕ, ◌≡◌, List}
-use Rattle.std.proofs.Common.{sym, ap, ◌∙◌}
 use Rattle.rules.specs.Outcomes.{Answer}
 use Rattle.rules.specs.Slot as rules
 use Rattle.rules.specs.Load.{load, load_answer}
@@ -9,7 +8,7 @@ use Rattle.memory.specs.View.{view}
 use Rattle.slot_words.specs.Words.{slot_after}
 use Rattle.demands.specs.Leaves.{leaves}
 use Rattle.registry_load.specs.Words.{leaves_load}
-use Rattle.host_answers.specs.Told.{status_of, Tells, told}
+use Rattle.host_answers.specs.Told.{status_of, Tells}
 
 abbrev pub answer : List ℕ → Op → Answer
 answer m o = answer_to (view m) o
@@ -33,10 +32,3 @@ Loads m domain text status m' = (status ≡ status_of (load_answer (load domain 
 -- a decision on a child slot in the host's words
 abbrev pub Decides : rules.Decided → List ℕ → ℕ → List ℕ → Type 0
 Decides d slot status slot' = (status ≡ status_of d.answer) × (slot' ≡ slot_after slot d)
-
--- what is told of a function's answer is told of the answer that it promises
-pub heard : (x y : Answer) (out : List ℕ) (r : ℕ) (out' : List ℕ) → x ≡ y → Tells x out r out' → Tells y out r out'
-heard x y out r out' e t = told y x out r out' (sym e) t.0 t.1
-
-pub stated : (x y : Answer) (r : ℕ) → x ≡ y → r ≡ status_of x → r ≡ status_of y
-stated x y r e s = s ∙ ap status_of e

@@ -7,6 +7,8 @@ ghost use Rattle.host.specs.Tells.{answer, DoesAndTells};
 
 use host_answers::ANSWER;
 use memory::WORDS;
+use registry_live::Invocation;
+use registry_table::Ticket;
 
 // It answers an invocation: domain, id, generation, revision, argument.
 pub fn vaskelbi_admit(
@@ -21,10 +23,13 @@ pub fn vaskelbi_admit(
     ensures { DoesAndTells m.old (Admit (ticket domain id generation kind) argument)
         out.old result out.new m.new }
 {
-    host_answers::admitted(
-        registry_admit::admit(m, domain, id, generation, kind, argument),
-        out,
-    )
+    let ticket = Ticket {
+        domain,
+        id,
+        generation,
+        kind,
+    };
+    host_answers::admitted(registry_admit::admit(m, ticket, argument), out)
 }
 
 // Whether a ticket would be admitted.
@@ -38,7 +43,13 @@ pub fn vaskelbi_admits(
 ) -> u64
     ensures { Tells (answer m.now (Ask (Admits (ticket domain id generation kind)))) out.old result out.new }
 {
-    host_answers::yes_or_no(registry_admit::admits(m, domain, id, generation, kind), out)
+    let ticket = Ticket {
+        domain,
+        id,
+        generation,
+        kind,
+    };
+    host_answers::yes_or_no(registry_admit::admits(m, ticket), out)
 }
 
 // It answers a receipt: domain, id, generation, request, payload, argument.
@@ -54,8 +65,12 @@ pub fn vaskelbi_call(
     ensures { DoesAndTells m.old (Call (invocation domain id generation revision argument))
         out.old result out.new m.new }
 {
-    host_answers::called(
-        registry_admit::call(m, domain, id, generation, revision, argument),
-        out,
-    )
+    let invocation = Invocation {
+        domain,
+        id,
+        generation,
+        revision,
+        argument,
+    };
+    host_answers::called(registry_admit::call(m, invocation), out)
 }

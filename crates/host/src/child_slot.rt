@@ -21,28 +21,16 @@ pub fn vaskelbi_slot_pending(slot: &mut [u64; SLOT], domain: u64, parent: u64, g
 pub fn vaskelbi_slot_assigned(slot: &mut [u64; SLOT], domain: u64, parent: u64, id: u64)
     ensures { slot.new ≡ put_slot slot.old (rules.assigned (identified domain parent id)) }
 {
-    slot_words::store(
-        slot,
-        Slot::assigned(Identity {
-            domain: domain,
-            parent: parent,
-            id: id,
-        }),
-    )
+    let child = Identity { domain, parent, id };
+    slot_words::store(slot, Slot::assigned(child))
 }
 
 pub fn vaskelbi_slot_assign(slot: &mut [u64; SLOT], domain: u64, parent: u64, id: u64) -> u64
     ensures { Decides (rules.assign (slot_of (slot_at slot.old)) (identified domain parent id))
         slot.old result slot.new }
 {
-    host_answers::done(slot_words::assign(
-        slot,
-        Identity {
-            domain: domain,
-            parent: parent,
-            id: id,
-        },
-    ))
+    let child = Identity { domain, parent, id };
+    host_answers::done(slot_words::assign(slot, child))
 }
 
 pub fn vaskelbi_slot_reject(slot: &mut [u64; SLOT]) -> u64

@@ -1,7 +1,7 @@
 // What a host calls, over one lent memory; `host_c` exports it to C and Rust. Each function answers a status, 0 for an
 // acceptance or the refusal's number; the numbers of an answer go to `out` behind their count. A refusal leaves the memory,
 // the slot, the buffer and `out` as they were, but that a refused replacement answers its payload.
-#![tactic(auto)]
+#![tactic(auto, unfolding(memory::specs::View::view))]
 
 ghost use Rattle.std.specs.Prelude.{◌≡◌};
 ghost use Rattle.demands.specs.Starts.{blank};

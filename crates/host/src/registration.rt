@@ -1,7 +1,6 @@
 // Registration, without a parent and under one.
 ghost use Rattle.rules.specs.Holds.{port};
 ghost use Rattle.rules.specs.Steps.{Register};
-ghost use Rattle.memory.specs.declared.Parent.TheVariants.{Of, None};
 ghost use Rattle.registry_register.specs.Written.{definition};
 ghost use Rattle.host.specs.Tells.{DoesAndTells};
 
@@ -28,11 +27,8 @@ pub fn vaskelbi_register(
     host_answers::number(
         registry_register::register(
             m,
-            memory::Parent::None,
-            Port {
-                key: key,
-                realm: realm,
-            },
+            None,
+            Port { key, realm },
             payload,
             realms,
             dependencies,
@@ -55,17 +51,14 @@ pub fn vaskelbi_register_child(
     out: &mut [u64; ANSWER],
 ) -> u64
     ensures { DoesAndTells m.old (Register
-        (definition (Of parent) (port key realm) realms.now dependencies.now provisions.now payload))
+        (definition (Some parent) (port key realm) realms.now dependencies.now provisions.now payload))
         out.old result out.new m.new }
 {
     host_answers::number(
         registry_register::register(
             m,
-            memory::Parent::Of(parent),
-            Port {
-                key: key,
-                realm: realm,
-            },
+            Some(parent),
+            Port { key, realm },
             payload,
             realms,
             dependencies,

@@ -7,6 +7,7 @@ ghost use Rattle.host.specs.Tells.{answer, Does};
 
 use host_answers::ANSWER;
 use memory::WORDS;
+use slot_child::Identity;
 
 pub fn vaskelbi_retire(m: &mut [u64; WORDS], id: u64) -> u64
     ensures { Does m.old (Retire id) result m.new }
@@ -17,7 +18,8 @@ pub fn vaskelbi_retire(m: &mut [u64; WORDS], id: u64) -> u64
 pub fn vaskelbi_retire_child(m: &mut [u64; WORDS], domain: u64, parent: u64, id: u64) -> u64
     ensures { Does m.old (RetireChild (identified domain parent id)) result m.new }
 {
-    host_answers::done(registry_retire::retire_child(m, domain, parent, id))
+    let child = Identity { domain, parent, id };
+    host_answers::done(registry_retire::retire_child(m, child))
 }
 
 // A plugin's child identity: domain, parent, id; no number without a parent.

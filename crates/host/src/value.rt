@@ -7,11 +7,12 @@ ghost use Rattle.host.specs.Tells.{answer, Does};
 
 use host_answers::ANSWER;
 use memory::WORDS;
+use rules::Port;
 
 pub fn vaskelbi_offer(m: &mut [u64; WORDS], id: u64, key: u64, realm: u64, value: u64) -> u64
     ensures { Does m.old (Offer id (port key realm) value) result m.new }
 {
-    host_answers::done(registry_offer::offer(m, id, key, realm, value))
+    host_answers::done(registry_offer::offer(m, id, Port { key, realm }, value))
 }
 
 // It answers the value and its provider's id.
@@ -24,21 +25,21 @@ pub fn vaskelbi_read(
 ) -> u64
     ensures { Tells (answer m.now (Ask (Read id (port key realm)))) out.old result out.new }
 {
-    host_answers::reading(registry_values::read(m, id, key, realm), out)
+    host_answers::reading(registry_values::read(m, id, Port { key, realm }), out)
 }
 
 // The Active provider's value, or no number.
 pub fn vaskelbi_visible(m: &[u64; WORDS], key: u64, realm: u64, out: &mut [u64; ANSWER]) -> u64
     ensures { Tells (answer m.now (Ask (Visible (port key realm)))) out.old result out.new }
 {
-    host_answers::optional(registry_values::visible(m, key, realm), out)
+    host_answers::optional(registry_values::visible(m, Port { key, realm }), out)
 }
 
 // A plugin's own value of a provision, or no number.
 pub fn vaskelbi_own(m: &[u64; WORDS], id: u64, key: u64, realm: u64, out: &mut [u64; ANSWER]) -> u64
     ensures { Tells (answer m.now (Ask (Own id (port key realm)))) out.old result out.new }
 {
-    host_answers::perhaps(registry_values::own(m, id, key, realm), out)
+    host_answers::perhaps(registry_values::own(m, id, Port { key, realm }), out)
 }
 
 // The first provision without a value, or no number.
@@ -64,5 +65,5 @@ pub fn vaskelbi_declares(
 ) -> u64
     ensures { Tells (answer m.now (Ask (Declares id (port key realm)))) out.old result out.new }
 {
-    host_answers::whether(registry_values::declares(m, id, key, realm), out)
+    host_answers::whether(registry_values::declares(m, id, Port { key, realm }), out)
 }

@@ -1,7 +1,6 @@
 -- What a host is told of an answer: a status, 0 for an acceptance or the refusal's number, and in the host's words the count of
 -- the answer's numbers with the numbers behind it. Where a refusal answers no number the words stay.
 use Rattle.std.specs.Prelude.{ℕ, ◌≡◌, List, [], ◌∷◌, length}
-use Rattle.std.proofs.Common.{sym, ap, ◌∙◌}
 use Rattle.rules.specs.Outcomes.{Answer, Refused, Accepted}
 use Rattle.memory.specs.Writes.{puts}
 
@@ -19,7 +18,3 @@ words_of (Accepted vs) out = counted vs out
 
 abbrev pub Tells : Answer → List ℕ → ℕ → List ℕ → Type 0
 Tells a out status out' = (status ≡ status_of a) × (out' ≡ words_of a out)
-
--- what is told of an answer is told of the same answer
-pub told : (a b : Answer) (out : List ℕ) (status : ℕ) (out' : List ℕ) → a ≡ b → status ≡ status_of b → out' ≡ words_of b out → Tells a out status out'
-told a b out status out' e s w = (s ∙ sym (ap status_of e), w ∙ sym (ap (λ x. words_of x out) e))

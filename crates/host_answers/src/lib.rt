@@ -1,10 +1,9 @@
 // What a host is told: a status, 0 for an acceptance or the refusal's number, and the answer's numbers behind their count.
-#![tactic(auto)]
+#![tactic(auto, unfolding(crate::specs::Told::status_of, crate::specs::Told::words_of))]
 
-ghost use Rattle.std.specs.Prelude.{◌≡◌, [], ◌∷◌};
-ghost use Rattle.rules.specs.Queries.{root_numbers};
-ghost use Rattle.rules.specs.Answers.{done_answer, whether_answer, number_answer, option_answer};
-ghost use Rattle.registry_queries.specs.Answers.{perhaps_answer, port_answer, root_answer, edition_answer};
+ghost use Rattle.std.specs.Prelude.{◌≡◌, ◌<◌, length};
+ghost use Rattle.rules.specs.Answers.{done_answer, whether_answer, number_answer, perhaps_answer, option_answer};
+ghost use Rattle.registry_queries.specs.Answers.{port_answer, root_answer, edition_answer};
 ghost use Rattle.ports_realms.specs.Answers.{resolved_answer};
 ghost use Rattle.registry_steps.specs.Answers.{begun_answer};
 ghost use Rattle.registry_replace.specs.Answers.{replaced_answer};
@@ -13,245 +12,186 @@ ghost use Rattle.registry_retire.specs.Answers.{child_answer};
 ghost use Rattle.registry_values.specs.Answers.{reading_answer};
 ghost use Rattle.host_answers.specs.Told.{status_of, counted, Tells};
 
+use registry_admit::Receipt;
+use registry_live::Invocation;
+use registry_replace::Unreplaced;
+use registry_table::Ticket;
+use registry_values::Reading;
+use rules::{Edition, Port, Refusal, Root};
+use slot_child::Identity;
+
 // A count and up to six numbers.
 pub const ANSWER: usize = 7;
 
 // An answer without numbers: its status says all.
-pub fn done(a: rules::Done) -> u64
+pub fn done(a: Result<(), Refusal>) -> u64
     ensures { result ≡ status_of (done_answer a) }
 {
     match a {
-        rules::Done::Accepted => 0,
-        rules::Done::Refused(why) => why,
+        Ok(()) => 0,
+        Err(why) => why.number(),
     }
 }
 
 // The numbers of an acceptance, behind their count.
-fn none(out: &mut [u64; ANSWER]) -> u64
-    ensures { (result ≡ 0) × (out.new ≡ counted ([]) out.old) }
+fn tell(numbers: &[u64], out: &mut [u64; ANSWER]) -> u64
+    requires { length numbers.now < 7 }
+    ensures { (result ≡ 0) × (out.new ≡ counted numbers.now out.old) }
 {
-    out[0] = 0;
+    out[0] = numbers.len() as u64;
+    for (i, n) in numbers.iter().enumerate() {
+        out[i + 1] = *n;
+    }
     0
 }
 
-fn one(a: u64, out: &mut [u64; ANSWER]) -> u64
-    ensures { (result ≡ 0) × (out.new ≡ counted (a ∷ []) out.old) }
-{
-    out[0] = 1;
-    out[1] = a;
-    0
-}
-
-fn two(a: u64, b: u64, out: &mut [u64; ANSWER]) -> u64
-    ensures { (result ≡ 0) × (out.new ≡ counted (a ∷ b ∷ []) out.old) }
-{
-    out[0] = 2;
-    out[1] = a;
-    out[2] = b;
-    0
-}
-
-fn three(a: u64, b: u64, c: u64, out: &mut [u64; ANSWER]) -> u64
-    ensures { (result ≡ 0) × (out.new ≡ counted (a ∷ b ∷ c ∷ []) out.old) }
-{
-    out[0] = 3;
-    out[1] = a;
-    out[2] = b;
-    out[3] = c;
-    0
-}
-
-fn four(a: u64, b: u64, c: u64, d: u64, out: &mut [u64; ANSWER]) -> u64
-    ensures { (result ≡ 0) × (out.new ≡ counted (a ∷ b ∷ c ∷ d ∷ []) out.old) }
-{
-    out[0] = 4;
-    out[1] = a;
-    out[2] = b;
-    out[3] = c;
-    out[4] = d;
-    0
-}
-
-fn five(a: u64, b: u64, c: u64, d: u64, e: u64, out: &mut [u64; ANSWER]) -> u64
-    ensures { (result ≡ 0) × (out.new ≡ counted (a ∷ b ∷ c ∷ d ∷ e ∷ []) out.old) }
-{
-    out[0] = 5;
-    out[1] = a;
-    out[2] = b;
-    out[3] = c;
-    out[4] = d;
-    out[5] = e;
-    0
-}
-
-fn six(a: u64, b: u64, c: u64, d: u64, e: u64, f: u64, out: &mut [u64; ANSWER]) -> u64
-    ensures { (result ≡ 0) × (out.new ≡ counted (a ∷ b ∷ c ∷ d ∷ e ∷ f ∷ []) out.old) }
-{
-    out[0] = 6;
-    out[1] = a;
-    out[2] = b;
-    out[3] = c;
-    out[4] = d;
-    out[5] = e;
-    out[6] = f;
-    0
-}
-
-pub fn whether(a: rules::Whether, out: &mut [u64; ANSWER]) -> u64
+pub fn whether(a: Result<bool, Refusal>, out: &mut [u64; ANSWER]) -> u64
     ensures { Tells (whether_answer a) out.old result out.new }
 {
     match a {
-        rules::Whether::Yes => one(1, out),
-        rules::Whether::No => one(0, out),
-        rules::Whether::Refused(why) => why,
+        Ok(yes) => tell(&[yes as u64], out),
+        Err(why) => why.number(),
     }
 }
 
-pub fn number(a: rules::Number, out: &mut [u64; ANSWER]) -> u64
+pub fn number(a: Result<u64, Refusal>, out: &mut [u64; ANSWER]) -> u64
     ensures { Tells (number_answer a) out.old result out.new }
 {
     match a {
-        rules::Number::Is(n) => one(n, out),
-        rules::Number::Refused(why) => why,
+        Ok(n) => tell(&[n], out),
+        Err(why) => why.number(),
     }
 }
 
-pub fn perhaps(a: registry_queries::Perhaps, out: &mut [u64; ANSWER]) -> u64
+pub fn perhaps(a: Result<Option<u64>, Refusal>, out: &mut [u64; ANSWER]) -> u64
     ensures { Tells (perhaps_answer a) out.old result out.new }
 {
     match a {
-        registry_queries::Perhaps::Is(n) => one(n, out),
-        registry_queries::Perhaps::None => none(out),
-        registry_queries::Perhaps::Refused(why) => why,
+        Ok(Some(n)) => tell(&[n], out),
+        Ok(None) => tell(&[], out),
+        Err(why) => why.number(),
     }
 }
 
-pub fn port(a: registry_queries::PortAnswer, out: &mut [u64; ANSWER]) -> u64
+pub fn port(a: Result<Option<Port>, Refusal>, out: &mut [u64; ANSWER]) -> u64
     ensures { Tells (port_answer a) out.old result out.new }
 {
     match a {
-        registry_queries::PortAnswer::Is(q) => two(q.key, q.realm, out),
-        registry_queries::PortAnswer::None => none(out),
-        registry_queries::PortAnswer::Refused(why) => why,
+        Ok(Some(q)) => tell(&[q.key, q.realm], out),
+        Ok(None) => tell(&[], out),
+        Err(why) => why.number(),
     }
 }
 
-pub fn root(a: registry_queries::RootAnswer, out: &mut [u64; ANSWER]) -> u64
+pub fn root(a: Result<Root, Refusal>, out: &mut [u64; ANSWER]) -> u64
     ensures { Tells (root_answer a) out.old result out.new }
 {
     match a {
-        registry_queries::RootAnswer::Is(root) => issued(root, out),
-        registry_queries::RootAnswer::Refused(why) => why,
+        Ok(Root::Unissued) => tell(&[0], out),
+        Ok(Root::Queued(revision, argument)) => tell(&[1, revision, argument], out),
+        Ok(Root::Spent) => tell(&[2], out),
+        Err(why) => why.number(),
     }
 }
 
-pub fn edition(a: registry_queries::EditionAnswer, out: &mut [u64; ANSWER]) -> u64
+pub fn edition(a: Result<Edition, Refusal>, out: &mut [u64; ANSWER]) -> u64
     ensures { Tells (edition_answer a) out.old result out.new }
 {
     match a {
-        registry_queries::EditionAnswer::Is(edition) => {
-            two(edition.number(), edition.default(), out)
-        }
-        registry_queries::EditionAnswer::Refused(why) => why,
+        Ok(edition) => tell(&[edition.number(), edition.default()], out),
+        Err(why) => why.number(),
     }
 }
 
-pub fn resolved(a: ports_realms::Resolved, out: &mut [u64; ANSWER]) -> u64
+pub fn resolved(a: Result<Port, Refusal>, out: &mut [u64; ANSWER]) -> u64
     ensures { Tells (resolved_answer a) out.old result out.new }
 {
     match a {
-        ports_realms::Resolved::To(q) => two(q.key, q.realm, out),
-        ports_realms::Resolved::Refused(why) => why,
+        Ok(q) => tell(&[q.key, q.realm], out),
+        Err(why) => why.number(),
     }
 }
 
-pub fn optional(a: rules::Optional, out: &mut [u64; ANSWER]) -> u64
+pub fn optional(a: Option<u64>, out: &mut [u64; ANSWER]) -> u64
     ensures { Tells (option_answer a) out.old result out.new }
 {
     match a {
-        rules::Optional::Is(n) => one(n, out),
-        rules::Optional::None => none(out),
+        Some(n) => tell(&[n], out),
+        None => tell(&[], out),
     }
 }
 
-pub fn begun(a: registry_steps::Begun, out: &mut [u64; ANSWER]) -> u64
+pub fn begun(a: Result<Ticket, Refusal>, out: &mut [u64; ANSWER]) -> u64
     ensures { Tells (begun_answer a) out.old result out.new }
 {
     match a {
-        registry_steps::Begun::Ticket(domain, id, generation, kind) => four(
-            domain, id, generation, kind, out,
-        ),
-        registry_steps::Begun::Refused(why) => why,
+        Ok(t) => tell(&[t.domain, t.id, t.generation, t.kind], out),
+        Err(why) => why.number(),
     }
 }
 
 // A refused replacement answers the offered payload too.
-pub fn replaced(a: registry_replace::Replaced, out: &mut [u64; ANSWER]) -> u64
+pub fn replaced(a: Result<u64, Unreplaced>, out: &mut [u64; ANSWER]) -> u64
     ensures { Tells (replaced_answer a) out.old result out.new }
 {
     match a {
-        registry_replace::Replaced::Former(payload) => one(payload, out),
-        registry_replace::Replaced::Refused(why, payload) => {
-            one(payload, out);
-            why
+        Ok(former) => tell(&[former], out),
+        Err(refused) => {
+            tell(&[refused.payload], out);
+            refused.why.number()
         }
     }
 }
 
-pub fn admitted(a: registry_admit::Admitted, out: &mut [u64; ANSWER]) -> u64
+pub fn admitted(a: Result<Invocation, Refusal>, out: &mut [u64; ANSWER]) -> u64
     ensures { Tells (admitted_answer a) out.old result out.new }
 {
     match a {
-        registry_admit::Admitted::Is(domain, id, generation, revision, argument) => five(
-            domain, id, generation, revision, argument, out,
-        ),
-        registry_admit::Admitted::Refused(why) => why,
+        Ok(t) => tell(&[t.domain, t.id, t.generation, t.revision, t.argument], out),
+        Err(why) => why.number(),
     }
 }
 
-pub fn called(a: registry_admit::Called, out: &mut [u64; ANSWER]) -> u64
+pub fn called(a: Result<Receipt, Refusal>, out: &mut [u64; ANSWER]) -> u64
     ensures { Tells (called_answer a) out.old result out.new }
 {
     match a {
-        registry_admit::Called::Receipt(domain, id, generation, request, payload, argument) => six(
-            domain, id, generation, request, payload, argument, out,
+        Ok(t) => tell(
+            &[
+                t.domain,
+                t.id,
+                t.generation,
+                t.request,
+                t.payload,
+                t.argument,
+            ],
+            out,
         ),
-        registry_admit::Called::Refused(why) => why,
+        Err(why) => why.number(),
     }
 }
 
-pub fn child(a: registry_retire::Child, out: &mut [u64; ANSWER]) -> u64
+pub fn child(a: Result<Option<Identity>, Refusal>, out: &mut [u64; ANSWER]) -> u64
     ensures { Tells (child_answer a) out.old result out.new }
 {
     match a {
-        registry_retire::Child::Of(domain, parent, id) => three(domain, parent, id, out),
-        registry_retire::Child::None => none(out),
-        registry_retire::Child::Refused(why) => why,
+        Ok(Some(c)) => tell(&[c.domain, c.parent, c.id], out),
+        Ok(None) => tell(&[], out),
+        Err(why) => why.number(),
     }
 }
 
-pub fn reading(a: registry_values::Reading, out: &mut [u64; ANSWER]) -> u64
+pub fn reading(a: Result<Reading, Refusal>, out: &mut [u64; ANSWER]) -> u64
     ensures { Tells (reading_answer a) out.old result out.new }
 {
     match a {
-        registry_values::Reading::Is(value, provider) => two(value, provider, out),
-        registry_values::Reading::Refused(why) => why,
-    }
-}
-
-fn issued(root: rules::Root, out: &mut [u64; ANSWER]) -> u64
-    ensures status { result ≡ 0 }
-    ensures told { out.new ≡ counted (root_numbers root) out.old }
-{
-    match root {
-        rules::Root::Unissued => one(0, out),
-        rules::Root::Queued(revision, argument) => three(1, revision, argument, out),
-        rules::Root::Spent => one(2, out),
+        Ok(x) => tell(&[x.value, x.provider], out),
+        Err(why) => why.number(),
     }
 }
 
 pub fn yes_or_no(a: bool, out: &mut [u64; ANSWER]) -> u64
     ensures { Tells (admits_answer a) out.old result out.new }
 {
-    if a { one(1, out) } else { one(0, out) }
+    tell(&[a as u64], out)
 }

@@ -1,7 +1,6 @@
 // Exported: registration, without a parent and under one.
 ghost use Rattle.rules.specs.Holds.{port};
 ghost use Rattle.rules.specs.Steps.{Register};
-ghost use Rattle.memory.specs.declared.Parent.TheVariants.{Of, None};
 ghost use Rattle.registry_register.specs.Written.{definition};
 ghost use Rattle.host.specs.Tells.{DoesAndTells};
 
@@ -48,7 +47,7 @@ pub extern "C" fn vaskelbi_register_child(
     out: &mut [u64; ANSWER],
 ) -> u64
     ensures { DoesAndTells m.old (Register
-        (definition (Of parent) (port key realm) realms.now dependencies.now provisions.now payload))
+        (definition (Some parent) (port key realm) realms.now dependencies.now provisions.now payload))
         out.old result out.new m.new }
 {
     host::vaskelbi_register_child(

@@ -1,4 +1,5 @@
 -- The search for a place, one place on.
+use Rattle.std.specs.Prelude.{Some, None}
 use Prim.Native.Nat.{ℕ, suc, ◌+◌, ◌-◌, ◌<◌, ◌≤◌}
 use mathlib.Core.Path.{◌≡◌, refl, sym, ◌∙◌}
 use mathlib.Core.Bool.{Bool, true, false, ◌&&◌, and-false}
@@ -9,7 +10,6 @@ use borrow.Author.Tests.{eq-eqb, ne_eqb, ltb-true}
 use Rattle.rules_laws.specs.Laws.Tests.{both}
 use Rattle.memory.specs.Layout.{taken, id_at, places}
 use Rattle.memory.specs.Writes.{names_at, find_from, find_at, SameId}
-use Rattle.memory.specs.declared.Place.TheVariants.{At, None}
 
 -- A place names the id where it is taken and the id is its own, whichever is asked first.
 and-true : (b : Bool) → (b && true) ≡ b
@@ -35,7 +35,7 @@ none_left : (i : ℕ) → places ≤ i → places - i ≡ 0
 none_left i h = omega arith
 
 module _ (m : List ℕ) (id i : ℕ) where
-  pub find_here : i < places → names_at m id i ≡ true → find_from (places - i) m id i ≡ At i
+  pub find_here : i < places → names_at m id i ≡ true → find_from (places - i) m id i ≡ Some i
   unfolding find_from
   find_here h e = rw (one_less i h) (rw e)
 
@@ -49,7 +49,7 @@ module _ (m : List ℕ) (id i : ℕ) where
 
   -- a place that has the id, as the first
   module _ (s : SameId m id i) where
-    pub same_taken : taken m i ≡ true → At i ≡ find_at m id
+    pub same_taken : taken m i ≡ true → Some i ≡ find_at m id
     unfolding taken
     same_taken t =
         let h : i < places = ltb-true i places (both (ltb i places) _ t).0 in

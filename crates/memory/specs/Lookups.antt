@@ -1,25 +1,22 @@
 -- Searching the places is searching the registry's plugins.
-use Rattle.std.specs.Prelude.{ℕ, zero, suc, ◌+◌, ◌<◌, ◌≡◌, refl, Bool, true, false, ◌&&◌, List, eqb}
+use Rattle.std.specs.Prelude.{ℕ, zero, suc, ◌+◌, ◌<◌, ◌≡◌, refl, Bool, true, false, ◌&&◌, List, eqb, Option, Some, None}
 use Rattle.std.proofs.Common.{arith, sym, ap, ◌∙◌}
-use Rattle.std.proofs.Math.Option.{Option, none, some}
 use Rattle.rules.specs.Basics.{pick, first}
 use Rattle.rules.specs.Holds.{Plugin, held, lookup}
 use Rattle.rules_laws.specs.Laws.Tests.{by_test, both}
 use Rattle.memory.specs.Layout.{taken, places}
 use Rattle.memory.specs.View.{plugin_at, place_at, places_from, view}
 use Rattle.memory.specs.Writes.{names_at, find_from, find_at}
-use Rattle.memory.specs.declared.Place.{Place}
-use Rattle.memory.specs.declared.Place.TheVariants.{At, None}
 
 -- the plugin of a place
-abbrev pub placed : List ℕ → Place → Option Plugin
-placed m (At i) = some (plugin_at m i)
-placed m None = none
+abbrev pub placed : List ℕ → Option ℕ → Option Plugin
+placed m (Some i) = Some (plugin_at m i)
+placed m None = None
 
 -- the first of n places from i on whose plugin passes
-unfoldable pub search_from : (Plugin → Bool) → ℕ → List ℕ → ℕ → Place
+unfoldable pub search_from : (Plugin → Bool) → ℕ → List ℕ → ℕ → Option ℕ
 search_from f zero m i = None
-search_from f (suc n) m i = pick (taken m i && f (plugin_at m i)) (At i) (search_from f n m (i + 1))
+search_from f (suc n) m i = pick (taken m i && f (plugin_at m i)) (Some i) (search_from f n m (i + 1))
 
 pub search_first : (f : Plugin → Bool) (n : ℕ) (m : List ℕ) (i : ℕ) → first f (held (places_from n m i)) ≡ placed m (search_from f n m i)
 unfolding search_from places_from place_at
@@ -36,12 +33,12 @@ pub record Found (f : Plugin → Bool) (m : List ℕ) (n k : ℕ) : Type 0 where
   pub there : taken m k ≡ true
   pub passes : f (plugin_at m k) ≡ true
 
-pub search_found : (f : Plugin → Bool) (n : ℕ) (m : List ℕ) (i k : ℕ) → search_from f n m i ≡ At k → Found f m (i + n) k
+pub search_found : (f : Plugin → Bool) (n : ℕ) (m : List ℕ) (i k : ℕ) → search_from f n m i ≡ Some k → Found f m (i + n) k
 unfolding search_from
 search_found f zero m i k e = let z : ◌≡◌ {A = ℕ} 0 1 = cc in absurd (omega arith)
 search_found f (suc n) m i k e = go (taken m i && f (plugin_at m i)) refl (search_found f n m (i + 1) k)
   where
-    go : (b : Bool) → (taken m i && f (plugin_at m i)) ≡ b → (search_from f n m (i + 1) ≡ At k → Found f m (i + 1 + n) k) → Found f m (i + suc n) k
+    go : (b : Bool) → (taken m i && f (plugin_at m i)) ≡ b → (search_from f n m (i + 1) ≡ Some k → Found f m (i + 1 + n) k) → Found f m (i + suc n) k
     go true q ih =
         let s : i ≡ k = cc (rw q at e) in
         let w = both (taken m i) (f (plugin_at m i)) q in
@@ -63,6 +60,6 @@ pub lookup_view : (m : List ℕ) (id : ℕ) → lookup (view m) id ≡ placed m 
 unfolding lookup view find_at
 lookup_view m id = search_first (has_id id) places m 0 ∙ ap (placed m) (sym (find_search places m id 0))
 
-pub find_found : (m : List ℕ) (id k : ℕ) → find_at m id ≡ At k → Found (has_id id) m places k
+pub find_found : (m : List ℕ) (id k : ℕ) → find_at m id ≡ Some k → Found (has_id id) m places k
 unfolding find_at
 find_found m id k e = search_found (has_id id) places m 0 k (sym (find_search places m id 0) ∙ e)

@@ -1,6 +1,5 @@
 -- The words as document 01's registry, place by place.
-use Rattle.std.specs.Prelude.{ℕ, zero, suc, ◌+◌, ◌*◌, ◌/◌, ◌%◌, ◌^◌, not, List, [], ◌∷◌, eqb}
-use Rattle.std.proofs.Math.Option.{Option, none, some}
+use Rattle.std.specs.Prelude.{ℕ, zero, suc, ◌+◌, ◌*◌, ◌/◌, ◌%◌, ◌^◌, not, List, [], ◌∷◌, eqb, Option, Some, None}
 use Rattle.rules.specs.Basics.{pick}
 use Rattle.rules.specs.Holds.{port, Provision, Plugin, Places, Registry}
 use Rattle.rules_types.specs.Generations.{generation_of}
@@ -17,8 +16,8 @@ use Rattle.memory.specs.declared.Life.{Life}
 use Rattle.memory.specs.declared.Words.{Words}
 
 abbrev pub parent_of : ℕ → ℕ → Option ℕ
-parent_of zero id = none
-parent_of (suc n) id = some id
+parent_of zero id = None
+parent_of (suc n) id = Some id
 
 abbrev pub parent_at : List ℕ → ℕ → Option ℕ
 parent_at m i = parent_of (word m (i * place_words + tag_word)) (word m (i * place_words + parent_word))
@@ -62,7 +61,7 @@ life_at m i = decoded (words_at m i)
 
 -- the value of provision j, or none
 unfoldable pub value_at : List ℕ → ℕ → ℕ → Option ℕ
-value_at m i j = pick (eqb (word m (i * place_words + mask_word) / 2 ^ j % 2) 1) (some (word m (i * place_words + values_word + j))) none
+value_at m i j = pick (eqb (word m (i * place_words + mask_word) / 2 ^ j % 2) 1) (Some (word m (i * place_words + values_word + j))) None
 
 abbrev pub valued : List ℕ → ℕ → ℕ → List Port → List Provision
 valued m i j [] = []
@@ -89,7 +88,7 @@ plugin_at m i = record {
 }
 
 unfoldable pub place_at : List ℕ → ℕ → Option Plugin
-place_at m i = pick (taken m i) (some (plugin_at m i)) none
+place_at m i = pick (taken m i) (Some (plugin_at m i)) None
 
 -- n places from i on
 unfoldable pub places_from : ℕ → List ℕ → ℕ → Places

@@ -1,33 +1,24 @@
 -- What this crate's functions leave in the words.
-use Rattle.std.specs.Prelude.{ℕ, zero, suc, ◌+◌, ◌-◌, ◌*◌, ◌≤◌, ◌<◌, ◌≡◌, Bool, ◌&&◌, List, [], ◌∷◌, eqb, set}
-use Rattle.std.proofs.Math.Option.{Option, none, some}
+use Rattle.std.specs.Prelude.{ℕ, zero, suc, ◌+◌, ◌-◌, ◌*◌, ◌≤◌, ◌<◌, ◌≡◌, Bool, ◌&&◌, List, [], ◌∷◌, eqb, set, Option, Some, None}
 use mir.Val.{bool_byte}
 use Rattle.rules.specs.Basics.{pick}
 use Rattle.rules.specs.Queries.{phase_number}
 use Rattle.rules_types.specs.declared.Root.{Root}
 use Rattle.rules_types.specs.declared.Root.TheVariants.{Unissued, Queued, Spent}
-use Rattle.memory.specs.declared.Parent.{Parent}
-use Rattle.memory.specs.declared.Parent.TheVariants as parent
-use Rattle.memory.specs.declared.Place.{Place}
-use Rattle.memory.specs.declared.Place.TheVariants.{At, None}
 use Rattle.memory.specs.Layout.{taken, id_at, place_words, places, domain_word, revision_word}
 use Rattle.memory.specs.declared.Life.{Life}
 use Rattle.memory.specs.declared.Words.{Words}
-
-abbrev pub parent_id : Parent → Option ℕ
-parent_id (parent.Of id) = some id
-parent_id parent.None = none
 
 -- the plugin of this place has the id
 unfoldable pub names_at : List ℕ → ℕ → ℕ → Bool
 names_at m id i = taken m i && eqb (id_at m i) id
 
 -- the first such place, of n places from i on
-unfoldable pub find_from : ℕ → List ℕ → ℕ → ℕ → Place
+unfoldable pub find_from : ℕ → List ℕ → ℕ → ℕ → Option ℕ
 find_from zero m id i = None
-find_from (suc n) m id i = pick (names_at m id i) (At i) (find_from n m id (i + 1))
+find_from (suc n) m id i = pick (names_at m id i) (Some i) (find_from n m id (i + 1))
 
-unfoldable pub find_at : List ℕ → ℕ → Place
+unfoldable pub find_at : List ℕ → ℕ → Option ℕ
 find_at m id = find_from places m id 0
 
 -- no place before i has the id, and place i has it, if there is one

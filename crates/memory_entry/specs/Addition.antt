@@ -1,11 +1,10 @@
 -- A new plugin in a free place, with its rows behind all others: what that does to the words, that every other place
 -- reads as before, and that the new one reads as what was written.
-use Rattle.std.specs.Prelude.{ℕ, ◌+◌, ◌*◌, ◌-◌, ◌<◌, ◌≤◌, ◌%◌, ◌≡◌, refl, Bool, true, false, ◌≢◌, List, [], ◌∷◌, map, eqb, length, get_or, drop}
+use Rattle.std.specs.Prelude.{ℕ, ◌+◌, ◌*◌, ◌<◌, ◌≤◌, ◌%◌, ◌≡◌, refl, Bool, true, false, ◌≢◌, List, [], ◌∷◌, map, eqb, length, get_or, drop, None}
 use native.Mathlib.Omega.{arith}
 use Rattle.std.proofs.Math.Nat.{zero-div}
 use Rattle.std.proofs.Math.Path.{sym, ap}
 use Rattle.std.proofs.Common.{◌∙◌, length-take, length-drop, get_or-take, get_or-drop, ext_get_or, eqb-true}
-use Rattle.std.proofs.Math.Option.{none}
 use Rattle.std.proofs.lemmas.Bool.{eqb-false}
 use Rattle.rules.specs.Basics.{pick}
 use Rattle.rules.specs.Holds.{Plugin, never_begun}
@@ -110,7 +109,7 @@ part_list m ws a n e h f =
     let k : i < n = omega (arith, whole) in
     (get_or-take n (drop a m) i 0 k ∙ get_or-drop a m i 0) ∙ f i k
 
-value_none : (m : List ℕ) (i j : ℕ) → word m (i * place_words + mask_word) ≡ 0 → value_at m i j ≡ none
+value_none : (m : List ℕ) (i j : ℕ) → word m (i * place_words + mask_word) ≡ 0 → value_at m i j ≡ None
 unfolding value_at
 value_none m i j e = rw (e, zero-div)
 

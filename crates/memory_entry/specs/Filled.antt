@@ -1,7 +1,6 @@
 -- A filled place is an addition: of a dense memory, the registry afterwards is the rule's.
-use Rattle.std.specs.Prelude.{ℕ, suc, ◌+◌, ◌*◌, ◌-◌, ◌<◌, ◌≤◌, ◌≡◌, true, false, ◌≢◌, List, ◌∷◌, leb, length, get_or, set}
+use Rattle.std.specs.Prelude.{ℕ, suc, ◌+◌, ◌*◌, ◌<◌, ◌≤◌, ◌≡◌, true, false, ◌≢◌, List, ◌∷◌, leb, length, get_or, set, Some}
 use Rattle.std.proofs.Common.{arith, sym, ap, ◌∙◌, lit<, length-set, get_or-set_other}
-use Rattle.std.proofs.Math.Option.{some}
 use Rattle.std.proofs.Math.Seq.{get_or-set_same}
 use borrow.Author.Tests.{le-leb}
 use Rattle.rules.specs.Outcomes.{adds, after}
@@ -12,7 +11,6 @@ use Rattle.memory.specs.Layout.{domain_word, first_word, occupancy_word}
 use Rattle.memory.specs.View.{place_at, view}
 use Rattle.memory.specs.Writes.{puts}
 use Rattle.memory.specs.Frames.{puts_length, puts_before, puts_after, puts_same, puts_apart}
-use Rattle.memory.specs.declared.Place.TheVariants.{At}
 use Rattle.memory_places.specs.Changes.{free_at, occupied_at}
 use Rattle.memory_places.specs.Taken.{occupied_length, occupied_word, occupied_here, occupied_others}
 use Rattle.memory_places.specs.Free.{free_at_lem}
@@ -59,7 +57,7 @@ entry_of n start next = record {
 abbrev pub claim_words : Newcomer → List ℕ
 claim_words n = n.anchor.key ∷ n.anchor.realm ∷ n.provisions
 
-module _ (m : List ℕ) (p : ℕ) (n : Newcomer) (next : ℕ) (lowest : free_at m ≡ At p) (d : Dense m) (z : Sized m n) where
+module _ (m : List ℕ) (p : ℕ) (n : Newcomer) (next : ℕ) (lowest : free_at m ≡ Some p) (d : Dense m) (z : Sized m n) where
   abbrev E : Entry
   E = entry_of n (used m) next
 
@@ -189,12 +187,12 @@ module _ (m : List ℕ) (p : ℕ) (n : Newcomer) (next : ℕ) (lowest : free_at 
 
   -- of a newcomer whose id is new
   module _ (new : (j : ℕ) → taken m j ≡ true → id_at m j ≢ n.id) where
-    filled_place_lem : place_at filled p ≡ some (new_plugin_of n)
-    filled_place_lem = taken_place filled p filled_adds.comes ∙ ap some (added_plugin m filled p n h free new d z filled_adds)
+    filled_place_lem : place_at filled p ≡ Some (new_plugin_of n)
+    filled_place_lem = taken_place filled p filled_adds.comes ∙ ap Some (added_plugin m filled p n h free new d z filled_adds)
 
     other_place : (j : ℕ) → j ≢ p → place_at filled j ≡ place_at m j
     other_place j a = by_test (taken m j)
-        (λ t. taken_place filled j (filled_adds.kept j a ∙ t) ∙ ap some (added_other m filled p n h free new d z filled_adds j a t) ∙ sym (taken_place m j t))
+        (λ t. taken_place filled j (filled_adds.kept j a ∙ t) ∙ ap Some (added_other m filled p n h free new d z filled_adds j a t) ∙ sym (taken_place m j t))
         (λ f. free_place_lem filled j (filled_adds.kept j a ∙ f) ∙ sym (free_place_lem m j f))
 
     -- The memory stays dense, and the registry gains the plugin at the lowest free place.

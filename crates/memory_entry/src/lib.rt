@@ -33,12 +33,8 @@ pub struct Entry {
 fn put_front(out: &mut [u64], words: &[u64])
     ensures { out.new ≡ puts out.old 0 0 words.now }
 {
-    let end = memory_lists::at_most(words.len(), out.len());
-    let mut k: usize = 0;
-    while k < end {
-        out[k] = words[k];
-        k += 1;
-    }
+    let count = words.len().min(out.len());
+    out[..count].copy_from_slice(&words[..count]);
 }
 
 // Numbers from a word on: the tail is lent, so that no word asks for its room.

@@ -1,4 +1,5 @@
 -- The turns of noting ports and of looking through a word's places.
+use Rattle.std.specs.Prelude.{Option, Some, None}
 use Prim.Native.Nat.{ℕ, zero, suc, ◌+◌, ◌-◌, ◌*◌, ◌/◌, ◌%◌, ◌^◌, ◌<◌, ◌≤◌, min}
 use native.Mathlib.Nat.{pow-suc, zero-add, mod-eq_of_lt}
 use borrow.Author.Tests.{eqb-true, eqb-false}
@@ -20,8 +21,6 @@ use Rattle.rules_laws.specs.Laws.Pairs.{pairs_at, pairs_end}
 use Rattle.rules_laws.specs.Laws.Tests.{by_test}
 use Rattle.memory.specs.Layout.{word, taken, places}
 use Rattle.memory.specs.View.{plugin_at}
-use Rattle.memory.specs.declared.Place.{Place}
-use Rattle.memory.specs.declared.Place.TheVariants.{At, None}
 use Rattle.memory_providers.specs.Providers.{offered_part}
 use Rattle.memory_index.specs.Index.{word_for, noted, index_from, first_among}
 
@@ -84,9 +83,9 @@ zeros_below (suc n) w l z = by_test (eqb (w % 2) 1)
 
 -- a word's places by halving: the lowest bit is place i's
 module _ (m : List ℕ) (q : Port) where
-  unfoldable first_in : ℕ → ℕ → ℕ → Place
+  unfoldable first_in : ℕ → ℕ → ℕ → Option ℕ
   first_in zero w i = None
-  first_in (suc n) w i = pick (eqb (w % 2) 1 && provides (plugin_at m i) q) (At i) (first_in n (w / 2) (i + 1))
+  first_in (suc n) w i = pick (eqb (w % 2) 1 && provides (plugin_at m i) q) (Some i) (first_in n (w / 2) (i + 1))
 
   halved : (n w i : ℕ) → first_among n m w q i ≡ first_in n (w / 2 ^ i) i
   unfolding first_in first_among
@@ -122,7 +121,7 @@ module _ (m : List ℕ) (q : Port) where
     unfolding first_in
     first_even e v f = rw (e, f)
 
-    first_odd : w % 2 ≡ 1 → (b : Bool) → provides (plugin_at m i) q ≡ b → first_in (suc n) w i ≡ pick b (At i) (first_in n (w / 2) (i + 1))
+    first_odd : w % 2 ≡ 1 → (b : Bool) → provides (plugin_at m i) q ≡ b → first_in (suc n) w i ≡ pick b (Some i) (first_in n (w / 2) (i + 1))
     unfolding first_in
     first_odd o b p = rw (o, p)
 
@@ -139,15 +138,15 @@ module _ (m : List ℕ) (q : Port) where
       and_step w (w - 1) ∙ rw (h, e) (omega arith)
 
   -- It is found if it provides the port, and else its bit may go.
-  lowest_first : (n w i : ℕ) → w < 2 ^ n → 0 < w → provides (plugin_at m (lowest n w i)) q ≡ true → first_in n w i ≡ At (lowest n w i)
+  lowest_first : (n w i : ℕ) → w < 2 ^ n → 0 < w → provides (plugin_at m (lowest n w i)) q ≡ true → first_in n w i ≡ Some (lowest n w i)
   lowest_first zero w i l z y = absurd (omega arith)
   lowest_first (suc n) w i l z y = by_test (eqb (w % 2) 1)
       (λ t. let o = eqb-true (w % 2) 1 t in
       let s = lowest_odd n w i o in
-      first_odd n w i o true (rw s at y) ∙ ap At (sym s))
+      first_odd n w i o true (rw s at y) ∙ ap Some (sym s))
       (λ f. let e : w % 2 ≡ 0 = omega (arith, eqb-false (w % 2) 1 f) in
       let s = lowest_even n w i e in
-      first_even n w i e (w / 2) refl ∙ lowest_first n (w / 2) (i + 1) (omega (arith, pow-suc 2 n)) (omega arith) (rw s at y) ∙ ap At (sym s))
+      first_even n w i e (w / 2) refl ∙ lowest_first n (w / 2) (i + 1) (omega (arith, pow-suc 2 n)) (omega arith) (rw s at y) ∙ ap Some (sym s))
 
   lowest_goes : (n w i : ℕ) → w < 2 ^ n → 0 < w → provides (plugin_at m (lowest n w i)) q ≡ false → first_in n w i ≡ first_in n (without w) i
   lowest_goes zero w i l z y = absurd (omega arith)
@@ -176,8 +175,8 @@ module _ (m : List ℕ) (q : Port) where
     own : {b : Bool} → b ≡ provides (plugin_at m (at % places)) q → provides (plugin_at m (lowest 32 w 0)) q ≡ b
     own e = ap (λ j. provides (plugin_at m j) q) (zero-add at ∙ sym (mod-eq_of_lt (zeros_below 32 w l some))) ∙ sym e
 
-    pub found_here : {b : Bool} → b ≡ provides (plugin_at m (at % places)) q → b ≡ true → At at ≡ first_among places m w q 0
-    found_here e y = sym (whole w ∙ lowest_first 32 w 0 l some (own e ∙ y) ∙ ap At (zero-add at))
+    pub found_here : {b : Bool} → b ≡ provides (plugin_at m (at % places)) q → b ≡ true → Some at ≡ first_among places m w q 0
+    found_here e y = sym (whole w ∙ lowest_first 32 w 0 l some (own e ∙ y) ∙ ap Some (zero-add at))
 
     pub found_next : {b : Bool} → b ≡ provides (plugin_at m (at % places)) q → b ≡ false → first_among places m w q 0 ≡ first_among places m (without w) q 0
     found_next e n = whole w ∙ lowest_goes 32 w 0 l some (own e ∙ n) ∙ sym (whole (without w))

@@ -1,5 +1,5 @@
 -- An index of the places by the keys that they offer, and a lookup by it.
-use Rattle.std.specs.Prelude.{ℕ, zero, suc, ◌+◌, ◌*◌, ◌/◌, ◌%◌, ◌^◌, ◌&&◌, List, [], ◌∷◌, set, replicate}
+use Rattle.std.specs.Prelude.{ℕ, zero, suc, ◌+◌, ◌*◌, ◌/◌, ◌%◌, ◌^◌, ◌&&◌, List, [], ◌∷◌, set, replicate, Option, Some, None}
 use Rattle.std.specs.Int.Bits.{bit_or, bit_xor}
 use Rattle.rules.specs.Basics.{pick}
 use Rattle.rules.specs.Holds.{provides}
@@ -7,8 +7,6 @@ use Rattle.rules.specs.Ports.{pairs}
 use Rattle.rules_types.specs.declared.Port.{Port}
 use Rattle.memory.specs.Layout.{word, taken, places}
 use Rattle.memory.specs.View.{plugin_at}
-use Rattle.memory.specs.declared.Place.{Place}
-use Rattle.memory.specs.declared.Place.TheVariants.{At, None}
 use Rattle.memory_providers.specs.Providers.{offered_part}
 use Rattle.memory_providers.specs.Words.{is_among}
 
@@ -33,9 +31,9 @@ unfoldable pub index_of : List ℕ → List ℕ
 index_of m = index_from places m (replicate remainders 0) 0
 
 -- the first of n places from i on that is among those of a word and provides the port
-unfoldable pub first_among : ℕ → List ℕ → ℕ → Port → ℕ → Place
+unfoldable pub first_among : ℕ → List ℕ → ℕ → Port → ℕ → Option ℕ
 first_among zero m w q i = None
-first_among (suc n) m w q i = pick (is_among w i && provides (plugin_at m i) q) (At i) (first_among n m w q (i + 1))
+first_among (suc n) m w q i = pick (is_among w i && provides (plugin_at m i) q) (Some i) (first_among n m w q (i + 1))
 
-abbrev pub provider_by : List ℕ → List ℕ → Port → Place
+abbrev pub provider_by : List ℕ → List ℕ → Port → Option ℕ
 provider_by m t q = first_among places m (word t (word_for q.key)) q 0

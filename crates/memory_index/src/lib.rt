@@ -3,15 +3,17 @@
 #![tactic(auto)]
 
 ghost use Rattle.std.specs.Prelude.{◌≡◌, ◌<◌, ◌^◌};
-ghost use Rattle.rules.specs.Holds.{port};
 ghost use Rattle.rules.specs.Ports.{pairs};
 ghost use Rattle.memory.specs.Layout.{places};
-ghost use Rattle.memory_index.specs.Index.{remainders, word_for, noted, index_of, provider_by};
+ghost use Rattle.memory_providers.specs.Providers.{provider_at};
+ghost use Rattle.memory_index.specs.Index.{remainders, word_for, noted, index_of};
+ghost use Rattle.memory_index.specs.Indexed.{Indexed};
 
+use memory::WORDS;
 use memory::layout::PLACES;
-use memory::{Place, WORDS};
+use rules::Port;
 
-pub const REMAINDERS: usize = 64;
+const REMAINDERS: usize = 64;
 
 // The word of a key: its remainder, with that of its quotient, so that keys a power of 2 apart do not share one.
 fn word_for(key: u64) -> usize
@@ -26,27 +28,10 @@ fn note(index: &mut [u32; REMAINDERS], place: usize, ports: &[u64])
     ensures { index.new ≡ noted index.old place (pairs ports.now) }
 {
     let bit: u32 = 1 << place;
-    let mut row = ports.len() / 2;
-    while 0 < row {
-        row -= 1;
+    for row in (0..ports.len() / 2).rev() {
         let at = word_for(ports[row * 2]);
         index[at] = index[at] | bit;
     }
-}
-
-// The index of all places that are taken.
-pub fn index(m: &[u64; WORDS]) -> [u32; REMAINDERS]
-    ensures { result ≡ index_of m.now }
-{
-    let mut index = [0u32; REMAINDERS];
-    let mut i: usize = 0;
-    while i < PLACES {
-        if memory::is_taken(m, i) {
-            note(&mut index, i, memory_providers::offered_words(m, i));
-        }
-        i += 1;
-    }
-    index
 }
 
 // What the type of a word says of it, for a proof. It compiles to nothing.
@@ -56,17 +41,40 @@ fn bounded(word: u32) -> u32
     word
 }
 
-// The first of the places that the index has for the key whose plugin provides the port.
-pub fn provider_by(m: &[u64; WORDS], index: &[u32; REMAINDERS], key: u64, realm: u64) -> Place
-    ensures { result ≡ provider_by m.now index.now (port key realm) }
-{
-    let mut left = bounded(index[word_for(key)]);
-    while left != 0 {
-        let i = u32::trailing_zeros(left) as usize;
-        if memory_providers::provides(m, i, key, realm) {
-            return Place::At(i);
+// An index of a memory's taken places. What a lookup finds by it is what a search of all places finds.
+#[derive(Clone, Copy)]
+pub struct Index<'a> {
+    pub memory: &'a [u64; WORDS],
+    words: [u32; REMAINDERS],
+    ghost finds: { Indexed memory.now words },
+}
+
+impl<'a> Index<'a> {
+    pub fn new(memory: &'a [u64; WORDS]) -> Index<'a>
+        ensures memory { result.memory.now ≡ memory.now }
+        ensures words { result.words ≡ index_of memory.now }
+    {
+        let mut words = [0u32; REMAINDERS];
+        for i in 0..PLACES {
+            if memory::is_taken(memory, i) {
+                note(&mut words, i, memory_providers::offered_words(memory, i));
+            }
         }
-        left = left & (left - 1);
+        Index { memory, words }
     }
-    Place::None
+
+    // The place of the port's provider: the first of those that the index has for the key whose plugin provides it.
+    pub fn provider(&self, port: Port) -> Option<usize>
+        ensures { result ≡ provider_at self.now.memory.now port }
+    {
+        let mut left = bounded(self.words[word_for(port.key)]);
+        while left != 0 {
+            let i = u32::trailing_zeros(left) as usize;
+            if memory_providers::provides(self.memory, i, port) {
+                return Some(i);
+            }
+            left = left & (left - 1);
+        }
+        None
+    }
 }

@@ -3,7 +3,7 @@
 
 ghost use Rattle.std.specs.Prelude.{◌≡◌, ◌%◌, ◌<◌};
 ghost use Rattle.memory.specs.View.{phase_of, root_of, words_at, decoded, life_at};
-ghost use Rattle.memory.specs.Writes.{root_tag, root_revision, root_argument, put_words, encoded, put_life, renewed_at};
+ghost use Rattle.memory.specs.Writes.{put_words, encoded, put_life, renewed_at};
 ghost use Rattle.memory.specs.Layout.{places};
 
 use memory::layout::{PLACE_WORDS, PLACES};
@@ -29,36 +29,6 @@ fn root_of(tag: u64, revision: u64, argument: u64) -> Root
         0 => Root::Unissued,
         1 => Root::Queued(revision, argument),
         _ => Root::Spent,
-    }
-}
-
-fn root_tag(root: Root) -> u64
-    ensures { result ≡ root_tag root }
-{
-    match root {
-        Root::Unissued => 0,
-        Root::Queued(_, _) => 1,
-        Root::Spent => 2,
-    }
-}
-
-fn root_revision(root: Root) -> u64
-    ensures { result ≡ root_revision root }
-{
-    match root {
-        Root::Unissued => 0,
-        Root::Queued(revision, _) => revision,
-        Root::Spent => 0,
-    }
-}
-
-fn root_argument(root: Root) -> u64
-    ensures { result ≡ root_argument root }
-{
-    match root {
-        Root::Unissued => 0,
-        Root::Queued(_, argument) => argument,
-        Root::Spent => 0,
     }
 }
 
@@ -98,32 +68,33 @@ fn store_words(m: &mut [u64; WORDS], place: usize, w: Words)
 pub fn decode(w: Words) -> Life
     ensures { result ≡ decoded w }
 {
-    let phase = phase_of(w.phase);
-    let root = root_of(w.root, w.root_revision, w.root_argument);
     Life {
         revision: w.revision,
         payload: w.payload,
-        phase: phase,
+        phase: phase_of(w.phase),
         retired: w.retired != 0,
         generation: Generation::of(w.generation),
-        root: root,
+        root: root_of(w.root, w.root_revision, w.root_argument),
     }
 }
 
 fn encode(life: Life) -> Words
     ensures { result ≡ encoded life }
 {
-    let phase = life.phase;
-    let root = life.root;
+    let (root, root_revision, root_argument) = match life.root {
+        Root::Unissued => (0, 0, 0),
+        Root::Queued(revision, argument) => (1, revision, argument),
+        Root::Spent => (2, 0, 0),
+    };
     Words {
         revision: life.revision,
         payload: life.payload,
-        phase: phase.number(),
+        phase: life.phase.number(),
         retired: life.retired as u64,
         generation: life.generation.0,
-        root: root_tag(root),
-        root_revision: root_revision(root),
-        root_argument: root_argument(root),
+        root,
+        root_revision,
+        root_argument,
     }
 }
 

@@ -13,22 +13,15 @@ use rules::{Port, limits};
 pub fn some_words(m: &[u64], from: usize, count: usize) -> &[u64]
     ensures { result.now ≡ part m.now from count }
 {
-    let n = m.len();
-    if n < from {
-        return &m[n..n];
-    }
-    if n - from < count {
-        return &m[from..n];
-    }
-    let end = from + count;
-    &m[from..end]
+    let rest = m.get(from..).unwrap_or(&[]);
+    &rest[..count.min(rest.len())]
 }
 
 // A count, up to its limit.
 pub fn at_most(n: usize, limit: usize) -> usize
     ensures { result ≡ min n limit }
 {
-    if n < limit { n } else { limit }
+    n.min(limit)
 }
 
 // The first row of a place.

@@ -1,5 +1,5 @@
 -- What holds once some plugins of a text are written: at the start, and with one plugin more.
-use Rattle.std.specs.Prelude.{ℕ, suc, ◌+◌, ◌≤◌, ◌<◌, ◌≡◌, true, ◌≢◌, ◌⊎◌}
+use Rattle.std.specs.Prelude.{ℕ, suc, ◌+◌, ◌≤◌, ◌<◌, ◌≡◌, true, ◌≢◌, ◌⊎◌, Some}
 use native.Mathlib.Omega.{arith}
 use Rattle.std.proofs.Math.Path.{refl, sym, ap}
 use Rattle.std.proofs.Common.{◌∙◌, subst, inl, inr, ⊎_elim, length-append}
@@ -16,7 +16,6 @@ use Rattle.rules_laws.specs.Laws.Members.{In}
 use Rattle.rules_laws.specs.Laws.Placed.{held_placed, placed_more}
 use Rattle.memory.specs.Layout.{taken, id_at, memory_words, places}
 use Rattle.memory.specs.View.{plugin_at, view}
-use Rattle.memory.specs.declared.Place.TheVariants.{At}
 use Rattle.memory_places.specs.Changes.{free_at}
 use Rattle.memory_places.specs.Placed.{taken_in}
 use Rattle.memory_rows.specs.Dense.{used, Dense, used_is}
@@ -50,7 +49,7 @@ pub record SoFar (domain first next from : ℕ) (done : List Plugin) (m : List �
   pub registry : view m ≡ in_places (record { domain = domain; first = first; next = next; plugins = done })
   pub few : length done ≤ max_plugins
   pub lower : (q : Plugin) → In q done → q.id < from
-  pub free : length done < max_plugins → free_at m ≡ At (length done)
+  pub free : length done < max_plugins → free_at m ≡ Some (length done)
   pub rows : used m ≡ sum_rows done
 
 zeros_size : length zeros ≡ memory_words
@@ -70,11 +69,11 @@ module _ (domain first next : ℕ) where
 
   -- What the registry says of the words: which place is free, who stands in the others, and how many rows are in use.
   module _ (m : List ℕ) (ps : List Plugin) (few : length ps ≤ max_plugins) (e : view m ≡ in_places (said ps)) where
-    free_is : length ps < max_plugins → free_at m ≡ At (length ps)
+    free_is : length ps < max_plugins → free_at m ≡ Some (length ps)
     unfolding free_at view
     free_is l =
         let s : 0 + length ps ≡ length ps = omega arith in
-        free_placed m places 0 ps (ap (λ (r : Registry). r.places) e) l ∙ ap At s
+        free_placed m places 0 ps (ap (λ (r : Registry). r.places) e) l ∙ ap Some s
 
     held_is : plugins (view m) ≡ ps
     held_is = ap plugins e ∙ held_placed max_plugins ps few

@@ -1,5 +1,5 @@
 -- A filled place with any next id: the registry has that id, and is as registration has it beside.
-use Rattle.std.specs.Prelude.{ℕ, ◌+◌, ◌*◌, ◌≤◌, ◌<◌, ◌%◌, ◌≡◌, refl, true, ◌||◌, ◌≢◌, List, [], leb, set}
+use Rattle.std.specs.Prelude.{ℕ, ◌+◌, ◌*◌, ◌≤◌, ◌<◌, ◌%◌, ◌≡◌, refl, true, ◌||◌, ◌≢◌, List, [], leb, set, Some}
 use Rattle.std.proofs.Common.{arith, sym, ◌∙◌, length-set, get_or-set_same, get_or-set_other}
 use Rattle.std.proofs.Math.Path.{ap}
 use Rattle.std.proofs.Math.ListN.{length}
@@ -16,7 +16,6 @@ use Rattle.memory.specs.View.{words_at, decoded, life_at, plugin_at, place_at, p
 use Rattle.memory.specs.Writes.{puts}
 use Rattle.memory.specs.Frames.{plugin_kept, with_life}
 use Rattle.memory.specs.Stores.{kept_frame}
-use Rattle.memory.specs.declared.Place.TheVariants.{At}
 use Rattle.memory_places.specs.Changes.{free_at, occupied_at}
 use Rattle.memory_places.specs.Placed.{places_same}
 use Rattle.memory_rows.specs.Dense.{used, Dense}
@@ -64,7 +63,7 @@ occupied_next m p n =
     rw e (by_test (taken m p || leb places p) (λ t. rw t) (λ f. rw f (set_comm m next_word occupancy_word n _ (omega arith))))
 
 -- The registry gains the newcomer at the lowest free place, and the next id is the one that was written.
-module _ (m : List ℕ) (p : ℕ) (x : Newcomer) (lowest : free_at m ≡ At p) (d : Dense m) (z : Sized m x)
+module _ (m : List ℕ) (p : ℕ) (x : Newcomer) (lowest : free_at m ≡ Some p) (d : Dense m) (z : Sized m x)
     (new : (j : ℕ) → taken m j ≡ true → id_at m j ≢ x.id) where
   abbrev R : ℕ
   R = row_word (used m)

@@ -1,8 +1,7 @@
 -- A plugin is written to the lowest free place, with its rows behind all others: the registry has it there, and the words stay dense.
-use Rattle.std.specs.Prelude.{ℕ, ◌+◌, ◌*◌, ◌≤◌, ◌<◌, ◌≡◌, refl, true, ◌&&◌, ◌≢◌, List, [], ◌∷◌, map, leb, length}
+use Rattle.std.specs.Prelude.{ℕ, ◌+◌, ◌*◌, ◌≤◌, ◌<◌, ◌≡◌, refl, true, ◌&&◌, ◌≢◌, List, [], ◌∷◌, map, leb, length, Option, Some, None}
 use Rattle.std.proofs.Common.{arith, sym, ◌∙◌, leb-true}
 use Rattle.std.proofs.Math.Path.{ap}
-use Rattle.std.proofs.Math.Option.{Option, none, some}
 use Rattle.std.proofs.lemmas.List.{length-map}
 use Rattle.rules.specs.Basics.{is_some, or_else, yes_no}
 use Rattle.rules.specs.Conditions.{lists_short, claims}
@@ -22,7 +21,6 @@ use Rattle.memory.specs.View.{parent_of, plugin_at, place_at, places_from, view}
 use Rattle.memory.specs.Writes.{put_life}
 use Rattle.memory.specs.Frames.{with_life, life_before}
 use Rattle.memory.specs.Stores.{plugin_put, plugin_other}
-use Rattle.memory.specs.declared.Place.TheVariants.{At}
 use Rattle.memory_lists.specs.Listed.{provided_at}
 use Rattle.memory_places.specs.Changes.{free_at}
 use Rattle.memory_places.specs.Free.{free_at_lem}
@@ -59,8 +57,8 @@ newcomer p = record {
 
 -- With its life and its provisions it is the plugin itself.
 pub parent_back : (o : Option ℕ) → parent_of (yes_no (is_some o)) (or_else o 0) ≡ o
-parent_back none = refl
-parent_back (some x) = refl
+parent_back None = refl
+parent_back (Some x) = refl
 
 whole_plugin : (p : Plugin) → with_provisions p.provisions (with_life (new_plugin_of (newcomer p)) (life_of p)) ≡ p
 whole_plugin p = λ x. record {
@@ -97,7 +95,7 @@ short_few p short =
     let b = both z d a.0 in
     record { realms = leb-true _ _ b.0; dependencies = leb-true _ _ b.1; provisions = leb-true _ _ a.1 }
 
-module _ (m : List ℕ) (i next : ℕ) (p : Plugin) (dense : Dense m) (lowest : free_at m ≡ At i) (short : lists_short p ≡ true)
+module _ (m : List ℕ) (i next : ℕ) (p : Plugin) (dense : Dense m) (lowest : free_at m ≡ Some i) (short : lists_short p ≡ true)
     (room : used m + rows_of p ≤ max_rows) (new : (j : ℕ) → taken m j ≡ true → id_at m j ≢ p.id) where
   h : i < places
   h = (free_at_lem m i lowest).below
@@ -133,7 +131,7 @@ module _ (m : List ℕ) (i next : ℕ) (p : Plugin) (dense : Dense m) (lowest : 
   unfolding view
   places₁ = ap (λ r. r.places) view₁
 
-  place₁ : place_at m₁ i ≡ some (new_plugin_of (newcomer p))
+  place₁ : place_at m₁ i ≡ Some (new_plugin_of (newcomer p))
   unfolding free_at
   place₁ = here_from m m₁ i (new_plugin_of (newcomer p)) places 0 lowest places₁
 
@@ -169,8 +167,8 @@ module _ (m : List ℕ) (i next : ℕ) (p : Plugin) (dense : Dense m) (lowest : 
   taken₃ : (j : ℕ) → taken m₃ j ≡ taken m₁ j
   taken₃ j = put_taken m₂ i h dense₂.size (mask_of p.provisions) (values_of p.provisions) j ∙ taken₂ j
 
-  place₃ : place_at m₃ i ≡ some p
-  place₃ = taken_place m₃ i (taken₃ i ∙ place_taken m₁ i (new_plugin_of (newcomer p)) place₁) ∙ ap some plugin₃
+  place₃ : place_at m₃ i ≡ Some p
+  place₃ = taken_place m₃ i (taken₃ i ∙ place_taken m₁ i (new_plugin_of (newcomer p)) place₁) ∙ ap Some plugin₃
 
   -- any other place
   apart₃ : (j : ℕ) → j < places → j ≢ i → place_at m₃ j ≡ place_at m₁ j

@@ -1,11 +1,11 @@
 -- One turn of the loops over the places.
+use Rattle.std.specs.Prelude.{Some}
 use Prim.Native.Nat.{ℕ, suc, ◌+◌, ◌-◌, ◌*◌, ◌/◌, ◌%◌, ◌^◌, ◌<◌, ◌≤◌}
 use native.Mathlib.Nat.{mod-eq_of_lt}
 use native.Mathlib.Omega.{arith}
 use mathlib.Core.Path.{◌≡◌, refl, sym, ap, ◌∙◌}
 use mathlib.Core.Bool.{true, false, ◌&&◌, and-false}
 use mathlib.Core.List.{List}
-use mathlib.Core.Option.{some}
 use lib.Dec.{eqb, ltb, leb, lit<}
 use lib.Pow.{shr-shr}
 use borrow.Author.Tests.{lt-ltb, le-ltb, lt-leb, le-leb, eq-eqb, ne_eqb, eqb-true, eqb-false}
@@ -95,7 +95,7 @@ id_next number m i x r h t s e =
       t.2 ∙ rw (n, e) (lower_next number (places - (i + 1)) m i x),
     )
 
-pub id_end : (number : ℕ) (m : List ℕ) (i x : ℕ) → places ≤ i → Passed number m i x → lower last (lowest_of number places m 0) ≡ some x
+pub id_end : (number : ℕ) (m : List ℕ) (i x : ℕ) → places ≤ i → Passed number m i x → lower last (lowest_of number places m 0) ≡ Some x
 id_end number m i x h t = let s : places - i ≡ 0 = omega arith in t.2 ∙ rw s (ap (lower x) (lowest_none number m i))
 
 -- The id of one place against the lowest so far.

@@ -1,4 +1,5 @@
 -- What the counts of the occupancy word's bits say of the places. The places from i on are the word halved i times.
+use Rattle.std.specs.Prelude.{Option, Some, None}
 use Prim.Native.Nat.{ℕ, zero, suc, ◌+◌, ◌-◌, ◌*◌, ◌/◌, ◌%◌, ◌^◌, ◌<◌, ◌≤◌}
 use native.Mathlib.Nat.{pow-suc, add-zero, zero-add}
 use native.Mathlib.Omega.{arith}
@@ -16,8 +17,6 @@ use Rattle.rules.specs.Holds.{held, count}
 use Rattle.rules_laws.specs.Laws.Tests.{by_test}
 use Rattle.memory.specs.Layout.{occupancy, taken, places, occupancy_word}
 use Rattle.memory.specs.View.{place_at, places_from, view}
-use Rattle.memory.specs.declared.Place.{Place}
-use Rattle.memory.specs.declared.Place.TheVariants.{At, None}
 use Rattle.memory_places.specs.Changes.{free_from, free_at, occupied_at, vacated_at}
 use Rattle.memory_places.specs.Bits.{one_shl, or_free, set_le}
 use Rattle.memory_places.specs.Taken.{taken_below, taken_one, free_zero}
@@ -68,10 +67,10 @@ unfolding count view
 registered_ones m = ap ones (sym (rest_zero m)) ∙ sym (count_ones places m 0 refl)
 
 -- one of the 32, or none
-place_of : ℕ → Place
-place_of p = pick (ltb p places) (At p) None
+place_of : ℕ → Option ℕ
+place_of p = pick (ltb p places) (Some p) None
 
-below : (p : ℕ) → p < places → place_of p ≡ At p
+below : (p : ℕ) → p < places → place_of p ≡ Some p
 unfolding place_of
 below p h = rw (lt-ltb p places h)
 
@@ -107,7 +106,7 @@ unfolding free_at
 free_place_lem m = free_zeros places m 0 refl ∙ ap place_of (zero-add _) ∙ ap (λ x. place_of (count_trailing_zeros 32 ((2 ^ 32 - 1) - x))) (rest_zero m)
 
 module _ (m : List ℕ) (w : ℕ) (e : w ≡ occupancy m) where
-  pub free_below : count_trailing_zeros 32 ((2 ^ 32 - 1) - w) < places → At (count_trailing_zeros 32 ((2 ^ 32 - 1) - w)) ≡ free_at m
+  pub free_below : count_trailing_zeros 32 ((2 ^ 32 - 1) - w) < places → Some (count_trailing_zeros 32 ((2 ^ 32 - 1) - w)) ≡ free_at m
   free_below h = sym (free_place_lem m ∙ ap (λ x. place_of (count_trailing_zeros 32 ((2 ^ 32 - 1) - x))) (sym e) ∙ below _ h)
 
   pub free_none : places ≤ count_trailing_zeros 32 ((2 ^ 32 - 1) - w) → None ≡ free_at m

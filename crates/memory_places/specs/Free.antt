@@ -1,12 +1,11 @@
 -- What the lowest free place says of the places, and of how many plugins there are.
-use Rattle.std.specs.Prelude.{ℕ, zero, suc, ◌+◌, ◌<◌, ◌≤◌, ◌≡◌, refl, Bool, true, false, List, leb, eqb, length}
+use Rattle.std.specs.Prelude.{ℕ, zero, suc, ◌+◌, ◌<◌, ◌≤◌, ◌≡◌, refl, Bool, true, false, List, leb, eqb, length, Some, None}
 use Rattle.std.proofs.Common.{arith, ap}
 use borrow.Author.Tests.{le-leb, eqb-true, eqb-false}
 use Rattle.rules.specs.Holds.{held, count}
 use Rattle.rules_laws.specs.Laws.Tests.{by_test}
 use Rattle.memory.specs.Layout.{taken, places}
 use Rattle.memory.specs.View.{place_at, places_from, view}
-use Rattle.memory.specs.declared.Place.TheVariants.{At, None}
 use Rattle.memory_places.specs.Changes.{free_from, free_at}
 
 -- p is the lowest free one of the places from i on, below e
@@ -16,12 +15,12 @@ pub record Lowest (m : List ℕ) (i e p : ℕ) : Type 0 where
   pub free : taken m p ≡ false
   pub others : (j : ℕ) → i ≤ j → j < p → taken m j ≡ true
 
-pub free_lowest : (n : ℕ) (m : List ℕ) (i p : ℕ) → free_from n m i ≡ At p → Lowest m i (i + n) p
+pub free_lowest : (n : ℕ) (m : List ℕ) (i p : ℕ) → free_from n m i ≡ Some p → Lowest m i (i + n) p
 unfolding free_from
 free_lowest zero m i p e = let z : ◌≡◌ {A = ℕ} 0 1 = cc in absurd (omega arith)
 free_lowest (suc n) m i p e = go (taken m i) refl (free_lowest n m (i + 1) p)
   where
-    go : (b : Bool) → taken m i ≡ b → (free_from n m (i + 1) ≡ At p → Lowest m (i + 1) (i + 1 + n) p) → Lowest m i (i + suc n) p
+    go : (b : Bool) → taken m i ≡ b → (free_from n m (i + 1) ≡ Some p → Lowest m (i + 1) (i + 1 + n) p) → Lowest m i (i + suc n) p
     go true t ih =
         let r : Lowest m (i + 1) (i + 1 + n) p = ih (rw t at e) in
         record {
@@ -50,7 +49,7 @@ pub record LowestFree (m : List ℕ) (p : ℕ) : Type 0 where
   pub others : (i : ℕ) → i < p → taken m i ≡ true
 
 module _ (m : List ℕ) where
-  pub free_at_lem : (p : ℕ) → free_at m ≡ At p → LowestFree m p
+  pub free_at_lem : (p : ℕ) → free_at m ≡ Some p → LowestFree m p
   unfolding free_at
   free_at_lem p e =
       let l = free_lowest places m 0 p e in

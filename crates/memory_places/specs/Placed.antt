@@ -2,8 +2,7 @@
 use Prim.Native.Nat.{ℕ, zero, suc, ◌+◌, ◌<◌, ◌≤◌}
 use Rattle.std.proofs.Common.{arith, ◌∙◌, inl, inr, map-id}
 use Rattle.std.proofs.Math.Path.{◌≡◌}
-use Rattle.std.specs.Prelude.{refl, ◌≢◌, true, false, List, map, eqb}
-use Rattle.std.proofs.Math.Option.{Option, none, some}
+use Rattle.std.specs.Prelude.{refl, ◌≢◌, true, false, List, map, eqb, Option, Some, None}
 use borrow.Author.Tests.{eq-eqb, ne_eqb, eqb-true, eqb-false}
 use Rattle.rules.specs.Holds.{Plugin, held, plugins}
 use Rattle.rules.specs.Outcomes.{at_lowest_free, freed_at}
@@ -12,7 +11,6 @@ use Rattle.rules_laws.specs.Laws.Members.{In}
 use Rattle.memory.specs.Layout.{taken, id_at, places}
 use Rattle.memory.specs.View.{plugin_at, place_at, places_from, view}
 use Rattle.memory.specs.Stores.{Alone}
-use Rattle.memory.specs.declared.Place.TheVariants.{At}
 use Rattle.memory_places.specs.Changes.{free_from, free_at}
 use Rattle.memory_places.specs.Free.{free_lowest}
 use Rattle.memory_places.specs.Taken.{taken_below}
@@ -45,16 +43,16 @@ unfolding view
 taken_in m j t = taken_from places m 0 j (omega arith) (taken_below m j t) t
 
 -- A plugin goes to the lowest free place.
-pub taken_place : (m : List ℕ) (i : ℕ) → taken m i ≡ true → place_at m i ≡ some (plugin_at m i)
+pub taken_place : (m : List ℕ) (i : ℕ) → taken m i ≡ true → place_at m i ≡ Some (plugin_at m i)
 unfolding place_at
 taken_place m i t = rw t
 
-pub free_place_lem : (m : List ℕ) (i : ℕ) → taken m i ≡ false → place_at m i ≡ none
+pub free_place_lem : (m : List ℕ) (i : ℕ) → taken m i ≡ false → place_at m i ≡ None
 unfolding place_at
 free_place_lem m i f = rw f
 
-module _ (m m' : List ℕ) (p : ℕ) (q : Plugin) (here : place_at m' p ≡ some q) where
-  add_from : (n i : ℕ) → free_from n m i ≡ At p → ((j : ℕ) → i ≤ j → j < i + n → j ≢ p → place_at m' j ≡ place_at m j)
+module _ (m m' : List ℕ) (p : ℕ) (q : Plugin) (here : place_at m' p ≡ Some q) where
+  add_from : (n i : ℕ) → free_from n m i ≡ Some p → ((j : ℕ) → i ≤ j → j < i + n → j ≢ p → place_at m' j ≡ place_at m j)
       → places_from n m' i ≡ at_lowest_free q (places_from n m i)
   unfolding free_from places_from
   add_from zero i e same = let z : ◌≡◌ {A = ℕ} 0 1 = cc in absurd (omega arith)
@@ -67,16 +65,16 @@ module _ (m m' : List ℕ) (p : ℕ) (q : Plugin) (here : place_at m' p ≡ some
       rw (s, taken_place m i t, r))
       (λ f. let x : i ≡ p = cc (rw f at e) in
       let r = places_same m m' n (i + 1) (λ j a b. same j (omega arith) (omega arith) (λ y. omega arith)) in
-      let s : place_at m' i ≡ some q = rw x here in
+      let s : place_at m' i ≡ Some q = rw x here in
       rw (s, free_place_lem m i f, r))
 
-  pub places_added : free_at m ≡ At p → ((j : ℕ) → j < places → j ≢ p → place_at m' j ≡ place_at m j)
+  pub places_added : free_at m ≡ Some p → ((j : ℕ) → j < places → j ≢ p → place_at m' j ≡ place_at m j)
       → places_from places m' 0 ≡ at_lowest_free q (places_from places m 0)
   unfolding free_at
   places_added e same = add_from places 0 e (λ j a b n. same j b n)
 
 -- A plugin's place is freed.
-module _ (m m' : List ℕ) (p : ℕ) (alone : Alone m) (there : taken m p ≡ true) (gone : place_at m' p ≡ none)
+module _ (m m' : List ℕ) (p : ℕ) (alone : Alone m) (there : taken m p ≡ true) (gone : place_at m' p ≡ None)
     (same : (j : ℕ) → j < places → j ≢ p → place_at m' j ≡ place_at m j) where
   freed_one : (j : ℕ) → j < places → place_at m' j ≡ freed_at (id_at m p) (place_at m j)
   unfolding place_at plugin_at

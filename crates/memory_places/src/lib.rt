@@ -6,7 +6,7 @@ ghost use Rattle.rules.specs.Holds.{count, rows_in_use};
 ghost use Rattle.rules.specs.Outcomes.{answer_of};
 ghost use Rattle.rules.specs.Queries.{id_from};
 ghost use Rattle.rules.specs.Limits.{max_plugin_rows};
-ghost use Rattle.rules.specs.Answers.{option_of, option_answer};
+ghost use Rattle.rules.specs.Answers.{option_answer};
 ghost use Rattle.memory.specs.Layout.{occupancy, id_at, places};
 ghost use Rattle.memory.specs.View.{view};
 ghost use Rattle.memory_places.specs.Changes.{free_at, occupied_at, vacated_at};
@@ -14,8 +14,7 @@ ghost use Rattle.memory_places.specs.Rows.{rows_by, rows_from};
 ghost use Rattle.memory_places.specs.Lowest.{lower_at, last_of};
 
 use memory::layout::PLACES;
-use memory::{Place, WORDS, layout};
-use rules::Optional;
+use memory::{WORDS, layout};
 
 // How many plugins are registered.
 pub fn registered(m: &[u64; WORDS]) -> u64
@@ -25,15 +24,11 @@ pub fn registered(m: &[u64; WORDS]) -> u64
 }
 
 // The lowest free place.
-pub fn lowest_free(m: &[u64; WORDS]) -> Place
+pub fn lowest_free(m: &[u64; WORDS]) -> Option<usize>
     ensures { result ≡ free_at m.now }
 {
     let place = u32::trailing_zeros(!memory::occupied(m)) as usize;
-    if place < PLACES {
-        Place::At(place)
-    } else {
-        Place::None
-    }
+    if place < PLACES { Some(place) } else { None }
 }
 
 // The free place is taken.
@@ -87,42 +82,37 @@ fn rows_of_four(m: &[u64; WORDS], place: usize, word: u32) -> usize
 pub fn rows_in_use(m: &[u64; WORDS]) -> usize
     ensures { result ≡ rows_in_use (view m.now) }
 {
-    memory::known(m);
     let mut word = memory::occupied(m);
     let mut total: usize = 0;
-    let mut k: usize = 0;
-    while k < 8 {
+    for k in 0..8 {
         total += rows_of_four(m, k * 4, word);
         word /= 16;
-        k += 1;
     }
     total
 }
 
 // The lowest registered id at or above a number. The last id of all stands for none so far, so it is looked for at the end.
-pub fn id_from(m: &[u64; WORDS], number: u64) -> Optional
+pub fn id_from(m: &[u64; WORDS], number: u64) -> Option<u64>
     ensures { option_answer result ≡ answer_of (id_from (view m.now) number) }
 {
     let mut lowest = u64::MAX;
-    let mut i: usize = 0;
-    while i < PLACES {
+    for i in 0..PLACES {
         lowest = lower(m, i, number, lowest);
-        i += 1;
     }
     if lowest == u64::MAX {
         return last(m);
     }
-    Optional::Is(lowest)
+    Some(lowest)
 }
 
 // The last id of all, if it is registered.
-fn last(m: &[u64; WORDS]) -> Optional
-    ensures { option_of result ≡ last_of m.now }
+fn last(m: &[u64; WORDS]) -> Option<u64>
+    ensures { result ≡ last_of m.now }
 {
-    let Place::At(_) = memory::find(m, u64::MAX) else {
-        return Optional::None;
+    let Some(_) = memory::find(m, u64::MAX) else {
+        return None;
     };
-    Optional::Is(u64::MAX)
+    Some(u64::MAX)
 }
 
 // The id of a taken place, if it is at or above the number and lower than another: that is asked first, as few are. No id is above 2^64 − 1.

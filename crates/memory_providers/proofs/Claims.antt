@@ -1,4 +1,5 @@
 -- Claimed ports against a place's, all at once.
+use Rattle.std.specs.Prelude.{Option}
 use Prim.Native.Nat.{ℕ, ◌+◌, ◌*◌, ◌<◌, ◌%◌}
 use native.Mathlib.Nat.{mod-eq_of_lt}
 use mathlib.Core.Path.{◌≡◌, sym, ap, ◌∙◌}
@@ -13,7 +14,6 @@ use Rattle.rules_laws.specs.Laws.Members.{same_swap}
 use Rattle.memory.specs.Layout.{part, start_at, deps_at, provs_at, memory_words, places, rows_start, row_words}
 use Rattle.memory.specs.View.{plugin_at, places_from, view}
 use Rattle.memory.specs.Lookups.{placed, search_from, search_first}
-use Rattle.memory.specs.declared.Place.{Place}
 use Rattle.memory_providers.specs.declared.KeyBits.{KeyBits}
 use Rattle.memory_providers.specs.Providers.{offered_part, no_bits, key_bits, wanted}
 use Rattle.memory_providers.specs.Claimed.{wanted_is, any_same, offered_is}
@@ -47,7 +47,7 @@ offers_one_lem y m i ws f b h t e g =
     rw t (g ∙ ap (λ l. any f (pairs l)) (e ∙ ap (offered_part m) n))
 
 -- the first place whose plugin provides one of the ports
-abbrev pub one_from : List Port → ℕ → List ℕ → ℕ → Place
+abbrev pub one_from : List Port → ℕ → List ℕ → ℕ → Option ℕ
 one_from qs n m i = search_from (λ (p : Plugin). any (λ q. provides p q) qs) n m i
 
 pub provided_one : (m : List ℕ) (qs : List Port) → any (λ q. is_some (provider (view m) q)) qs ≡ is_some (placed m (one_from qs places m 0))

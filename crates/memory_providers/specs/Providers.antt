@@ -1,5 +1,5 @@
 -- A port's provider, looked for place by place.
-use Rattle.std.specs.Prelude.{ℕ, suc, ◌+◌, ◌*◌, ◌/◌, ◌%◌, ◌<◌, ◌≡◌, Bool, ◌&&◌, List, [], ◌∷◌, length}
+use Rattle.std.specs.Prelude.{ℕ, suc, ◌+◌, ◌*◌, ◌/◌, ◌%◌, ◌<◌, ◌≡◌, Bool, ◌&&◌, List, [], ◌∷◌, length, Option, Some}
 use Rattle.std.proofs.Common.{add-one, mod-eq_of_lt, arith, ◌∙◌, drop-cons}
 use Rattle.std.proofs.Math.Numerals.{add-two}
 use Rattle.std.proofs.Math.Path.{sym, ap}
@@ -12,25 +12,23 @@ use Rattle.memory.specs.View.{life_at, anchor_at, plugin_at, view}
 use Rattle.memory_lists.specs.Listed.{provided_at}
 use Rattle.memory.specs.Lookups.{placed, search_from, search_first, search_found}
 use Rattle.memory.specs.declared.Life.{Life}
-use Rattle.memory.specs.declared.Place.{Place}
-use Rattle.memory.specs.declared.Place.TheVariants.{At}
 use Rattle.memory_providers.specs.declared.KeyBits.{KeyBits}
 use Rattle.ports_bits.specs.Bits.{with_bit, has_bit}
 
 -- the first place whose plugin has the port as provision or anchor
-unfoldable pub provider_at : List ℕ → Port → Place
+unfoldable pub provider_at : List ℕ → Port → Option ℕ
 provider_at m q = search_from (λ (p : Plugin). provides p q) places m 0
 
 pub provider_view : (m : List ℕ) (q : Port) → provider (view m) q ≡ placed m (provider_at m q)
 unfolding provider view provider_at
 provider_view m q = search_first (λ (p : Plugin). provides p q) places m 0
 
-pub provider_below : (m : List ℕ) (q : Port) (i : ℕ) → provider_at m q ≡ At i → i < places
+pub provider_below : (m : List ℕ) (q : Port) (i : ℕ) → provider_at m q ≡ Some i → i < places
 unfolding provider_at
 provider_below m q i e = (search_found (λ (p : Plugin). provides p q) places m 0 i e).below
 
 -- where a port's provider stands, and whether it is Active, by the life that was read there
-module _ (m : List ℕ) (q : Port) (x : Place) (e : x ≡ provider_at m q) (i : ℕ) (f : x ≡ At i) where
+module _ (m : List ℕ) (q : Port) (x : Option ℕ) (e : x ≡ provider_at m q) (i : ℕ) (f : x ≡ Some i) where
   pub provider_place : i % places ≡ i
   provider_place = mod-eq_of_lt (provider_below m q i (sym e ∙ f))
 

@@ -9,8 +9,9 @@ ghost use Rattle.memory.specs.Layout.{taken, places};
 ghost use Rattle.memory.specs.View.{plugin_at, view};
 ghost use Rattle.memory_providers.specs.Providers.{provider_at, offered_part, no_bits, key_bits, wanted};
 
+use memory::WORDS;
 use memory::layout::{PLACES, ROW_WORDS, ROWS_START};
-use memory::{Place, WORDS};
+use rules::Port;
 
 // The claimed keys: a bit for each key's remainder by 64, and one for that of its quotient by 64. Two plugins' ports rarely share both.
 #[derive(Clone, Copy)]
@@ -20,43 +21,32 @@ pub struct KeyBits {
 }
 
 // Whether the plugin of a place has the port as provision or anchor.
-pub fn provides(m: &[u64; WORDS], place: usize, key: u64, realm: u64) -> bool
-    ensures { result ≡ provides (plugin_at m.now (place % places)) (port key realm) }
+pub fn provides(m: &[u64; WORDS], place: usize, port: Port) -> bool
+    ensures { result ≡ provides (plugin_at m.now (place % places)) port }
 {
     let anchor = memory_lists::anchor(m, place);
-    if key == anchor.key {
-        let same = realm == anchor.realm;
-        if same {
-            return true;
-        }
-    }
-    ports::has_port(memory_lists::provision_words(m, place), key, realm)
+    let same = port == anchor;
+    same || ports::has_port(memory_lists::provision_words(m, place), port)
 }
 
 // Whether this place is taken and its plugin provides the port.
-fn offers(m: &[u64; WORDS], place: usize, key: u64, realm: u64) -> bool
+fn offers(m: &[u64; WORDS], place: usize, port: Port) -> bool
     requires { place < places }
-    ensures { result ≡ (taken m.now place && provides (plugin_at m.now place) (port key realm)) }
+    ensures { result ≡ (taken m.now place && provides (plugin_at m.now place) port) }
 {
-    if memory::is_taken(m, place) {
-        provides(m, place, key, realm)
-    } else {
-        false
-    }
+    memory::is_taken(m, place) && provides(m, place, port)
 }
 
 // The place of a port's provider.
-pub fn provider(m: &[u64; WORDS], key: u64, realm: u64) -> Place
-    ensures { result ≡ provider_at m.now (port key realm) }
+pub fn provider(m: &[u64; WORDS], port: Port) -> Option<usize>
+    ensures { result ≡ provider_at m.now port }
 {
-    let mut i: usize = 0;
-    while i < PLACES {
-        if offers(m, i, key, realm) {
-            return Place::At(i);
+    for i in 0..PLACES {
+        if offers(m, i, port) {
+            return Some(i);
         }
-        i += 1;
     }
-    Place::None
+    None
 }
 
 // The anchor's words and, right behind it, those of the provisions.
@@ -75,39 +65,37 @@ pub fn key_bits(claims: &[u64]) -> KeyBits
 {
     let mut low: u64 = 0;
     let mut high: u64 = 0;
-    let mut i: usize = 1;
-    while i < claims.len() {
-        let key = claims[i - 1];
-        low = ports_bits::with_bit(low, key);
-        high = ports_bits::with_bit(high, key / 64);
-        i += 2;
+    for port in claims.chunks_exact(2) {
+        low = ports_bits::with_bit(low, port[0]);
+        high = ports_bits::with_bit(high, port[0] / 64);
     }
     KeyBits { low, high }
 }
 
 // Whether a port is claimed; a key that lacks one of its bits is not looked for.
-fn is_claimed(bits: KeyBits, key: u64, realm: u64, claims: &[u64]) -> bool
-    ensures { result ≡ wanted bits (pairs claims.now) (port key realm) }
+fn is_claimed(bits: KeyBits, port: Port, claims: &[u64]) -> bool
+    ensures { result ≡ wanted bits (pairs claims.now) port }
 {
-    if !ports_bits::has_bit(bits.low, key) {
-        return false;
-    }
-    if !ports_bits::has_bit(bits.high, key / 64) {
-        return false;
-    }
-    ports::has_port(claims, key, realm)
+    ports_bits::has_bit(bits.low, port.key)
+        && ports_bits::has_bit(bits.high, port.key / 64)
+        && ports::has_port(claims, port)
 }
 
 // Whether one of the offered ports is claimed.
 pub fn meets(bits: KeyBits, claims: &[u64], offered: &[u64]) -> bool
     ensures { result ≡ any (λ q. wanted bits (pairs claims.now) q) (pairs offered.now) }
 {
-    let mut row: usize = 1;
-    while row < offered.len() {
-        if is_claimed(bits, offered[row - 1], offered[row], claims) {
+    for pair in offered.chunks_exact(2) {
+        if is_claimed(
+            bits,
+            Port {
+                key: pair[0],
+                realm: pair[1],
+            },
+            claims,
+        ) {
             return true;
         }
-        row += 2;
     }
     false
 }
@@ -118,11 +106,7 @@ fn offers_one(m: &[u64; WORDS], place: usize, bits: KeyBits, claims: &[u64]) -> 
     ensures { result ≡ (taken m.now place
         && any (λ q. wanted bits (pairs claims.now) q) (pairs (offered_part m.now place))) }
 {
-    if memory::is_taken(m, place) {
-        meets(bits, claims, offered_words(m, place))
-    } else {
-        false
-    }
+    memory::is_taken(m, place) && meets(bits, claims, offered_words(m, place))
 }
 
 // Whether one of the claimed ports has a provider. Each place's rows are read once, for all claims; where no place is taken, no claim is read.
@@ -132,14 +116,11 @@ pub fn one_provided(m: &[u64; WORDS], claims: &[u64]) -> bool
     if memory::occupied(m) == 0 {
         return false;
     }
-    memory::known(m);
     let bits = key_bits(claims);
-    let mut i: usize = 0;
-    while i < PLACES {
+    for i in 0..PLACES {
         if offers_one(m, i, bits, claims) {
             return true;
         }
-        i += 1;
     }
     false
 }

@@ -1,7 +1,6 @@
 -- A freed place is a removal: of a dense memory, the registry afterwards is the rule's.
-use Rattle.std.specs.Prelude.{ℕ, ◌+◌, ◌*◌, ◌-◌, ◌<◌, ◌≤◌, ◌≡◌, refl, true, ◌≢◌, List, eqb, length}
+use Rattle.std.specs.Prelude.{ℕ, ◌+◌, ◌*◌, ◌-◌, ◌<◌, ◌≤◌, ◌≡◌, refl, true, ◌≢◌, List, eqb, length, Some, None}
 use Rattle.std.proofs.Common.{arith, sym, ap, ◌∙◌, eqb-true}
-use Rattle.std.proofs.Math.Option.{none, some}
 use Rattle.std.proofs.lemmas.Bool.{eqb-false}
 use Rattle.rules.specs.Outcomes.{removes, after}
 use Rattle.rules_laws.specs.Laws.Tests.{by_test}
@@ -103,12 +102,12 @@ module _ (m : List ℕ) (p : ℕ) (there : taken m p ≡ true) (d : Dense m) whe
         ∙ lower_other places m (S + C) C 0 (row_word (start_word m j) + k) (λ i u v. omega arith);
   }
 
-  freed_place_lem : place_at freed p ≡ none
+  freed_place_lem : place_at freed p ≡ None
   freed_place_lem = free_place_lem freed p freed_removes.gone
 
   other_place : (j : ℕ) → j ≢ p → place_at freed j ≡ place_at m j
   other_place j n = by_test (taken m j)
-      (λ t. taken_place freed j (freed_removes.kept j n ∙ t) ∙ ap some (removed_plugin m freed p there d freed_removes j n t) ∙ sym (taken_place m j t))
+      (λ t. taken_place freed j (freed_removes.kept j n ∙ t) ∙ ap Some (removed_plugin m freed p there d freed_removes j n t) ∙ sym (taken_place m j t))
       (λ f. free_place_lem freed j (freed_removes.kept j n ∙ f) ∙ sym (free_place_lem m j f))
 
   header : (k : ℕ) → k < 3 → word freed k ≡ word m k

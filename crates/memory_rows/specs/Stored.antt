@@ -1,8 +1,8 @@
 -- Of dense words, the registry after one plugin is changed where it stands is the rules', and the words are dense again.
-use Rattle.std.specs.Prelude.{ℕ, ◌+◌, ◌*◌, ◌<◌, ◌≡◌, refl, ◌≢◌, true, List, [], eqb, length}
+use Rattle.std.specs.Prelude.{ℕ, ◌+◌, ◌*◌, ◌<◌, ◌≡◌, refl, ◌≢◌, true, List, [], eqb, length, Option, Some, None}
 use Rattle.std.proofs.Common.{arith, sym, ap, ◌∙◌, subst, eq-eqb, ne_eqb, eqb-true}
 use Rattle.std.proofs.Math.Path.{subst⁻¹}
-use Rattle.std.proofs.Math.Option.{some, none-ne-some, some-injective}
+use Rattle.std.proofs.lemmas.Option.{none-some, same_Some}
 use Rattle.std.proofs.lemmas.Bool.{eqb-false}
 use Rattle.rules.specs.Basics.{pick}
 use Rattle.rules.specs.Holds.{Plugin, lookup}
@@ -22,8 +22,6 @@ use Rattle.memory.specs.Frames.{with_life, OnlyLife, life_only}
 use Rattle.memory.specs.Stores.{Alone}
 use Rattle.memory.specs.Known.{at_lookup, at_known, none_lookup, none_known, life_of, stored_life, stored_at_lem, stored_view}
 use Rattle.memory.specs.declared.Life.{Life}
-use Rattle.memory.specs.declared.Place.{Place}
-use Rattle.memory.specs.declared.Place.TheVariants.{At, None}
 use Rattle.memory_places.specs.Placed.{places_map, taken_place, free_place_lem}
 use Rattle.memory_places.specs.Rows.{rows_at}
 use Rattle.memory_rows.specs.Tiles.{share, sum_same}
@@ -106,12 +104,12 @@ module _ (m m' : List ℕ) (i : ℕ) (alone : Alone m) (there : taken m i ≡ tr
 
 -- An operation on the plugin of an id: the words have it, or they don't.
 pub known_elim : (m : List ℕ) (P : Outcome → Type 0) (id : ℕ) (f : Plugin → Outcome) → P (refuses Unknown [])
-    → ((i : ℕ) → find_at m id ≡ At i → P (f (plugin_at m i))) → P (known (view m) id f)
+    → ((i : ℕ) → find_at m id ≡ Some i → P (f (plugin_at m i))) → P (known (view m) id f)
 known_elim m P id f a b = go (find_at m id) refl
   where
-    go : (p : Place) → find_at m id ≡ p → P (known (view m) id f)
+    go : (p : Option ℕ) → find_at m id ≡ p → P (known (view m) id f)
     go None e = subst⁻¹ P (none_known m id e f) a
-    go (At i) e = subst⁻¹ P (at_known m id i e f) (b i e)
+    go (Some i) e = subst⁻¹ P (at_known m id i e f) (b i e)
 
 -- what registration fixed and the values stay: the plugin has another life, no more
 other_life : (p q : Plugin) → Alike p q → q.provisions ≡ p.provisions → q ≡ with_life p (life_of q)
@@ -134,20 +132,20 @@ module _ (m : List ℕ) (d : Dense m) where
   abbrev Stored : Outcome → Type 0
   Stored o = Refines m (stored_life m o) o
 
-  stored_life_lem : (id i : ℕ) → find_at m id ≡ At i → (l : Life) (vs : List ℕ) → Stored (stores (with_life (plugin_at m i) l) vs)
+  stored_life_lem : (id i : ℕ) → find_at m id ≡ Some i → (l : Life) (vs : List ℕ) → Stored (stores (with_life (plugin_at m i) l) vs)
   stored_life_lem id i e l vs = record {
     registry = stored_view m d.size d.alone id i e l vs;
     dense = rw (stored_at_lem m id i e l vs) (life_dense m i l d);
   }
 
   -- a registered plugin with another life
-  stored_alike : (p q : Plugin) (vs : List ℕ) → lookup (view m) q.id ≡ some p → Alike p q → q.provisions ≡ p.provisions → Stored (stores q vs)
+  stored_alike : (p q : Plugin) (vs : List ℕ) → lookup (view m) q.id ≡ Some p → Alike p q → q.provisions ≡ p.provisions → Stored (stores q vs)
   stored_alike p q vs e a v = go (find_at m q.id) refl
     where
-      go : (x : Place) → find_at m q.id ≡ x → Stored (stores q vs)
-      go None f = absurd (none-ne-some p (sym (none_lookup m q.id f) ∙ e))
-      go (At i) f =
-          let s : p ≡ plugin_at m i = some-injective p (plugin_at m i) (sym e ∙ at_lookup m q.id i f) in
+      go : (x : Option ℕ) → find_at m q.id ≡ x → Stored (stores q vs)
+      go None f = absurd (none-some p (sym (none_lookup m q.id f) ∙ e))
+      go (Some i) f =
+          let s : p ≡ plugin_at m i = same_Some p (plugin_at m i) (sym e ∙ at_lookup m q.id i f) in
           subst⁻¹ (λ x. Stored (stores x vs)) (other_life p q a v ∙ ap (λ x. with_life x (life_of q)) s) (stored_life_lem q.id i f (life_of q) vs)
 
   -- Whatever operation stores a life and nothing else.

@@ -32,10 +32,7 @@ fn lower_start(m: &mut [u64; WORDS], place: usize, end: usize, count: usize, las
     m[at] = (start - count) as u64;
     if memory::is_taken(m, place) {
         if last.start < start {
-            return Last {
-                place: place,
-                start: start,
-            };
+            return Last { place, start };
         }
     }
     last
@@ -48,10 +45,8 @@ fn lower_starts(m: &mut [u64; WORDS], end: usize, count: usize, first: Last) -> 
     ensures { (m.new ≡ lower_from places m.old end count 0) × (result ≡ last_from places m.old end 0 first) }
 {
     let mut last = first;
-    let mut i: usize = 0;
-    while i < PLACES {
+    for i in 0..PLACES {
         last = lower_start(m, i, end, count, last);
-        i += 1;
     }
     last
 }
@@ -66,10 +61,8 @@ fn close_gap(m: &mut [u64; WORDS], start: usize, count: usize, end: usize)
     }
     let k = count * ROW_WORDS;
     let stop = (end - count) * ROW_WORDS + ROWS_START;
-    let mut j = start * ROW_WORDS + ROWS_START;
-    while j < stop {
+    for j in start * ROW_WORDS + ROWS_START..stop {
         m[j] = m[j + k];
-        j += 1;
     }
 }
 
@@ -88,10 +81,7 @@ pub fn free_place(m: &mut [u64; WORDS], place: usize)
     if memory::is_taken(m, p) {
         let start = memory_lists::start(m, p);
         let count = rows_of(m, p);
-        let first = Last {
-            place: p,
-            start: start,
-        };
+        let first = Last { place: p, start };
         let last = lower_starts(m, start + count, count, first);
         if last.place != p {
             let end = last.start % limits::ROWS + rows_of(m, last.place);

@@ -1,4 +1,5 @@
 -- The steps of the functions: tests of a bit, of a port, of a provision.
+use Rattle.std.specs.Prelude.{Option, Some, None}
 use Prim.Native.Nat.{ℕ, zero, suc, ◌+◌, ◌-◌, ◌*◌, ◌/◌, ◌%◌, ◌^◌, ◌≤◌, ◌<◌}
 use native.Mathlib.Nat.{mod-eq_of_lt, one-mul, pow-suc, add-zero, zero-add, mod-lt}
 use native.Mathlib.Numerals.{add-one}
@@ -6,7 +7,6 @@ use native.Mathlib.Omega.{arith}
 use mathlib.Core.Path.{◌≡◌, sym, ap, ◌∙◌}
 use mathlib.Core.Bool.{Bool, true, false}
 use mathlib.Core.List.{List, [], ◌∷◌}
-use mathlib.Core.Option.{none, some}
 use lib.Bits.{bit_or}
 use lib.Count.{count_trailing_zeros, under}
 use lib.Dec.{eqb, ltb}
@@ -25,8 +25,6 @@ use Rattle.memory.specs.Layout.{word, prov_part, place_words, mask_word, values_
 use Rattle.memory.specs.View.{value_at, valued, plugin_at}
 use Rattle.memory_places.specs.Bits.{or_free}
 use Rattle.ports.specs.Places.{length_pairs}
-use Rattle.ports.specs.declared.Found.{Found}
-use Rattle.ports.specs.declared.Found.TheVariants.{At, None}
 use Rattle.memory_values.specs.Values.{mask_at, mask_bit, port_from, lack_from, with_value, has_value, value_below, with_value_below, value_below_lem}
 use Rattle.memory_values.specs.Values.{with_value_below_lem}
 use Rattle.memory_values.specs.Firsts.{provisions_at, few_words, port_below, value_there, value_nowhere}
@@ -53,14 +51,14 @@ module _ (m : List ℕ) (i j : ℕ) (b : Bool) (e : b ≡ has_value m i j) where
   pub value_under : b ≡ true → j < max_provision_keys
   value_under t = ltb-true j max_provision_keys (there t).0
 
-  pub value_is : b ≡ true → some (word m (i * place_words + values_word + j)) ≡ value_below m i j
+  pub value_is : b ≡ true → Some (word m (i * place_words + values_word + j)) ≡ value_below m i j
   unfolding value_at value_below
   value_is t = rw ((there t).0, (there t).1)
 
   lacking : b ≡ false → j < max_provision_keys → eqb (mask_bit m i j) 1 ≡ false
   lacking f h = below_has m i j h ∙ sym e ∙ f
 
-  pub value_not : b ≡ false → none ≡ value_below m i j
+  pub value_not : b ≡ false → None ≡ value_below m i j
   unfolding value_at value_below
   value_not f = by_test (ltb j max_provision_keys) (λ y. rw (y, lacking f (ltb-true j max_provision_keys y))) (λ n. rw n)
 
@@ -81,7 +79,7 @@ module _ (m : List ℕ) (i j : ℕ) (b : Bool) (e : b ≡ has_value m i j) where
 
 -- a list that starts with p
 module _ {l ps : List Port} {p : Port} (s : l ≡ p ∷ ps) where
-  pub port_hit : (k : ℕ) (q : Port) → p.key ≡ q.key → p.realm ≡ q.realm → port_from k q l ≡ At k
+  pub port_hit : (k : ℕ) (q : Port) → p.key ≡ q.key → p.realm ≡ q.realm → port_from k q l ≡ Some k
   unfolding port_from
   port_hit k q e f = rw (s, eq-eqb q.key p.key (sym e), eq-eqb q.realm p.realm (sym f))
 
@@ -109,8 +107,8 @@ zeros_step n w =
     odd k s x e h = omega arith
 
 -- a place below n, or none
-below : ℕ → ℕ → Found
-below n j = pick (ltb j n) (At j) None
+below : ℕ → ℕ → Option ℕ
+below n j = pick (ltb j n) (Some j) None
 
 -- the provisions from k on, by the low n digits of the mask halved k times
 lack_zeros : (m : List ℕ) (i n k : ℕ) (ps : List Port) → length ps ≤ n
@@ -149,7 +147,7 @@ module _ (m : List ℕ) (i : ℕ) (ws : List ℕ) (e : ws ≡ prov_part m i) whe
       ∙ ap (λ x. below (length ws / 2) (count_trailing_zeros 32 ((2 ^ 32 - 1) - x % 2 ^ 32))) w
 
   pub lack_here : count_trailing_zeros 32 ((2 ^ 32 - 1) - mask_at m i % 2 ^ 32) < length ws / 2
-      → At (count_trailing_zeros 32 ((2 ^ 32 - 1) - mask_at m i % 2 ^ 32)) ≡ lack_from 0 (plugin_at m i).provisions
+      → Some (count_trailing_zeros 32 ((2 ^ 32 - 1) - mask_at m i % 2 ^ 32)) ≡ lack_from 0 (plugin_at m i).provisions
   unfolding below
   lack_here h = sym (lack_place ∙ rw (lt-ltb (count_trailing_zeros 32 ((2 ^ 32 - 1) - mask_at m i % 2 ^ 32)) (length ws / 2) h))
 
@@ -158,14 +156,14 @@ module _ (m : List ℕ) (i : ℕ) (ws : List ℕ) (e : ws ≡ prov_part m i) whe
   lack_none h = sym (lack_place ∙ rw (le-ltb (count_trailing_zeros 32 ((2 ^ 32 - 1) - mask_at m i % 2 ^ 32)) (length ws / 2) h))
 
 -- a port's place among the provisions is below 15
-module _ (m : List ℕ) (i : ℕ) (q : Port) (ws : List ℕ) (w : ws ≡ prov_part m i) (f : Found) (e : f ≡ port_from 0 q (pairs ws)) where
+module _ (m : List ℕ) (i : ℕ) (q : Port) (ws : List ℕ) (w : ws ≡ prov_part m i) (f : Option ℕ) (e : f ≡ port_from 0 q (pairs ws)) where
   found : f ≡ port_from 0 q (pairs (prov_part m i))
   found = e ∙ ap (λ l. port_from 0 q (pairs l)) w
 
-  pub no_value : f ≡ None → none ≡ value_in q (plugin_at m i).provisions
+  pub no_value : f ≡ None → None ≡ value_in q (plugin_at m i).provisions
   no_value n = sym (ap (value_in q) (provisions_at m i) ∙ value_nowhere m i q (pairs (prov_part m i)) (sym found ∙ n))
 
-  pub its_value : (j : ℕ) → f ≡ At j → value_below m i j ≡ value_in q (plugin_at m i).provisions
+  pub its_value : (j : ℕ) → f ≡ Some j → value_below m i j ≡ value_in q (plugin_at m i).provisions
   its_value j n =
       let e = sym found ∙ n in
       value_below_lem m i j (port_below m i q j e) ∙ sym (ap (value_in q) (provisions_at m i) ∙ value_there m i q (pairs (prov_part m i)) j e)

@@ -1,10 +1,9 @@
 -- What the words say of the plugins once a value is set, or all of a place's are dropped.
-use Rattle.std.specs.Prelude.{ℕ, ◌+◌, ◌*◌, ◌^◌, ◌≤◌, ◌<◌, ◌%◌, min, ◌≡◌, ◌≢◌, false, eqb, length, set}
+use Rattle.std.specs.Prelude.{ℕ, ◌+◌, ◌*◌, ◌^◌, ◌≤◌, ◌<◌, ◌%◌, min, ◌≡◌, ◌≢◌, false, eqb, length, set, Some, None}
 use Rattle.std.proofs.Math.Nat.{zero-div}
 use Rattle.std.proofs.Common.{arith, sym, ◌∙◌, length-set, get_or-set_same}
 use Rattle.std.proofs.Math.Path.{refl, ap}
 use mathlib.Core.List.{List, [], ◌∷◌, map}
-use Rattle.std.proofs.Math.Option.{none, some}
 use Rattle.std.proofs.Math.Seq.{get_or-set_other}
 use borrow.Author.Tests.{eq-eqb, ne_eqb, eqb-true, eqb-false}
 use Rattle.rules.specs.Basics.{pick}
@@ -26,7 +25,6 @@ use Rattle.memory.specs.Frames.{part_same, plugin_kept, with_life}
 use Rattle.memory.specs.Stores.{kept_frame}
 use Rattle.memory_lists.specs.Listed.{provided_at}
 use Rattle.memory_places.specs.Bits.{set_there, set_others}
-use Rattle.ports.specs.declared.Found.TheVariants.{At}
 use Rattle.memory_values.specs.Values.{mask_at, mask_bit, masked, port_from, with_value}
 use Rattle.memory_values.specs.Firsts.{port_least}
 
@@ -133,7 +131,7 @@ module _ (m m' : List ℕ) (i : ℕ) (h : i < places) (l : length m ≡ memory_w
 -- The provisions with a value at place j, counted from k.
 unfoldable pub given_at : ℕ → ℕ → ℕ → List Provision → List Provision
 given_at j v k [] = []
-given_at j v k (w ∷ ws) = record { port = w.port; value = pick (eqb k j) (some v) w.value } ∷ given_at j v (k + 1) ws
+given_at j v k (w ∷ ws) = record { port = w.port; value = pick (eqb k j) (Some v) w.value } ∷ given_at j v (k + 1) ws
 
 given_past : (j v k : ℕ) (ws : List Provision) → j < k → given_at j v k ws ≡ ws
 unfolding given_at
@@ -154,7 +152,7 @@ not_offered q v (w ∷ ws) e =
     rw (n.0, r)
 
 -- Of distinct ports, the one at place j is the only one offered.
-given_offered : (q : Port) (j v k : ℕ) (ws : List Provision) → repeats (ports_of ws) ≡ false → port_from k q (ports_of ws) ≡ At j
+given_offered : (q : Port) (j v k : ℕ) (ws : List Provision) → repeats (ports_of ws) ≡ false → port_from k q (ports_of ws) ≡ Some j
     → given_at j v k ws ≡ map (offered q v) ws
 unfolding given_at port_from
 given_offered q j v k [] d e = refl
@@ -166,15 +164,15 @@ given_offered q j v k (w ∷ ws) d e =
     let y : is_in q (ports_of ws) ≡ false = ap (λ (p : Port). is_in p (ports_of ws)) (sym (same_port_lem q w.port t)) ∙ n.0 in
     let z = given_past j v (k + 1) ws (omega arith) ∙ sym (not_offered q v ws y) in
     rw (t, eq-eqb k j x, z))
-    (λ f. let g : port_from (k + 1) q (ports_of ws) ≡ At j = rw f at e in
+    (λ f. let g : port_from (k + 1) q (ports_of ws) ≡ Some j = rw f at e in
     let x = ne_eqb k j (λ y. omega (arith, port_least (k + 1) q (ports_of ws) j g)) in
     rw (f, x, r g))
 
 -- The bit of a value that is none is 0.
-pub none_free : (m : List ℕ) (i j : ℕ) → value_at m i j ≡ none → mask_bit m i j ≡ 0
+pub none_free : (m : List ℕ) (i j : ℕ) → value_at m i j ≡ None → mask_bit m i j ≡ 0
 unfolding value_at
 none_free m i j e = by_test (eqb (mask_bit m i j) 1)
-    (λ t. let z : some (word m (i * place_words + values_word + j)) ≡ none = rw t at e in cc)
+    (λ t. let z : Some (word m (i * place_words + values_word + j)) ≡ None = rw t at e in cc)
     (λ f. let n = eqb-false (mask_bit m i j) 1 f in omega arith)
 
 -- A value is set. On any words, there are as many afterwards.
@@ -220,7 +218,7 @@ module _ (m : List ℕ) (i j v : ℕ) (h : i < places) (size : length m ≡ memo
         (get_or-set_other (masked m i j) (i * place_words + values_word + j) (i * place_words + values_word + k) v 0 (λ e. n (omega arith))
         ∙ get_or-set_other m (i * place_words + mask_word) (i * place_words + values_word + k) (mask_at m i + 2 ^ j) 0 (λ e. omega arith))
 
-    pub set_here : value_at (with_value m i j v) i j ≡ some v
+    pub set_here : value_at (with_value m i j v) i j ≡ Some v
     unfolding value_at
     set_here = rw (new_mask, set_there j (mask_at m i) free, new_value)
 
@@ -234,14 +232,14 @@ module _ (m : List ℕ) (i j v : ℕ) (h : i < places) (size : length m ≡ memo
     set_valued k (p ∷ ps) =
         let r = set_valued (k + 1) ps in
         by_test (eqb k j)
-        (λ t. let e = eqb-true k j t in let x : value_at (with_value m i j v) i k ≡ some v = rw e set_here in rw (x, t, r))
+        (λ t. let e = eqb-true k j t in let x : value_at (with_value m i j v) i k ≡ Some v = rw e set_here in rw (x, t, r))
         (λ f. rw (set_other k (eqb-false k j f), f, r))
 
     pub set_plugin : plugin_at (with_value m i j v) i ≡ with_provisions (given_at j v 0 (plugin_at m i).provisions) (plugin_at m i)
     set_plugin = provisions_stay m (with_value m i j v) i h size set_size set_words (given_at j v 0) (set_valued 0 (pairs (prov_part m i)))
 
     -- the port's place, where the plugin's ports are distinct
-    pub set_offered : (q : Port) → repeats (pairs (prov_part m i)) ≡ false → port_from 0 q (pairs (prov_part m i)) ≡ At j
+    pub set_offered : (q : Port) → repeats (pairs (prov_part m i)) ≡ false → port_from 0 q (pairs (prov_part m i)) ≡ Some j
         → plugin_at (with_value m i j v) i ≡ with_provisions (map (offered q v) (plugin_at m i).provisions) (plugin_at m i)
     set_offered q d e =
         let s = provided_at m i in
@@ -265,7 +263,7 @@ module _ (m : List ℕ) (i : ℕ) (h : i < places) (size : length m ≡ memory_w
   pub drop_elsewhere : (k : ℕ) → k < places → k ≢ i → plugin_at (set m (i * place_words + mask_word) 0) k ≡ plugin_at m k
   drop_elsewhere k u d = others_stay m (set m (i * place_words + mask_word) 0) i h size drop_size drop_words k u d
 
-  pub drop_value : (k : ℕ) → value_at (set m (i * place_words + mask_word) 0) i k ≡ none
+  pub drop_value : (k : ℕ) → value_at (set m (i * place_words + mask_word) 0) i k ≡ None
   unfolding value_at
   drop_value k = rw (get_or-set_same m (i * place_words + mask_word) 0 0 (omega arith), zero-div (2 ^ k))
 

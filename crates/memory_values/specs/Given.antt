@@ -1,9 +1,8 @@
 -- A place's values put all at once: its provisions then have the values whose mask and numbers were put, and all else reads as before.
-use Rattle.std.specs.Prelude.{ℕ, suc, ◌+◌, ◌*◌, ◌/◌, ◌%◌, ◌^◌, ◌≤◌, ◌<◌, ◌≡◌, refl, ◌≢◌, Bool, true, false, List, [], ◌∷◌, ◌++◌, map, length, get_or, set}
+use Rattle.std.specs.Prelude.{ℕ, suc, ◌+◌, ◌*◌, ◌/◌, ◌%◌, ◌^◌, ◌≤◌, ◌<◌, ◌≡◌, refl, ◌≢◌, Bool, true, false, List, [], ◌∷◌, ◌++◌, map, length, get_or, set, Option, Some, None}
 use Rattle.std.proofs.Common.{pow-suc, sym, ap, ◌∙◌, length-take, shr-shr, get_or-set_other}
 use native.Mathlib.Omega.{arith}
 use Rattle.std.proofs.lemmas.List.{map-append, length-map}
-use Rattle.std.proofs.Math.Option.{Option, none, some}
 use Rattle.std.proofs.Math.ListN.{take, length-set}
 use Rattle.std.proofs.Math.Seq.{get_or-set_same, take_all}
 use Rattle.rules.specs.Basics.{is_some, or_else, yes_no}
@@ -26,11 +25,11 @@ pub mask_below : (vs : List Provision) → mask_of vs < 2 ^ length vs
 mask_below [] = omega arith
 mask_below (v ∷ vs) = omega (arith, at_most_one (is_some v.value), mask_below vs, pow-suc 2 (length vs))
 
-pub mask_none : (vs : List Provision) (q : Port) → mask_of (vs ++ record { port = q; value = none } ∷ []) ≡ mask_of vs
+pub mask_none : (vs : List Provision) (q : Port) → mask_of (vs ++ record { port = q; value = None } ∷ []) ≡ mask_of vs
 mask_none [] q = refl
 mask_none (v ∷ vs) q = rw (mask_none vs q)
 
-pub mask_some : (vs : List Provision) (q : Port) (x : ℕ) → mask_of (vs ++ record { port = q; value = some x } ∷ []) ≡ mask_of vs + 2 ^ length vs
+pub mask_some : (vs : List Provision) (q : Port) (x : ℕ) → mask_of (vs ++ record { port = q; value = Some x } ∷ []) ≡ mask_of vs + 2 ^ length vs
 mask_some [] q x = refl
 mask_some (v ∷ vs) q x = rw (mask_some vs q x) (omega (arith, pow-suc 2 (length vs)))
 
@@ -42,8 +41,8 @@ module _ (m : List ℕ) (i : ℕ) where
   read_one : (j : ℕ) (o : Option ℕ) (x : ℕ) → mask_at m i / 2 ^ j ≡ yes_no (is_some o) + 2 * x → word m (i * place_words + values_word + j) ≡ or_else o 0
       → value_at m i j ≡ o
   unfolding value_at
-  read_one j none x e f = let b : mask_at m i / 2 ^ j % 2 ≡ 0 = omega arith in rw b
-  read_one j (some v) x e f = let b : mask_at m i / 2 ^ j % 2 ≡ 1 = omega arith in rw (b, f)
+  read_one j None x e f = let b : mask_at m i / 2 ^ j % 2 ≡ 0 = omega arith in rw b
+  read_one j (Some v) x e f = let b : mask_at m i / 2 ^ j % 2 ≡ 1 = omega arith in rw (b, f)
 
   read_all : (j : ℕ) (vs : List Provision) → mask_at m i / 2 ^ j ≡ mask_of vs
       → ((k : ℕ) → k < length vs → word m (i * place_words + values_word + (j + k)) ≡ get_or (values_of vs) k 0)

@@ -1,6 +1,5 @@
 -- What is read of a plugin's values, and the words with one set.
-use Rattle.std.specs.Prelude.{ℕ, ◌+◌, ◌*◌, ◌^◌, ◌<◌, ◌≡◌, Bool, ◌&&◌, List, [], ◌∷◌, map, eqb, ltb, set, take}
-use Rattle.std.proofs.Math.Option.{Option, none}
+use Rattle.std.specs.Prelude.{ℕ, ◌+◌, ◌*◌, ◌^◌, ◌<◌, ◌≡◌, Bool, ◌&&◌, List, [], ◌∷◌, map, eqb, ltb, set, take, Option, Some, None}
 use Rattle.std.proofs.Common.{lt-ltb}
 use Rattle.rules.specs.Basics.{pick, is_none, is_some, or_else, yes_no}
 use Rattle.rules.specs.Holds.{Provision, same_port}
@@ -10,8 +9,6 @@ use Rattle.memory.specs.Layout.{word, place_words, mask_word, values_word}
 use Rattle.memory.specs.View.{value_at}
 use Rattle.memory.specs.Writes.{puts}
 use Rattle.memory_places.specs.Bits.{bit}
-use Rattle.ports.specs.declared.Found.{Found}
-use Rattle.ports.specs.declared.Found.TheVariants.{At, None}
 
 -- the mask of the values there are, and its bit of provision j
 abbrev pub mask_at : List ℕ → ℕ → ℕ
@@ -21,14 +18,14 @@ abbrev pub mask_bit : List ℕ → ℕ → ℕ → ℕ
 mask_bit m i j = bit (mask_at m i) j
 
 -- the place of the first port that is the same, counted from i
-unfoldable pub port_from : ℕ → Port → List Port → Found
+unfoldable pub port_from : ℕ → Port → List Port → Option ℕ
 port_from i q [] = None
-port_from i q (p ∷ ps) = pick (same_port q p) (At i) (port_from (i + 1) q ps)
+port_from i q (p ∷ ps) = pick (same_port q p) (Some i) (port_from (i + 1) q ps)
 
 -- the place of the first provision whose value is none, counted from i
-unfoldable pub lack_from : ℕ → List Provision → Found
+unfoldable pub lack_from : ℕ → List Provision → Option ℕ
 lack_from i [] = None
-lack_from i (v ∷ vs) = pick (is_none v.value) (At i) (lack_from (i + 1) vs)
+lack_from i (v ∷ vs) = pick (is_none v.value) (Some i) (lack_from (i + 1) vs)
 
 -- the words with one more value in the mask
 abbrev pub masked : List ℕ → ℕ → ℕ → List ℕ
@@ -43,7 +40,7 @@ unfoldable pub has_value : List ℕ → ℕ → ℕ → Bool
 has_value m i j = ltb j max_provision_keys && eqb (mask_bit m i j) 1
 
 unfoldable pub value_below : List ℕ → ℕ → ℕ → Option ℕ
-value_below m i j = pick (ltb j max_provision_keys) (value_at m i j) none
+value_below m i j = pick (ltb j max_provision_keys) (value_at m i j) None
 
 unfoldable pub with_value_below : List ℕ → ℕ → ℕ → ℕ → List ℕ
 with_value_below m i j v = pick (ltb j max_provision_keys) (with_value m i j v) m

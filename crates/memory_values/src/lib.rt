@@ -5,15 +5,13 @@ ghost use Rattle.std.specs.Prelude.{◌≡◌, ◌+◌, ◌*◌, ◌%◌, set};
 ghost use Rattle.rules.specs.Holds.{port};
 ghost use Rattle.rules.specs.Ports.{pairs};
 ghost use Rattle.rules.specs.Values.{value_in};
-ghost use Rattle.rules.specs.Answers.{option_of};
 ghost use Rattle.memory.specs.View.{plugin_at};
 ghost use Rattle.memory.specs.Layout.{place_words, places, mask_word};
 ghost use Rattle.memory_values.specs.Values.{has_value, value_below, port_from, lack_from, with_value_below, put_values};
 
 use memory::layout::{LOW_HALF, PLACE_WORDS, PLACES};
 use memory::{WORDS, layout};
-use ports::Found;
-use rules::{Optional, limits};
+use rules::{Port, limits};
 
 // Whether a provision has a value: its bit in the mask. Past the 15th none has.
 fn has_value(m: &[u64; WORDS], place: usize, provision: usize) -> bool
@@ -28,56 +26,48 @@ fn has_value(m: &[u64; WORDS], place: usize, provision: usize) -> bool
 }
 
 // The value of a provision, or nothing.
-pub fn value_at(m: &[u64; WORDS], place: usize, provision: usize) -> Optional
-    ensures { option_of result ≡ value_below m.now (place % places) provision }
+pub fn value_at(m: &[u64; WORDS], place: usize, provision: usize) -> Option<u64>
+    ensures { result ≡ value_below m.now (place % places) provision }
 {
     if has_value(m, place, provision) {
         let b = place % PLACES * PLACE_WORDS;
-        Optional::Is(m[b + layout::VALUES + provision])
+        Some(m[b + layout::VALUES + provision])
     } else {
-        Optional::None
+        None
     }
 }
 
 // The place of the first port of the list that is the same.
-pub fn place_of(list: &[u64], key: u64, realm: u64) -> Found
-    ensures { result ≡ port_from 0 (port key realm) (pairs list.now) }
+pub fn place_of(list: &[u64], port: Port) -> Option<usize>
+    ensures { result ≡ port_from 0 port (pairs list.now) }
 {
-    let mut i: usize = 0;
-    while i < list.len() / 2 {
-        if list[i * 2] == key {
-            if list[i * 2 + 1] == realm {
-                return Found::At(i);
-            }
+    for i in 0..list.len() / 2 {
+        if list[i * 2] == port.key && list[i * 2 + 1] == port.realm {
+            return Some(i);
         }
-        i += 1;
     }
-    Found::None
+    None
 }
 
 // The value of a port among the plugin's provisions, or nothing.
-pub fn value_of(m: &[u64; WORDS], place: usize, key: u64, realm: u64) -> Optional
-    ensures { option_of result ≡ value_in (port key realm) (plugin_at m.now (place % places)).provisions }
+pub fn value_of(m: &[u64; WORDS], place: usize, port: Port) -> Option<u64>
+    ensures { result ≡ value_in port (plugin_at m.now (place % places)).provisions }
 {
-    let Found::At(j) = place_of(memory_lists::provision_words(m, place), key, realm) else {
-        return Optional::None;
+    let Some(j) = place_of(memory_lists::provision_words(m, place), port) else {
+        return None;
     };
     value_at(m, place, j)
 }
 
 // The first provision without a value: a plugin has 15 at most, so the low half of the mask tells.
-pub fn first_lacking(m: &[u64; WORDS], place: usize) -> Found
+pub fn first_lacking(m: &[u64; WORDS], place: usize) -> Option<usize>
     ensures { result ≡ lack_from 0 (plugin_at m.now (place % places)).provisions }
 {
     let words = memory_lists::provision_words(m, place);
     let b = place % PLACES * PLACE_WORDS;
     let mask = (m[b + layout::MASK] % LOW_HALF) as u32;
     let j = u32::trailing_zeros(!mask) as usize;
-    if j < words.len() / 2 {
-        Found::At(j)
-    } else {
-        Found::None
-    }
+    if j < words.len() / 2 { Some(j) } else { None }
 }
 
 // A provision that has no value gets one. Past the 15th nothing changes.
@@ -109,12 +99,7 @@ pub fn put_values(m: &mut [u64; WORDS], place: usize, mask: u64, values: &[u64])
 {
     let b = place % PLACES * PLACE_WORDS;
     m[b + layout::MASK] = mask;
-    let mut k: usize = 0;
-    while k < values.len() {
-        if k == limits::PROVISION_KEYS {
-            return;
-        }
+    for k in 0..values.len().min(limits::PROVISION_KEYS) {
         m[b + layout::VALUES + k] = values[k];
-        k += 1;
     }
 }

@@ -21,8 +21,8 @@ use Rattle.console_order.proofs as console_order_tells
 use Rattle.console_line.specs.contracts as console_line
 use Rattle.console_line.proofs as console_line_tells
 use Rattle.outcome.specs.One.{One, OneSeen}
-use Rattle.outcome.specs.Equations.{by_equation, by_two, by_three, one_outcome}
-use Rattle.outcome.specs.Records.{behind_one, gathered_one, leaves_one, numbered_one, page_one, spanned_one, three_one, leaves_slot_one}
+use Rattle.outcome.specs.Equations.{by_equation, by_two, by_three, memory_alone, one_outcome}
+use Rattle.outcome.specs.Records.{behind_one, gathered_one, leaves_one, numbered_one, spanned_one, three_one, leaves_slot_one}
 
 pub console_words_next_word : One console_words.next_word.ended console_words_tells.next_word.Reads.Learnt
 console_words_next_word κs a r s ms ns p q = spanned_one p q
@@ -36,35 +36,41 @@ console_words_is_word κs a r s ms ns p q = by_equation p q
 pub console_words_numbers : One console_words.numbers.ended console_words_tells.numbers.Reads.Learnt
 console_words_numbers κs a r s ms ns p q = gathered_one p q
 
-pub console_answer_put : One console_answer.put.ended console_answer_tells.put.Reads.Learnt
-console_answer_put κs a r s ms ns p q = page_one p q
+pub console_answer-Page-empty : One console_answer.Page.empty.ended console_answer_tells.Page.empty.Reads.Learnt
+console_answer-Page-empty κs a r s ms ns p q = by_equation p q
 
-pub console_answer_number : One console_answer.number.ended console_answer_tells.number.Reads.Learnt
-console_answer_number κs a r s ms ns p q = page_one p q
+pub console_answer-Page-written : OneSeen console_answer.Page.written.ended (λ κs r. r.now) console_answer_tells.Page.written.Reads.Learnt
+console_answer-Page-written κs a r s ms ns p q = by_equation p q
 
-pub console_answer_numbers : One console_answer.numbers.ended console_answer_tells.numbers.Reads.Learnt
-console_answer_numbers κs a r s ms ns p q = page_one p q
+pub console_answer-Page-put : One console_answer.Page.put.ended console_answer_tells.Page.put.Reads.Learnt
+console_answer-Page-put κs a r s ms ns p q = memory_alone p q
 
-pub console_answer_answer : One console_answer.answer.ended console_answer_tells.answer.Reads.Learnt
-console_answer_answer κs a r s ms ns p q = page_one p q
+pub console_answer-Page-number : One console_answer.Page.number.ended console_answer_tells.Page.number.Reads.Learnt
+console_answer-Page-number κs a r s ms ns p q = memory_alone p q
 
-pub console_answer_answer_or_none : One console_answer.answer_or_none.ended console_answer_tells.answer_or_none.Reads.Learnt
-console_answer_answer_or_none κs a r s ms ns p q = page_one p q
+pub console_answer-Page-numbers : One console_answer.Page.numbers.ended console_answer_tells.Page.numbers.Reads.Learnt
+console_answer-Page-numbers κs a r s ms ns p q = memory_alone p q
 
-pub console_answer_told : One console_answer.told.ended console_answer_tells.told.Reads.Learnt
-console_answer_told κs a r s ms ns p q = page_one p q
+pub console_answer-Page-answer : One console_answer.Page.answer.ended console_answer_tells.Page.answer.Reads.Learnt
+console_answer-Page-answer κs a r s ms ns p q = memory_alone p q
 
-pub console_answer_or_none : One console_answer.or_none.ended console_answer_tells.or_none.Reads.Learnt
-console_answer_or_none κs a r s ms ns p q = page_one p q
+pub console_answer-Page-answer_or_none : One console_answer.Page.answer_or_none.ended console_answer_tells.Page.answer_or_none.Reads.Learnt
+console_answer-Page-answer_or_none κs a r s ms ns p q = memory_alone p q
 
-pub console_answer_yes_no : One console_answer.yes_no.ended console_answer_tells.yes_no.Reads.Learnt
-console_answer_yes_no κs a r s ms ns p q = page_one p q
+pub console_answer-Page-told : One console_answer.Page.told.ended console_answer_tells.Page.told.Reads.Learnt
+console_answer-Page-told κs a r s ms ns p q = memory_alone p q
+
+pub console_answer-Page-or_none : One console_answer.Page.or_none.ended console_answer_tells.Page.or_none.Reads.Learnt
+console_answer-Page-or_none κs a r s ms ns p q = memory_alone p q
+
+pub console_answer-Page-yes_no : One console_answer.Page.yes_no.ended console_answer_tells.Page.yes_no.Reads.Learnt
+console_answer-Page-yes_no κs a r s ms ns p q = memory_alone p q
+
+pub console_answer-Page-shown : One console_answer.Page.shown.ended console_answer_tells.Page.shown.Reads.Learnt
+console_answer-Page-shown κs a r s ms ns p q = memory_alone p q
 
 pub console_answer_front : OneSeen console_answer.front.ended (λ κs r. r.now) console_answer_tells.front.Reads.Learnt
 console_answer_front κs a r s ms ns p q = by_equation p q
-
-pub console_answer_shown : One console_answer.shown.ended console_answer_tells.shown.Reads.Learnt
-console_answer_shown κs a r s ms ns p q = page_one p q
 
 pub console_names_which : One console_names.which.ended console_names_tells.which.Reads.Learnt
 console_names_which κs a r s ms ns p q = by_equation p q
@@ -93,9 +99,6 @@ console_definition_read_parent κs a r s ms ns p q = by_equation p q
 pub console_definition_read_head : One console_definition.read_head.ended console_definition_tells.read_head.Reads.Learnt
 console_definition_read_head κs a r s ms ns p q = by_equation p q
 
-pub console_definition_all : One console_definition.all.ended console_definition_tells.all.Reads.Learnt
-console_definition_all κs a r s ms ns p q = by_equation p q
-
 pub console_definition_list_behind : One console_definition.list_behind.ended console_definition_tells.list_behind.Reads.Learnt
 console_definition_list_behind κs a r s ms ns p q = behind_one p q
 
@@ -109,13 +112,13 @@ pub console_slot_slot_line : One console_slot.slot_line.ended console_slot_tells
 console_slot_slot_line κs a r s ms ns p q = leaves_slot_one p q
 
 pub console_show_spoken : One console_show.spoken.ended console_show_tells.spoken.Reads.Learnt
-console_show_spoken κs a r s ms ns p q = page_one p q
+console_show_spoken κs a r s ms ns p q = memory_alone p q
 
 pub console_show_buffered : One console_show.buffered.ended console_show_tells.buffered.Reads.Learnt
-console_show_buffered κs a r s ms ns p q = page_one p q
+console_show_buffered κs a r s ms ns p q = memory_alone p q
 
 pub console_show_shown : One console_show.shown.ended console_show_tells.shown.Reads.Learnt
-console_show_shown κs a r s ms ns p q = page_one p q
+console_show_shown κs a r s ms ns p q = memory_alone p q
 
 pub console_operations_carried_out : One console_operations.carried_out.ended console_operations_tells.carried_out.Reads.Learnt
 console_operations_carried_out κs a r s ms ns p q = by_three p q
@@ -130,10 +133,10 @@ pub console_order_checked : One console_order.checked.ended console_order_tells.
 console_order_checked κs a r s ms ns p q = by_two p q
 
 pub console_order_planned : One console_order.planned.ended console_order_tells.planned.Reads.Learnt
-console_order_planned κs a r s ms ns p q = page_one p q
+console_order_planned κs a r s ms ns p q = memory_alone p q
 
-pub console_line_answered : One console_line.answered.ended console_line_tells.answered.Reads.Learnt
-console_line_answered κs a r s ms ns p q = leaves_one p q
+pub console_line-Console-answered : One console_line.Console.answered.ended console_line_tells.Console.answered.Reads.Learnt
+console_line-Console-answered κs a r s ms ns p q = leaves_one p q
 
-pub console_line_ended : One console_line.ended.ended console_line_tells.ended.Reads.Learnt
-console_line_ended κs a r s ms ns p q = leaves_one p q
+pub console_line-Console-ended : One console_line.Console.ended.ended console_line_tells.Console.ended.Reads.Learnt
+console_line-Console-ended κs a r s ms ns p q = leaves_one p q

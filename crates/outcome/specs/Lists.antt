@@ -25,6 +25,9 @@ rules_types-Port-new κs a r s ms ns p q = by_equation p q
 pub rules_types-Port-in_default_realm : One rules_types.Port.in_default_realm.ended rules_types_tells.Port.in_default_realm.Reads.Learnt
 rules_types-Port-in_default_realm κs a r s ms ns p q = by_equation p q
 
+pub rules_types-Refusal-number : One rules_types.Refusal.number.ended rules_types_tells.Refusal.number.Reads.Learnt
+rules_types-Refusal-number κs a r s ms ns p q = by_equation p q
+
 pub rules_types-Edition-number : One rules_types.Edition.number.ended rules_types_tells.Edition.number.Reads.Learnt
 rules_types-Edition-number κs a r s ms ns p q = by_equation p q
 

@@ -1,6 +1,5 @@
 -- Each promise of these crates allows one outcome: what a load reads, asks and writes.
-use Rattle.std.specs.Prelude.{ℕ, ◌≡◌, List}
-use Rattle.std.proofs.Common.{ap}
+use Rattle.std.specs.Prelude.{ℕ, List}
 use Rattle.rules.specs.Answers.{done_exact}
 use Rattle.memory.specs.contracts as memory
 use Rattle.memory.proofs as memory_tells
@@ -38,10 +37,9 @@ use Rattle.registry_load.specs.contracts as registry_load
 use Rattle.registry_load.proofs as registry_load_tells
 use Rattle.console_load.specs.contracts as console_load
 use Rattle.console_load.proofs as console_load_tells
-use Rattle.text_read_number.specs.Answers.{place_one, number_one}
-use Rattle.text_read.specs.Answers.{phase_one, mark_one, option_one, pair_one, provision_one, root_one, edition_one}
-use Rattle.text_read_block.specs.Blocks.{Lent, block_one}
-use Rattle.outcome.specs.Answers.{parent_exact}
+use Rattle.text_read_number.specs.Reads.{stands_one, reads_one}
+use Rattle.text_read.specs.Ways.{provision_one}
+use Rattle.text_read_block.specs.Blocks.{block_one}
 use Rattle.outcome.specs.Records.{ends_one}
 use Rattle.outcome.specs.One.{One, OneSeen}
 use Rattle.outcome.specs.Equations.{by_equation, by_two, memory_alone, one_outcome, one_with_memory}
@@ -50,7 +48,7 @@ pub memory_open_words : One memory.open_words.ended memory_tells.open_words.Read
 memory_open_words κs a r s ms ns p q = memory_alone p q
 
 pub memory_parent_from : One memory.parent_from.ended memory_tells.parent_from.Reads.Learnt
-memory_parent_from κs a r s ms ns p q = one_outcome parent_exact p q
+memory_parent_from κs a r s ms ns p q = by_equation p q
 
 pub memory_life_decode : One memory_life.decode.ended memory_life_tells.decode.Reads.Learnt
 memory_life_decode κs a r s ms ns p q = by_equation p q
@@ -76,11 +74,11 @@ memory_providers_key_bits κs a r s ms ns p q = by_equation p q
 pub memory_providers_meets : One memory_providers.meets.ended memory_providers_tells.meets.Reads.Learnt
 memory_providers_meets κs a r s ms ns p q = by_equation p q
 
-pub memory_index_index : One memory_index.index.ended memory_index_tells.index.Reads.Learnt
-memory_index_index κs a r s ms ns p q = by_equation p q
+pub memory_index-Index-new : OneSeen memory_index.Index.new.ended {X = λ κs. List ℕ × List ℕ} (λ κs r. (r.memory.now, r.words)) memory_index_tells.Index.new.Reads.Learnt
+memory_index-Index-new κs a r s ms ns p q = λ i. (by_equation p.0 q.0 i, by_equation p.1 q.1 i)
 
-pub memory_index_provider_by : One memory_index.provider_by.ended memory_index_tells.provider_by.Reads.Learnt
-memory_index_provider_by κs a r s ms ns p q = by_equation p q
+pub memory_index-Index-provider : One memory_index.Index.provider.ended memory_index_tells.Index.provider.Reads.Learnt
+memory_index-Index-provider κs a r s ms ns p q = by_equation p q
 
 pub memory_keys_provider_by : One memory_keys.provider_by.ended memory_keys_tells.provider_by.Reads.Learnt
 memory_keys_provider_by κs a r s ms ns p q = by_two p q
@@ -107,43 +105,40 @@ pub registry_cycles_all_hold : One registry_cycles.all_hold.ended registry_cycle
 registry_cycles_all_hold κs a r s ms ns p q = by_equation p q
 
 pub text_read_number_literal : One text_read_number.literal.ended text_read_number_tells.literal.Reads.Learnt
-text_read_number_literal κs a r s ms ns p q = place_one p q
+text_read_number_literal κs a r s ms ns p q = stands_one r s p q
 
 pub text_read_number_to_end : One text_read_number.to_end.ended text_read_number_tells.to_end.Reads.Learnt
-text_read_number_to_end κs a r s ms ns p q = number_one p q
+text_read_number_to_end κs a r s ms ns p q = reads_one p q
 
 pub text_read_number_to_comma : One text_read_number.to_comma.ended text_read_number_tells.to_comma.Reads.Learnt
-text_read_number_to_comma κs a r s ms ns p q = number_one p q
+text_read_number_to_comma κs a r s ms ns p q = reads_one p q
 
 pub text_read_number_line : One text_read.number_line.ended text_read_tells.number_line.Reads.Learnt
-text_read_number_line κs a r s ms ns p q = number_one p q
+text_read_number_line κs a r s ms ns p q = reads_one p q
 
 pub text_read_phase_line : One text_read.phase_line.ended text_read_tells.phase_line.Reads.Learnt
-text_read_phase_line κs a r s ms ns p q = phase_one p q
+text_read_phase_line κs a r s ms ns p q = reads_one p q
 
 pub text_read_mark_line : One text_read.mark_line.ended text_read_tells.mark_line.Reads.Learnt
-text_read_mark_line κs a r s ms ns p q = mark_one p q
+text_read_mark_line κs a r s ms ns p q = reads_one p q
 
 pub text_read_option_line : One text_read.option_line.ended text_read_tells.option_line.Reads.Learnt
-text_read_option_line κs a r s ms ns p q = option_one p q
+text_read_option_line κs a r s ms ns p q = reads_one p q
 
 pub text_read_pair_line : One text_read.pair_line.ended text_read_tells.pair_line.Reads.Learnt
-text_read_pair_line κs a r s ms ns p q = pair_one p q
+text_read_pair_line κs a r s ms ns p q = reads_one p q
 
 pub text_read_provision_line : One text_read.provision_line.ended text_read_tells.provision_line.Reads.Learnt
-text_read_provision_line κs a r s ms ns p q = provision_one p q
+text_read_provision_line κs a r s ms ns p q = provision_one r s p q
 
 pub text_read_edition_lines : One text_read.edition_lines.ended text_read_tells.edition_lines.Reads.Learnt
-text_read_edition_lines κs a r s ms ns p q = edition_one p q
+text_read_edition_lines κs a r s ms ns p q = reads_one p q
 
 pub text_read_root_lines : One text_read.root_lines.ended text_read_tells.root_lines.Reads.Learnt
-text_read_root_lines κs a r s ms ns p q = root_one p q
+text_read_root_lines κs a r s ms ns p q = reads_one p q
 
 pub text_read_block_read_block : One text_read_block.read_block.ended text_read_block_tells.read_block.Reads.Learnt
-text_read_block_read_block κs a r s ms ns p q =
-    let e = block_one p q in
-    let same : (f : Lent → List ℕ) → f _ ≡ f _ = λ f. ap f e.1 in
-    (e.0, (same (λ l. l.realms), (same (λ l. l.dependencies), (same (λ l. l.claims), same (λ l. l.values)))))
+text_read_block_read_block κs a r s ms ns p q = block_one _ _ _ r s p q
 
 pub registry_block_join : One registry_block.join.ended registry_block_tells.join.Reads.Learnt
 registry_block_join κs a r s ms ns p q = by_two (p.answer, p.memory) (q.answer, q.memory)

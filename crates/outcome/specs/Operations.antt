@@ -1,5 +1,5 @@
 -- Each promise of these crates allows one outcome: questions, retirement, removal, steps, replacement, admission and start orders.
-use Rattle.std.specs.Prelude.{◌≡◌, refl}
+use Rattle.std.specs.Prelude.{ℕ, ◌≡◌, refl, Result}
 use seplogic.Ra.Ura.{Ura}
 use base.Logic.{SProp, ent, id⊢}
 use prog.Memory.{Memory}
@@ -9,11 +9,11 @@ use contract.Lifetimes.{Lfts}
 use contract.Monad.{Fun, fact}
 use denote.Triple.Entry.{Args}
 use denote.Triple.Clauses.{AtExit}
-use Rattle.rules.specs.Answers.{done_exact, whether_exact, number_exact}
+use Rattle.rules.specs.Answers.{done_exact, whether_exact, number_exact, perhaps_exact}
 use Rattle.registry_replace.specs.Records.{change_of}
-use Rattle.registry_replace.specs.declared.Replaced.{Replaced}
+use Rattle.registry_replace.specs.declared.Unreplaced.{Unreplaced}
 use Rattle.registry_admit.specs.Answers.{admits_exact, admitted_exact, called_exact}
-use Rattle.registry_queries.specs.Answers.{perhaps_exact, port_exact, edition_exact}
+use Rattle.registry_queries.specs.Answers.{port_exact, edition_exact}
 use Rattle.registry_replace.specs.Answers.{replaced_exact}
 use Rattle.registry_queries.specs.contracts as registry_queries
 use Rattle.registry_queries.proofs as registry_queries_tells
@@ -122,7 +122,7 @@ abbrev lent_text : Promise registry_replace.replace_lent.ended
 lent_text κs a r e = (e.0.now ≡ (change_of a.0.now a.1.0).next) × (r ≡ (change_of a.0.now a.1.0).answer)
 
 pub lent_said : {M : Type 1} {𝓤 : Ura M} (𝓛 : Logic 𝓤) (mem : Memory → SProp 𝓤) (run : Routine → Fun 𝓤)
-    (κs : Lfts 1) (a : Args (registry_replace.replace_lent.ended).signature κs) (r : Replaced) (e : AtExit registry_replace.replace_lent.ended κs)
+    (κs : Lfts 1) (a : Args (registry_replace.replace_lent.ended).signature κs) (r : Result ℕ Unreplaced) (e : AtExit registry_replace.replace_lent.ended κs)
     → ent 𝓤 ((registry_replace.replace_lent.clauses 𝓛 mem run κs a).ensures tt r e) (fact 𝓤 (lent_text κs a r e))
 lent_said {𝓤 = 𝓤} 𝓛 mem run κs a r e = id⊢ 𝓤 (fact 𝓤 (lent_text κs a r e))
 

@@ -1,6 +1,5 @@
 -- Each promise of these crates allows one outcome: numbers, lines and the whole of the registry's text.
 use Rattle.rules.specs.Answers.{number_exact}
-use Rattle.text_decimal.specs.Numbers.{read_exact}
 use Rattle.text_decimal.specs.contracts as text_decimal
 use Rattle.text_decimal.proofs as text_decimal_tells
 use Rattle.text_lines.specs.contracts as text_lines
@@ -25,7 +24,7 @@ pub text_decimal_write_decimal : OneSeen text_decimal.write_decimal.ended (λ κ
 text_decimal_write_decimal κs a r s ms ns p q = answer_alone p q
 
 pub text_decimal_read_decimal : One text_decimal.read_decimal.ended text_decimal_tells.read_decimal.Reads.Learnt
-text_decimal_read_decimal κs a r s ms ns p q = one_outcome read_exact p q
+text_decimal_read_decimal κs a r s ms ns p q = by_equation p q
 
 pub text_lines_put : One text_lines.put.ended text_lines_tells.put.Reads.Learnt
 text_lines_put κs a r s ms ns p q = laid_one p q

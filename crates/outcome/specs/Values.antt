@@ -1,6 +1,6 @@
 -- Each promise of these crates allows one outcome: values, settling, offers and registration.
-use Rattle.rules.specs.Answers.{done_exact, whether_exact, number_exact, option_exact, option_answer_exact}
-use Rattle.registry_queries.specs.Answers.{perhaps_exact, port_exact}
+use Rattle.rules.specs.Answers.{done_exact, whether_exact, number_exact, perhaps_exact, option_answer_exact}
+use Rattle.registry_queries.specs.Answers.{port_exact}
 use Rattle.registry_values.specs.Answers.{reading_exact}
 use Rattle.memory_values.specs.contracts as memory_values
 use Rattle.memory_values.proofs as memory_values_tells
@@ -16,13 +16,13 @@ use Rattle.outcome.specs.One.{One}
 use Rattle.outcome.specs.Equations.{by_equation, memory_alone, one_outcome, one_with_memory}
 
 pub memory_values_value_at : One memory_values.value_at.ended memory_values_tells.value_at.Reads.Learnt
-memory_values_value_at κs a r s ms ns p q = one_outcome option_exact p q
+memory_values_value_at κs a r s ms ns p q = by_equation p q
 
 pub memory_values_place_of : One memory_values.place_of.ended memory_values_tells.place_of.Reads.Learnt
 memory_values_place_of κs a r s ms ns p q = by_equation p q
 
 pub memory_values_value_of : One memory_values.value_of.ended memory_values_tells.value_of.Reads.Learnt
-memory_values_value_of κs a r s ms ns p q = one_outcome option_exact p q
+memory_values_value_of κs a r s ms ns p q = by_equation p q
 
 pub memory_values_first_lacking : One memory_values.first_lacking.ended memory_values_tells.first_lacking.Reads.Learnt
 memory_values_first_lacking κs a r s ms ns p q = by_equation p q

@@ -21,7 +21,6 @@ use Rattle.memory_providers.specs.contracts as memory_providers
 use Rattle.memory_providers.proofs as memory_providers_tells
 use Rattle.outcome.specs.One.{One, OneSeen}
 use Rattle.outcome.specs.Equations.{by_equation, memory_alone, one_outcome, one_with_memory}
-use Rattle.outcome.specs.Answers.{parent_exact}
 
 pub memory-Life-with_phase : One memory.Life.with_phase.ended memory_tells.Life.with_phase.Reads.Learnt
 memory-Life-with_phase κs a r s ms ns p q = by_equation p q
@@ -37,9 +36,6 @@ memory-Life-with_root κs a r s ms ns p q = by_equation p q
 
 pub memory-Life-marked : One memory.Life.marked.ended memory_tells.Life.marked.Reads.Learnt
 memory-Life-marked κs a r s ms ns p q = by_equation p q
-
-pub memory_known : One memory.known.ended memory_tells.known.Reads.Learnt
-memory_known κs a r s ms ns p q = refl
 
 pub memory_domain : One memory.domain.ended memory_tells.domain.Reads.Learnt
 memory_domain κs a r s ms ns p q = by_equation p q
@@ -59,11 +55,14 @@ memory_is_taken κs a r s ms ns p q = by_equation p q
 pub memory_find : One memory.find.ended memory_tells.find.Reads.Learnt
 memory_find κs a r s ms ns p q = by_equation p q
 
+pub memory_look_up : One memory.look_up.ended memory_tells.look_up.Reads.Learnt
+memory_look_up κs a r s ms ns p q = by_equation p q
+
 pub memory_id : One memory.id.ended memory_tells.id.Reads.Learnt
 memory_id κs a r s ms ns p q = by_equation p q
 
 pub memory_parent_of : One memory.parent_of.ended memory_tells.parent_of.Reads.Learnt
-memory_parent_of κs a r s ms ns p q = one_outcome parent_exact p q
+memory_parent_of κs a r s ms ns p q = by_equation p q
 
 pub memory_is_child_of : One memory.is_child_of.ended memory_tells.is_child_of.Reads.Learnt
 memory_is_child_of κs a r s ms ns p q = by_equation p q

@@ -1,5 +1,5 @@
 -- Lookups in a list of ports, at any place; lists that are the same.
-use Rattle.std.specs.Prelude.{ℕ, zero, suc, ◌+◌, ◌*◌, ◌≡◌, refl, Bool, true, false, List, [], ◌∷◌, drop}
+use Rattle.std.specs.Prelude.{ℕ, zero, suc, ◌+◌, ◌*◌, ◌≡◌, refl, Bool, true, false, List, [], ◌∷◌, drop, Some}
 use Rattle.std.proofs.Common.{sym, ap, ◌∙◌}
 use Rattle.std.proofs.Math.Bool.{or-true}
 use borrow.Author.Tests.{eq-eqb, ne_eqb}
@@ -13,7 +13,6 @@ use Rattle.rules.specs.Ports.{pairs, same_ports}
 use Rattle.rules.specs.Registration.{repeats}
 use Rattle.rules_laws.specs.Laws.Tests.{by_test, both}
 use Rattle.rules_laws.specs.Laws.Members.{same_port_lem, same_self}
-use Rattle.ports.specs.declared.Found.TheVariants.{At}
 use Rattle.ports.specs.Answers.{first_from}
 
 pub not_same : (p q : Port) → (p.key ≡ q.key → p.realm ≡ q.realm → ⊥) → same_port p q ≡ false
@@ -35,7 +34,7 @@ module _ {l ps : List Port} {p : Port} (s : l ≡ p ∷ ps) where
   pub all_miss : (f : Port → Bool) → f p ≡ false → all f l ≡ false
   all_miss f t = rw (s, t)
 
-  pub first_hit : (i k : ℕ) → p.key ≡ k → first_from i k l ≡ At i
+  pub first_hit : (i k : ℕ) → p.key ≡ k → first_from i k l ≡ Some i
   unfolding first_from
   first_hit i k e = rw (s, eq-eqb p.key k e)
 

@@ -25,9 +25,7 @@ pub fn key_word(word: u64, ports: &[u64]) -> u64
     ensures { result ≡ key_word word (pairs ports.now) }
 {
     let mut bits = word;
-    let mut row = ports.len() / 2;
-    while 0 < row {
-        row -= 1;
+    for row in (0..ports.len() / 2).rev() {
         bits = with_bit(bits, ports[row * 2]);
     }
     bits

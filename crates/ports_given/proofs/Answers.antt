@@ -1,13 +1,12 @@
--- What a port's lookup says of its realm, and a list's answer of the list; and a test of all ports, port by port.
-use Prim.Native.Nat.{ℕ, ◌-◌, ◌*◌, ◌≤◌, ◌<◌}
+-- What a port's lookup says of its realm, and a list's answer of the list.
+use Prim.Native.Nat.{ℕ, ◌*◌, ◌≤◌, ◌<◌}
 use native.Mathlib.Omega.{arith}
 use mathlib.Core.Path.{◌≡◌, sym, ap, ◌∙◌}
-use mathlib.Core.Bool.{Bool, true, false, not, ◌&&◌}
-use mathlib.Core.List.{List, ◌∷◌}
+use mathlib.Core.Bool.{Bool, false, not, ◌&&◌}
+use mathlib.Core.List.{List}
 use lib.Dec.{eqb, leb}
 use lib.ListN.{length, take}
 use borrow.Author.Tests.{leb-true, leb-false, eq-eqb}
-use Rattle.rules.specs.Basics.{all}
 use Rattle.rules_types.specs.declared.Port.{Port}
 use Rattle.rules.specs.Holds.{port}
 use Rattle.rules.specs.Ports.{pairs, flat, odd_length, resolve_in, resolve, same_ports}
@@ -28,14 +27,6 @@ pub resolved_realm : (other : ℕ) (rows : List ℕ) (key realm : ℕ) {q : Port
 unfolding resolve
 resolved_realm other rows key realm e =
     ap (λ (x : Port). eqb x.realm realm) e ∙ sym (rw (eq-eqb _ key (resolve_key_law other (reached (pairs rows)) key)))
-
--- a list that starts with p
-module _ (f : Port → Bool) {l rest : List Port} {p : Port} (s : l ≡ p ∷ rest) where
-  pub all_hit : f p ≡ true → all f l ≡ all f rest
-  all_hit t = rw (s, t)
-
-  pub all_miss : f p ≡ false → all f l ≡ false
-  all_miss t = rw (s, t)
 
 -- the answer of the rule's list, and whether it is this one of at most 48 ports
 module _ (l list : List Port) {made : Dependencies} (e : made ≡ fitted l) where

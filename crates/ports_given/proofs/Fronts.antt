@@ -1,12 +1,12 @@
 -- Ports in front of a list that declared keys can resolve to: fewer of them, and one more.
-use Prim.Native.Nat.{ℕ, zero, suc, ◌+◌, ◌-◌, ◌*◌, ◌/◌, ◌≤◌, ◌<◌}
+use Prim.Native.Nat.{ℕ, zero, suc, ◌+◌, ◌*◌, ◌/◌, ◌≤◌, ◌<◌}
 use native.Mathlib.Omega.{arith}
 use native.Mathlib.Numerals.{add-one}
 use mathlib.Core.Path.{◌≡◌, refl, sym, ap, ◌∙◌}
 use mathlib.Core.Bool.{Bool, true, false, not, ◌&&◌, ◌||◌, and-true, and-false, and_assoc, or-true, or-false, or_assoc}
 use mathlib.Core.List.{List, [], ◌∷◌, ◌++◌, map-append}
 use lib.Dec.{eqb}
-use lib.ListN.{length, get_or, take, set, replicate, length-append, length-replicate, length-map, length-take}
+use lib.ListN.{length, get_or, take, set, length-map}
 use lib.Seq.{take-suc, take-take, length-take-le}
 use borrow.Author.Tests.{not-true}
 use Rattle.rules.specs.Basics.{any, all, twice}
@@ -72,15 +72,6 @@ twice_behind : (l : List ℕ) (k : ℕ) → twice (l ++ k ∷ []) ≡ (any (eqb 
 twice_behind [] k = refl
 twice_behind (x ∷ l) k =
     rw (any_append (eqb x) l (k ∷ []), or-false, twice_behind l k, eqb_swap x k) (regroup (any (eqb x) l) (eqb k x) (any (eqb k) l) (twice l))
-
--- the keys fill 16 words
-pub front_size : {z : Realms} {list : List Port} {n : ℕ} {keys : List ℕ} → Front z list n keys → length keys ≡ max_dependency_keys
-front_size {z} {list} {n} f =
-    let front = keys_of (take n list) in
-    let zeros : List ℕ = replicate (max_dependency_keys - length front) 0 in
-    let few : length front ≤ max_dependency_keys =
-    omega (arith, f.few, length-map (take n list) (λ (q : Port). q.key), length-take n list) in
-    ap length f.filled ∙ length-append front zeros ∙ omega (arith, length-replicate {A = ℕ} (max_dependency_keys - length front) 0)
 
 -- in the numbers of a list: the port at row n, with the keys before it
 module _ {z : Realms} (words : List ℕ) {keys : List ℕ} {n : ℕ} (f : Front z (pairs words) n keys) (h : n < length words / 2) where

@@ -2,7 +2,7 @@
 use Prim.Native.Nat.{ℕ, zero, suc, ◌+◌, ◌-◌, ◌≤◌, ◌<◌}
 use native.Mathlib.Omega.{arith}
 use mathlib.Core.Path.{◌≡◌, refl, sym, ap, ◌∙◌}
-use mathlib.Core.Logic.{◌⊎◌, ⊎_elim}
+use mathlib.Core.Logic.{⊎_elim}
 use mathlib.Core.Bool.{Bool, true, false, not, ◌&&◌, true≢false}
 use mathlib.Core.List.{List, [], ◌∷◌, ◌++◌, map}
 use lib.Dec.{eqb, leb}
@@ -21,7 +21,6 @@ use Rattle.rules_laws.specs.Laws.Members.{same_self}
 use Rattle.rules_laws.specs.Laws.Realms.{resolve_key_law}
 use Rattle.rules_upstream.specs.Dependencies.{declared_first}
 use Rattle.ports.specs.Places.{same_eq}
-use Rattle.ports_resolved.specs.Filled.{filled}
 use Rattle.ports_given.specs.declared.FrontKeys.{FrontKeys}
 use Rattle.ports_given.proofs.Fronts.{keys_take, declarable_take}
 use Rattle.ports_given.specs.Given.{declarable, Front, Most}

@@ -23,23 +23,28 @@ struct FrontKeys {
 }
 
 // Whether a port has the realm that its key resolves to.
-fn is_resolved(other: u64, rows: &[u64], key: u64, realm: u64) -> bool
-    ensures { result ≡ resolved_in (reached_with other rows.now) (port key realm) }
+fn is_resolved(other: u64, rows: &[u64], port: Port) -> bool
+    ensures { result ≡ resolved_in (reached_with other rows.now) port }
 {
-    let q = ports_realms::resolve(rows, Port::new(key, other));
-    q.realm == realm
+    let q = ports_realms::resolve(rows, Port::new(port.key, other));
+    q.realm == port.realm
 }
 
 // Whether each port has the realm that its key resolves to.
 pub fn resolved(other: u64, rows: &[u64], ports: &[u64]) -> bool
     ensures { result ≡ all (resolved_in (reached_with other rows.now)) (pairs ports.now) }
 {
-    let mut i: usize = 1;
-    while i < ports.len() {
-        if !is_resolved(other, rows, ports[i - 1], ports[i]) {
+    for port in ports.chunks_exact(2) {
+        if !is_resolved(
+            other,
+            rows,
+            Port {
+                key: port[0],
+                realm: port[1],
+            },
+        ) {
             return false;
         }
-        i += 2;
     }
     true
 }
@@ -48,10 +53,7 @@ pub fn resolved(other: u64, rows: &[u64], ports: &[u64]) -> bool
 fn first_words(words: &[u64], most: usize) -> &[u64]
     ensures { result.now ≡ take most words.now }
 {
-    if words.len() < most {
-        return words;
-    }
-    &words[..most]
+    &words[..words.len().min(most)]
 }
 
 // The keys of the most ports in front, at most 16, that have the realm their key resolves to and different keys.
@@ -59,22 +61,23 @@ fn keys_in_front(other: u64, rows: &[u64], list: &[u64]) -> FrontKeys
     ensures { Most (reached_with other rows.now) (pairs list.now) result }
 {
     let mut keys = [0u64; KEYS];
-    let mut n: usize = 0;
-    while n < list.len() / 2 {
-        if n == KEYS {
-            return FrontKeys { count: n, keys };
-        }
+    let most = (list.len() / 2).min(KEYS);
+    for n in 0..most {
         let key = list[n * 2];
-        if !is_resolved(other, rows, key, list[n * 2 + 1]) {
-            return FrontKeys { count: n, keys };
-        }
-        if ports::has_number(first_words(&keys, n), key) {
+        if !is_resolved(
+            other,
+            rows,
+            Port {
+                key,
+                realm: list[n * 2 + 1],
+            },
+        ) || ports::has_number(&keys[..n], key)
+        {
             return FrontKeys { count: n, keys };
         }
         keys[n] = key;
-        n += 1;
     }
-    FrontKeys { count: n, keys }
+    FrontKeys { count: most, keys }
 }
 
 // Whether the rule gives this list, of at most 48 ports, from these declared keys.
@@ -117,15 +120,11 @@ pub fn given(
         return false;
     }
     let most = keys_in_front(other, rows, list);
-    let mut count = most.count;
-    loop {
+    for count in (0..=most.count).rev() {
         let keys = first_words(&most.keys, count);
         if gives(other, anchor, rows, keys, provisions, parents, list) {
             return true;
         }
-        if count == 0 {
-            return false;
-        }
-        count -= 1;
     }
+    false
 }

@@ -27,21 +27,10 @@ pub struct Dependencies {
 }
 
 // Whether a port is one of the new plugin's own: its provisions first, then its anchor.
-fn is_own(provisions: &[u64], anchor: Port, key: u64, realm: u64) -> bool
-    ensures { result ≡ is_in (port key realm) (own_ports (pairs provisions.now) anchor) }
+fn is_own(provisions: &[u64], anchor: Port, port: Port) -> bool
+    ensures { result ≡ is_in port (own_ports (pairs provisions.now) anchor) }
 {
-    let Port {
-        key: own_key,
-        realm: own_realm,
-    } = anchor;
-    if ports::has_port(provisions, key, realm) {
-        return true;
-    }
-    let another = key != own_key;
-    if another {
-        return false;
-    }
-    realm == own_realm
+    ports::has_port(provisions, port) || (port.key == anchor.key && port.realm == anchor.realm)
 }
 
 // Where the comparison with the list so far begins: a key that lacks its bit is compared with none of it.
@@ -82,17 +71,13 @@ pub fn dependency_list(
         let turn = ports_resolved::candidate(other, c % 2, key, parents[at + 1], rows);
         let realm = turn.realm;
         c += turn.turns;
-        if is_own(provisions, anchor, key, realm) {
+        if is_own(provisions, anchor, Port { key, realm }) {
             continue;
         }
-        let mut k = compared_from(bits, key, count);
-        while k < count {
-            if list[k * 2] == key {
-                if list[k * 2 + 1] == realm {
-                    continue 'next;
-                }
+        for k in compared_from(bits, key, count)..count {
+            if list[k * 2] == key && list[k * 2 + 1] == realm {
+                continue 'next;
             }
-            k += 1;
         }
         if count == limits::DEPENDENCIES {
             return longer();

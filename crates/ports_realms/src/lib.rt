@@ -9,16 +9,10 @@ ghost use Rattle.rules.specs.Ports.{rows_in, realm_list, bad_edition, bad_realms
 ghost use Rattle.ports_realms.specs.Answers.{resolved_answer, searched};
 ghost use Rattle.ports_realms.specs.Halving.{reached};
 
-use rules::{Done, Edition, Port, limits, refusal};
+use rules::{Edition, Port, Refusal, limits};
 
 // The most numbers of a realm list's rows.
 const REALM_NUMBERS: usize = limits::REALM_ROWS * 2;
-
-#[derive(Clone, Copy)]
-pub enum Resolved {
-    To(Port),
-    Refused(u64),
-}
 
 // A port that was looked up, and how many keys were compared.
 #[derive(Clone, Copy)]
@@ -31,22 +25,17 @@ struct Lookup {
 fn number_at(realms: &[u64], place: usize) -> u64
     ensures { result ≡ get_or realms.now place 0 }
 {
-    if place < realms.len() {
-        return realms[place];
-    }
-    0
+    realms.get(place).copied().unwrap_or(0)
 }
 
 // A list's edition, with its default in edition 2.
 pub fn edition(realms: &[u64]) -> Edition
     ensures { result ≡ (realm_list realms.now).edition }
 {
-    let number = number_at(realms, 0);
-    let second = number == 2;
-    if second {
-        return Edition::Second(number_at(realms, 1));
+    match number_at(realms, 0) {
+        2 => Edition::Second(number_at(realms, 1)),
+        _ => Edition::First,
     }
-    Edition::First
 }
 
 // The realm that a list gives absent keys.
@@ -60,57 +49,42 @@ pub fn default_realm(realms: &[u64]) -> u64
 pub fn rows(realms: &[u64]) -> &[u64]
     ensures { result.now ≡ rows_in realms.now }
 {
-    let n = realms.len();
-    if n < 2 {
-        return &realms[n..n];
-    }
-    &realms[2..n]
+    realms.get(2..).unwrap_or(&[])
 }
 
 // Row 26: another edition than 1 and 2, or a list that does not name one and a default.
 fn bad_edition(realms: &[u64]) -> bool
     ensures { result ≡ bad_edition realms.now }
 {
-    if realms.len() < 2 {
-        return true;
-    }
-    if realms[0] == 1 {
-        return false;
-    }
-    realms[0] != 2
+    realms.len() < 2 || !matches!(realms[0], 1 | 2)
 }
 
 // Row 4, of the rows: odd length, over 16 rows, or keys that do not rise strictly.
 pub fn bad_realms(rows: &[u64]) -> bool
     ensures { result ≡ bad_realms rows.now }
 {
-    if rows.len() % 2 != 0 {
+    if rows.len() % 2 != 0 || REALM_NUMBERS < rows.len() {
         return true;
     }
-    if REALM_NUMBERS < rows.len() {
-        return true;
-    }
-    let mut i: usize = 2;
-    while i < rows.len() {
-        if rows[i] <= rows[i - 2] {
+    for row in 1..rows.len() / 2 {
+        if rows[row * 2] <= rows[row * 2 - 2] {
             return true;
         }
-        i += 2;
     }
     false
 }
 
 // 26, 4.
-pub fn list_verdict(realms: &[u64]) -> Done
+pub fn list_verdict(realms: &[u64]) -> Result<(), Refusal>
     ensures { result ≡ verdict (realm_checks realms.now) }
 {
     if bad_edition(realms) {
-        return Done::Refused(refusal::BAD_EDITION);
+        return Err(Refusal::BadEdition);
     }
     if bad_realms(rows(realms)) {
-        return Done::Refused(refusal::BAD_REALMS);
+        return Err(Refusal::BadRealms);
     }
-    Done::Accepted
+    Ok(())
 }
 
 // The row of the fallback's key, or the fallback, by halving: the middle one of the rows that are left says which of them stay,
@@ -153,17 +127,14 @@ fn search(rows: &[u64], fallback: Port) -> Lookup
 pub fn resolve(rows: &[u64], fallback: Port) -> Port
     ensures { result ≡ resolve_in fallback.realm (reached (pairs rows.now)) fallback.key }
 {
-    let found = search(rows, fallback);
-    found.port
+    search(rows, fallback).port
 }
 
 // A key looked up in a lent list: 26, 4, then its port.
-pub fn resolve_key(realms: &[u64], key: u64) -> Resolved
+pub fn resolve_key(realms: &[u64], key: u64) -> Result<Port, Refusal>
     ensures { resolved_answer result ≡ answer_of (resolve_key realms.now key) }
 {
-    if let Done::Refused(n) = list_verdict(realms) {
-        return Resolved::Refused(n);
-    }
+    list_verdict(realms)?;
     let fallback = edition(realms).absent(key);
-    Resolved::To(resolve(rows(realms), fallback))
+    Ok(resolve(rows(realms), fallback))
 }

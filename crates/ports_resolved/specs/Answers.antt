@@ -1,5 +1,5 @@
 -- What callers read off the answers: repeated keys and claimed ports.
-use Rattle.std.specs.Prelude.{ℕ, ◌-◌, ◌≤◌, ◌≡◌, eqb, length}
+use Rattle.std.specs.Prelude.{ℕ, ◌≤◌, ◌≡◌, eqb, length}
 use Rattle.std.proofs.Math.Path.{refl}
 use Rattle.std.proofs.Common.{ap, ◌∙◌, take_all, eq-eqb, eqb-true}
 use mathlib.Core.List.{List, [], ◌∷◌, map}

@@ -30,17 +30,10 @@ pub struct Claimed {
 pub fn repeated_key(keys: &[u64]) -> bool
     ensures { result ≡ keys_repeat keys.now }
 {
-    let mut i: usize = 0;
-    while i < keys.len() {
-        let key = keys[i];
-        let mut j = i + 1;
-        while j < keys.len() {
-            if keys[j] == key {
-                return true;
-            }
-            j += 1;
+    for (i, key) in keys.iter().enumerate() {
+        if keys[i + 1..].contains(key) {
+            return true;
         }
-        i += 1;
     }
     false
 }
@@ -52,20 +45,13 @@ pub fn claims(other: u64, anchor: Port, rows: &[u64], keys: &[u64]) -> Claimed
     let mut list = [0u64; CLAIM_ROOM];
     list[0] = anchor.key;
     list[1] = anchor.realm;
-    let mut i: usize = 0;
-    while i < keys.len() {
-        if i == limits::PROVISION_KEYS {
-            return Claimed {
-                count: CLAIMS,
-                ports: list,
-            };
-        }
+    let provisions = keys.len().min(limits::PROVISION_KEYS);
+    for i in 0..provisions {
         let q = ports_realms::resolve(rows, Port::new(keys[i], other));
         list[i * 2 + 2] = q.key;
         list[i * 2 + 3] = q.realm;
-        i += 1;
     }
-    let count = i + 1;
+    let count = provisions + 1;
     Claimed { count, ports: list }
 }
 
@@ -73,17 +59,13 @@ pub fn claims(other: u64, anchor: Port, rows: &[u64], keys: &[u64]) -> Claimed
 pub fn declared(other: u64, rows: &[u64], keys: &[u64], list: &mut [u64; LIST_ROOM]) -> usize
     ensures { Stores (declared_of other (reached (pairs rows.now)) keys.now) list.old result list.new }
 {
-    let mut i: usize = 0;
-    while i < keys.len() {
-        if i == limits::DEPENDENCY_KEYS {
-            return limits::DEPENDENCY_KEYS;
-        }
+    let count = keys.len().min(limits::DEPENDENCY_KEYS);
+    for i in 0..count {
         let q = ports_realms::resolve(rows, Port::new(keys[i], other));
         list[i * 2] = q.key;
         list[i * 2 + 1] = q.realm;
-        i += 1;
     }
-    i
+    count
 }
 
 // A candidate's realm, and how many turns it takes: where a port resolves to itself, its second turn is known from the first.

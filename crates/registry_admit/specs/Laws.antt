@@ -1,31 +1,29 @@
 -- What admission and call come to where the id is found in the words, and where it is not; and what they answer and leave then.
-use Rattle.std.specs.Prelude.{ℕ, ◌%◌, ◌≡◌, refl, ◌≢◌, Bool, List, [], eqb}
-use Rattle.std.proofs.Common.{arith, ◌∙◌}
+use Rattle.std.specs.Prelude.{ℕ, ◌%◌, ◌≡◌, refl, ◌≢◌, Bool, true, false, not, ◌||◌, List, [], eqb, Result, Ok, Err, IsErrAnd, is_ok, Some, None}
+use Rattle.std.proofs.Common.{◌∙◌, eq-eqb, ne_eqb, eqb-true}
 use Rattle.std.proofs.Math.Path.{sym, ap}
-use Rattle.std.proofs.Math.Bool.{true, false}
-use borrow.Author.Tests.{eq-eqb, ne_eqb, eqb-true}
-use Rattle.rules.specs.Holds.{Plugin, is_loading, with_root}
+use Rattle.std.proofs.lemmas.Result.{err_from_is_err_and}
+use Rattle.rules.specs.Holds.{is_loading, with_root}
 use Rattle.rules_types.specs.declared.Root.{Root}
 use Rattle.rules_types.specs.declared.Root.TheVariants.{Queued, Spent}
-use Rattle.rules.specs.Refusals.{Refusal, number, Unknown, Retired, InvalidState, Stale}
-use Rattle.rules.specs.Outcomes.{Refused, Accepted, Outcome, refuses, stores, checked, answer_of, Meets}
+use Rattle.rules.specs.Refusals.{Refusal, Unknown, Retired, InvalidState, Stale}
+use Rattle.rules.specs.Outcomes.{Accepted, Outcome, refuses, stores, Check, checked, answer_of, Meets}
 use Rattle.rules.specs.Phases.{setup}
-use Rattle.rules.specs.Admission.{Ticket, Invocation, five, is_unissued, admission_checks, admit, is_accepted, admits, is_live, receipt, call}
-use Rattle.memory.specs.Ways.{left_by}
+use Rattle.rules.specs.Admission.{Ticket, Invocation, five, is_unissued, admission_checks, admit, admits, is_live, receipt, call}
+use Rattle.rules_laws.specs.Laws.Verdicts.{passes, checked_pass, checked_refuses}
 use Rattle.memory.specs.Layout.{word, places, domain_word}
 use Rattle.memory.specs.View.{life_at, plugin_at, view}
 use Rattle.memory.specs.Writes.{find_at, put_life}
 use Rattle.memory.specs.Frames.{with_life}
 use Rattle.memory.specs.Known.{at_id, at_known, none_known, life_of, life_of_lem, stored_life}
-use Rattle.memory.specs.declared.Life.{Life}
-use Rattle.memory.specs.declared.Place.TheVariants.{At, None}
-use Rattle.memory_life.specs.Told.{told_stored, life_found}
-use Rattle.registry_admit.specs.Answers.{admits_answer}
-use Rattle.registry_live.specs.Lives.{verdict, verdict_of, live_of}
 use Rattle.memory.specs.Lives.{rooted_life}
+use Rattle.memory.specs.declared.Life.{Life}
+use Rattle.memory_life.specs.Told.{told_stored, life_found}
+use Rattle.registry_live.specs.Lives.{verdict_of, live_of}
+use Rattle.registry_admit.specs.Answers.{invocation, given, Asked, admits_answer}
 
 -- a found plugin and its life as it was loaded
-module _ (m : List ℕ) (id i : ℕ) (life : Life) (e : find_at m id ≡ At i) (l : life ≡ life_at m (i % places)) where
+module _ (m : List ℕ) (id i : ℕ) (life : Life) (e : find_at m id ≡ Some i) (l : life ≡ life_at m (i % places)) where
   loaded : life_of (plugin_at m i) ≡ life
   loaded = life_of_lem m i ∙ sym (life_found m id i e life l)
 
@@ -33,105 +31,78 @@ module _ (m : List ℕ) (id i : ℕ) (life : Life) (e : find_at m id ≡ At i) (
   rooted_plugin r = ap (λ x. with_life (plugin_at m i) (rooted_life x r)) loaded
 
   -- its life was stored with another root
-  told_rooted : (o : Outcome) (r : Root) (vs : List ℕ) (l' : Life) (m' : List ℕ) → o ≡ stores (with_root r (plugin_at m i)) vs
+  pub told_rooted : (o : Outcome) (r : Root) (vs : List ℕ) (l' : Life) (m' : List ℕ) → o ≡ stores (with_root r (plugin_at m i)) vs
       → l' ≡ rooted_life life r → m' ≡ put_life m (i % places) l' → Meets stored_life o m (Accepted vs) m'
   told_rooted o r vs l' m' k s p =
       told_stored o m id i vs (rooted_life life r) m' e (k ∙ ap (λ x. stores x vs) (rooted_plugin r)) (p ∙ ap (put_life m (i % places)) s)
 
--- What a verdict says of what they come to, with the outcome where they all pass.
-record Says (m : List ℕ) (same : Bool) (v : ℕ) (comes o : Outcome) : Type 0 where
-  passes : v ≡ 0 → (same ≡ true) × (comes ≡ o)
-  stops : v ≢ 0 → Meets stored_life comes m (Refused v []) m
-  accepts : is_accepted (answer_of o) ≡ true → is_accepted (answer_of comes) ≡ eqb v 0
+-- asking hands a refusal on
+pub asked_refusal : (m : List ℕ) (t : Ticket) (r : Result (ℕ × Life) Refusal) (x : Refusal) → IsErrAnd r (λ y. y ≡ x)
+    → ((a : ℕ) → admit (view m) t a ≡ refuses x []) → Asked m t r
+asked_refusal m t r x e k = let p = err_from_is_err_and r e in rw (p.1, p.2) k
 
-module _ (m : List ℕ) (o : Outcome) where
-  refusal_says : (s : Bool) (x : Refusal) → number x ≢ 0 → Says m s (number x) (refuses x []) o
-  unfolding left_by
-  refusal_says s x n = record {
-    passes = λ e. absurd (n e);
-    stops = λ k. (refl, refl);
-    accepts = λ y. sym (ne_eqb (number x) 0 n);
-  }
-
-  verdict_says : (r l s u : Bool) → Says m s (verdict r l s u) (checked (admission_checks r l s u) o) o
-  unfolding checked
-  verdict_says true l s u = refusal_says s Retired (λ e. omega arith)
-  verdict_says false true true true = record { passes = λ e. (refl, refl); stops = λ k. absurd (k refl); accepts = λ y. y }
-  verdict_says false true true false = refusal_says true InvalidState (λ e. omega arith)
-  verdict_says false true false u = refusal_says false Stale (λ e. omega arith)
-  verdict_says false false s u = refusal_says s Stale (λ e. omega arith)
-
--- What an admission answers of a plugin, with the domain and the argument; and what it comes to where it is accepted.
-abbrev invocation : ℕ → ℕ → Plugin → Invocation
-invocation d a p = record { domain = d; id = p.id; generation = p.generation; revision = p.revision; argument = a }
-
-abbrev queued : Plugin → Invocation → Outcome
-queued p t = stores (with_root (Queued t.revision t.argument) p) (five t)
+-- a plugin that passes is of the ticket's generation
+current : (l s : Bool) → (not l || not s) ≡ false → s ≡ true
+current l true h = refl
+current true false h = cc
+current false false h = cc
 
 -- over the header's word as it was read
-module _ (m : List ℕ) (t : Ticket) (a d : ℕ) (domain : d ≡ word m domain_word) where
-  pub admit_foreign : t.domain ≢ d → admit (view m) t a ≡ refuses InvalidState []
+module _ (m : List ℕ) (t : Ticket) (d : ℕ) (domain : d ≡ word m domain_word) where
+  pub asked_foreign : t.domain ≢ d → (a : ℕ) → admit (view m) t a ≡ refuses InvalidState []
   unfolding admit checked view
-  admit_foreign n = rw (ne_eqb t.domain (word m domain_word) (λ s. n (s ∙ sym domain)))
+  asked_foreign n a = rw (ne_eqb t.domain (word m domain_word) (λ s. n (s ∙ sym domain)))
 
   module _ (same : t.domain ≡ d) where
     own : eqb t.domain (word m domain_word) ≡ true
     own = eq-eqb t.domain (word m domain_word) (same ∙ domain)
 
-    pub admit_kind : t.kind ≢ setup → admit (view m) t a ≡ refuses InvalidState []
+    pub asked_kind : t.kind ≢ setup → (a : ℕ) → admit (view m) t a ≡ refuses InvalidState []
     unfolding admit checked view
-    admit_kind n = rw (own, ne_eqb t.kind setup n)
+    asked_kind n a = rw (own, ne_eqb t.kind setup n)
 
     module _ (kind : t.kind ≡ setup) where
-      pub admit_none : find_at m t.id ≡ None → admit (view m) t a ≡ refuses Unknown []
+      pub asked_none : find_at m t.id ≡ None → (a : ℕ) → admit (view m) t a ≡ refuses Unknown []
       unfolding admit checked view
-      admit_none e = rw (own, eq-eqb t.kind setup kind) (none_known m t.id e _)
+      asked_none e a = rw (own, eq-eqb t.kind setup kind) (none_known m t.id e _)
 
-      module _ (i : ℕ) (life : Life) (v : ℕ) (e : find_at m t.id ≡ At i) (l : life ≡ life_at m (i % places)) (k : v ≡ verdict_of life t.generation) where
-        said : v ≡ verdict_of (life_of (plugin_at m i)) t.generation
-        said = k ∙ ap (λ x. verdict_of x t.generation) (sym (loaded m t.id i life e l))
+      module _ (i : ℕ) (life : Life) (e : find_at m t.id ≡ Some i) (l : life ≡ life_at m (i % places)) where
+        abbrev checks : List Check
+        checks = admission_checks life.retired (is_loading life.phase) (eqb life.generation.0 t.generation) (is_unissued life.root)
 
-        says : Says m (eqb (plugin_at m i).generation t.generation) v (admit (view m) t a)
-            (queued (plugin_at m i) (invocation (word m domain_word) a (plugin_at m i)))
-        unfolding admit checked view verdict_of
-        says =
-            let p = plugin_at m i in
-            rw (own, eq-eqb t.kind setup kind) (rw (at_known m t.id i e _, said)
-            (verdict_says m (queued p (invocation (word m domain_word) a p)) p.retired (is_loading p.phase) (eqb p.generation t.generation)
-            (is_unissued p.root)))
+        abbrev queued : ℕ → Invocation → Outcome
+        queued a x = stores (with_root (Queued life.revision a) (plugin_at m i)) (five x)
 
-        pub told_verdict : v ≢ 0 → Meets stored_life (admit (view m) t a) m (Refused v []) m
-        told_verdict n = says.stops n
+        abbrev answers : ℕ → Invocation
+        answers a = invocation (word m domain_word) (plugin_at m i).id life.generation.0 life.revision a
 
-        pub admit_accepts : is_accepted (answer_of (admit (view m) t a)) ≡ eqb v 0
-        admit_accepts = says.accepts refl
+        comes : (a : ℕ) → admit (view m) t a ≡ checked checks (queued a (answers a))
+        unfolding admit checked view plugin_at
+        comes a = rw (own, eq-eqb t.kind setup kind) (at_known m t.id i e _ ∙ rw (life_found m t.id i e life l))
 
-        abbrev given : Invocation
-        given = record { domain = t.domain; id = t.id; generation = t.generation; revision = life.revision; argument = a }
+        pub asked_refused : (x : Refusal) → ◌≡◌ {A = Result Unit Refusal} (Err x) (verdict_of life t.generation) → (a : ℕ)
+            → admit (view m) t a ≡ refuses x []
+        asked_refused x h a = comes a ∙ checked_refuses checks _ x (sym h)
 
-        gives : v ≡ 0 → invocation (word m domain_word) a (plugin_at m i) ≡ given
-        gives z = λ x. record {
-          domain = sym (same ∙ domain) x;
-          id = at_id m t.id i e x;
-          generation = eqb-true (plugin_at m i).generation t.generation (says.passes z).0 x;
-          revision = (loaded m t.id i life e l x).revision;
-          argument = a;
-        }
+        pub asked_passed : ◌≡◌ {A = Result Unit Refusal} (Ok tt) (verdict_of life t.generation) → (a : ℕ)
+            → admit (view m) t a ≡ queued a (given t life a)
+        asked_passed h a =
+            let g : life.generation.0 ≡ t.generation = eqb-true _ _ (current (is_loading life.phase) _ (passes checks (sym h)).1.0) in
+            let x : answers a ≡ given t life a = λ k. record {
+              domain = sym (same ∙ domain) k;
+              id = at_id m t.id i e k;
+              generation = g k;
+              revision = life.revision;
+              argument = a;
+            } in
+            comes a ∙ checked_pass checks _ (sym h) ∙ ap (queued a) x
 
-        pub told_admitted : (l' : Life) (m' : List ℕ) → v ≡ 0 → l' ≡ rooted_life life (Queued life.revision a) → m' ≡ put_life m (i % places) l'
-            → Meets stored_life (admit (view m) t a) m (Accepted (five given)) m'
-        told_admitted l' m' z s p =
-            told_rooted m t.id i life e l (admit (view m) t a) (Queued life.revision a) (five given) l' m'
-            ((says.passes z).1 ∙ ap (queued (plugin_at m i)) (gives z)) s p
-
--- Whether a ticket would be admitted.
-module _ (m : List ℕ) (t : Ticket) where
-  pub admits_as : (b : Bool) → is_accepted (answer_of (admit (view m) t 0)) ≡ b → admits_answer b ≡ answer_of (admits (view m) t)
-  unfolding admits
-  admits_as b e = rw e
-
-  pub admits_refused : (x : Refusal) → admit (view m) t 0 ≡ refuses x [] → admits_answer false ≡ answer_of (admits (view m) t)
-  admits_refused x e = admits_as false (rw e)
+-- whether a ticket would be admitted
+pub asked_accepts : (m : List ℕ) (t : Ticket) (r : Result (ℕ × Life) Refusal) (b : Bool) → Asked m t r → b ≡ is_ok r
+    → admits_answer b ≡ answer_of (admits (view m) t)
+unfolding admits
+asked_accepts m t (Ok x) b h e = rw (e, h.2 0)
+asked_accepts m t (Err x) b h e = rw (e, h 0)
 
 -- A call.
 module _ (m : List ℕ) (t : Invocation) (d : ℕ) (domain : d ≡ word m domain_word) where
@@ -147,7 +118,7 @@ module _ (m : List ℕ) (t : Invocation) (d : ℕ) (domain : d ≡ word m domain
     unfolding call checked view
     call_none e = rw ours (none_known m t.id e _)
 
-    module _ (i : ℕ) (life : Life) (e : find_at m t.id ≡ At i) (l : life ≡ life_at m (i % places)) where
+    module _ (i : ℕ) (life : Life) (e : find_at m t.id ≡ Some i) (l : life ≡ life_at m (i % places)) where
       marked : (plugin_at m i).retired ≡ life.retired
       marked = ap (λ x. x.retired) (loaded m t.id i life e l)
 
@@ -155,10 +126,10 @@ module _ (m : List ℕ) (t : Invocation) (d : ℕ) (domain : d ≡ word m domain
       unfolding call checked view
       call_retired y = rw ours (at_known m t.id i e _ ∙ rw (marked ∙ y))
 
-      module _ (b : Bool) (f : life.retired ≡ false) (k : b ≡ live_of life t.generation t.revision t.argument) where
+      module _ (b : Bool) (f : life.retired ≡ false) (k : b ≡ live_of life t) where
         live : is_live (plugin_at m i) t ≡ b
-        unfolding is_live live_of
-        live = ap (λ x. live_of x t.generation t.revision t.argument) (loaded m t.id i life e l) ∙ sym k
+        unfolding is_live
+        live = ap (λ x. live_of x t) (loaded m t.id i life e l) ∙ sym k
 
         pub call_stale : b ≡ false → call (view m) t ≡ refuses Stale []
         unfolding call checked view

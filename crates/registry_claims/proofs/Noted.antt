@@ -2,28 +2,19 @@
 use Prim.Native.Nat.{ℕ}
 use native.Mathlib.Omega.{arith}
 use mathlib.Core.Path.{◌≡◌, refl, sym}
-use mathlib.Core.Bool.{Bool, true, false, ◌&&◌, true≢false}
-use mathlib.Core.List.{List, ◌∷◌, ◌++◌}
+use mathlib.Core.Bool.{true, false, ◌&&◌, true≢false}
+use mathlib.Core.List.{List, ◌∷◌}
 use lib.ListN.{length}
 use borrow.Author.Tests.{eqb-true}
 use Rattle.rules_types.specs.declared.Port.{Port}
 use Rattle.rules.specs.Holds.{same_port, is_in}
 use Rattle.rules.specs.Registration.{repeats}
 use Rattle.rules_laws.specs.Laws.Tests.{by_test, both}
-use Rattle.rules_laws.specs.Laws.Members.{any_append}
 use Rattle.memory.specs.Layout.{places}
 use Rattle.registry_claims.specs.Seen.{key_words, seen, see}
 use Rattle.registry_claims.specs.Behind.{claims_from, Noted}
 use Rattle.registry_claims.proofs.Behind.{claims_end}
 use Rattle.registry_claims.proofs.Bits.{see_size, seen_comes, seen_stays}
-
--- a port whose key was seen, in one of two lists
-module _ (a b : List Port) (q : Port) {s : Bool} (y : s ≡ true) where
-  pub among_first : is_in q a ≡ true → true ≡ (s && is_in q (a ++ b))
-  among_first t = rw (y, any_append (same_port q) a b, t)
-
-  pub among_second : {r : Bool} → is_in q a ≡ false → r ≡ is_in q b → r ≡ (s && is_in q (a ++ b))
-  among_second n e = rw (y, any_append (same_port q) a b, n) e
 
 -- no place is left behind the last one
 pub noted_end : (m keys : List ℕ) → length keys ≡ key_words → Noted keys (claims_from m places)

@@ -2,7 +2,7 @@
 #![tactic(auto)]
 
 ghost use Rattle.std.specs.Prelude.{◌≡◌, ◌&&◌, ◌++◌, ◌+◌, ◌<◌};
-ghost use Rattle.rules.specs.Holds.{port, is_in, plugins};
+ghost use Rattle.rules.specs.Holds.{is_in, plugins};
 ghost use Rattle.rules.specs.Ports.{pairs};
 ghost use Rattle.rules.specs.Conditions.{ports_differ};
 ghost use Rattle.memory.specs.Layout.{places};
@@ -12,6 +12,7 @@ ghost use Rattle.registry_claims.specs.Behind.{claims_from, Noted, Differs};
 
 use memory::WORDS;
 use memory::layout::PLACES;
+use rules::Port;
 
 // The claimed keys have a bit for each remainder: by a prime, so that keys a power of 2 apart do not share one.
 const REMAINDERS: u64 = 4093;
@@ -36,17 +37,13 @@ fn see(keys: &mut [u64; KEY_WORDS], key: u64)
 }
 
 // Whether a plugin from this place on has the port as provision or anchor.
-fn claimed_behind(m: &[u64; WORDS], place: usize, key: u64, realm: u64) -> bool
-    ensures { result ≡ is_in (port key realm) (claims_from m.now place) }
+fn claimed_behind(m: &[u64; WORDS], place: usize, port: Port) -> bool
+    ensures { result ≡ is_in port (claims_from m.now place) }
 {
-    let mut i = place;
-    while i < PLACES {
-        if memory::is_taken(m, i) {
-            if memory_providers::provides(m, i, key, realm) {
-                return true;
-            }
+    for i in place..PLACES {
+        if memory::is_taken(m, i) && memory_providers::provides(m, i, port) {
+            return true;
         }
-        i += 1;
     }
     false
 }
@@ -57,19 +54,11 @@ fn is_claimed(
     place: usize,
     rows: &[u64],
     keys: &[u64; KEY_WORDS],
-    key: u64,
-    realm: u64,
+    port: Port,
 ) -> bool
-    ensures { result ≡ (seen keys.now key && is_in (port key realm) (pairs rows.now ++ claims_from m.now place)) }
+    ensures { result ≡ (seen keys.now port.key && is_in port (pairs rows.now ++ claims_from m.now place)) }
 {
-    if !bit_seen(keys, key) {
-        return false;
-    }
-    if ports::has_port(rows, key, realm) {
-        true
-    } else {
-        claimed_behind(m, place, key, realm)
-    }
+    bit_seen(keys, port.key) && (ports::has_port(rows, port) || claimed_behind(m, place, port))
 }
 
 // Whether the ports of a place's plugin differ from each other and from those behind; their keys are then seen too.
@@ -80,18 +69,17 @@ fn place_differs(m: &[u64; WORDS], place: usize, keys: &mut [u64; KEY_WORDS]) ->
     if !memory::is_taken(m, place) {
         return true;
     }
-    memory::known(m);
     let ports = memory_providers::offered_words(m, place);
-    let mut row = ports.len() / 2;
-    while 0 < row {
-        row -= 1;
+    for row in (0..ports.len() / 2).rev() {
         let at = row * 2;
-        let key = ports[at];
-        let realm = ports[at + 1];
-        if is_claimed(m, place + 1, &ports[at + 2..], keys, key, realm) {
+        let port = Port {
+            key: ports[at],
+            realm: ports[at + 1],
+        };
+        if is_claimed(m, place + 1, &ports[at + 2..], keys, port) {
             return false;
         }
-        see(keys, key);
+        see(keys, port.key);
     }
     true
 }
@@ -101,9 +89,7 @@ pub fn differ(m: &[u64; WORDS]) -> bool
     ensures { result ≡ ports_differ (plugins (view m.now)) }
 {
     let mut keys = [0u64; KEY_WORDS];
-    let mut i: usize = PLACES;
-    while 0 < i {
-        i -= 1;
+    for i in (0..PLACES).rev() {
         if !place_differs(m, i, &mut keys) {
             return false;
         }

@@ -1,4 +1,5 @@
 -- Where all ports differ a port's first provider is its only one: so the rows of providers say who needs whom.
+use Rattle.std.specs.Prelude.{Option, Some, None}
 use Prim.Native.Nat.{ℕ, zero, suc, ◌+◌, ◌<◌, ◌≤◌}
 use native.Mathlib.Omega.{arith}
 use mathlib.Core.Path.{◌≡◌, refl, sym, ap, ◌∙◌}
@@ -19,8 +20,6 @@ use Rattle.rules_load.specs.Laws.Claims.{repeats_split, provides_claims, claimed
 use Rattle.memory.specs.Layout.{taken, places}
 use Rattle.memory.specs.Lookups.{search_from, search_found}
 use Rattle.memory.specs.View.{plugin_at, place_at, places_from, view}
-use Rattle.memory.specs.declared.Place.{Place}
-use Rattle.memory.specs.declared.Place.TheVariants.{At, None}
 use Rattle.memory_providers.specs.Providers.{provider_at, provider_view}
 use Rattle.memory_providers.specs.Words.{is_among, word_of}
 use Rattle.registry_cycles.specs.Left.{Needed}
@@ -41,14 +40,14 @@ in_held (suc n) m i j g h t = by_test (eqb j i)
 
 -- a place that provides a port is the first that does
 only_provider : (q : Port) (n : ℕ) (m : List ℕ) (i j : ℕ) → repeats (claims_of (held (places_from n m i))) ≡ false → i ≤ j → j < i + n
-    → taken m j ≡ true → provides (plugin_at m j) q ≡ true → search_from (λ (p : Plugin). provides p q) n m i ≡ At j
+    → taken m j ≡ true → provides (plugin_at m j) q ≡ true → search_from (λ (p : Plugin). provides p q) n m i ≡ Some j
 unfolding search_from places_from place_at
 only_provider q zero m i j e g h t p = absurd (omega arith)
 only_provider q (suc n) m i j e g h t p = by_test (eqb j i)
     (λ y. let s = eqb-true j i y in
     let u : taken m i ≡ true = ap (taken m) (sym s) ∙ t in
     let v : provides (plugin_at m i) q ≡ true = ap (λ k. provides (plugin_at m k) q) (sym s) ∙ p in
-    rw (u, v) (ap At (sym s)))
+    rw (u, v) (ap Some (sym s)))
     (λ d. let s = eqb-false j i d in
     by_test (taken m i)
     (λ u.
@@ -60,8 +59,8 @@ only_provider q (suc n) m i j e g h t p = by_test (eqb j i)
     (λ v. rw (u, v) (only_provider q n m (i + 1) j w.1 (omega arith) (omega arith) t p)))
     (λ u. let f = rw u at e in rw u (only_provider q n m (i + 1) j f (omega arith) (omega arith) t p)))
 
-is_at_lem : (x : Place) (j : ℕ) → is_at x j ≡ true → x ≡ At j
-is_at_lem (At i) j e = ap At (sym (eqb-true j i e))
+is_at_lem : (x : Option ℕ) (j : ℕ) → is_at x j ≡ true → x ≡ Some j
+is_at_lem (Some i) j e = ap Some (sym (eqb-true j i e))
 is_at_lem None j e = cc
 
 runs_active : (p : Plugin) → is_active p.phase ≡ true → running p ≡ true

@@ -1,4 +1,5 @@
 -- The row of a list of ports, one port after the other.
+use Rattle.std.specs.Prelude.{Option, Some, None}
 use Prim.Native.Nat.{ℕ, ◌*◌, ◌%◌, ◌^◌, ◌<◌}
 use native.Mathlib.Omega.{arith}
 use mathlib.Core.Path.{◌≡◌, refl, sym, ap, ◌∙◌}
@@ -14,13 +15,10 @@ use Rattle.rules_types.specs.declared.Port.{Port}
 use Rattle.memory.specs.Layout.{places}
 use Rattle.memory.specs.View.{life_at, view}
 use Rattle.memory.specs.declared.Life.{Life}
-use Rattle.memory.specs.declared.Place.{Place}
-use Rattle.memory.specs.declared.Place.TheVariants.{At, None}
 use Rattle.memory_index.specs.Among.{among_or}
 use Rattle.memory_places.specs.Bits.{bit_none, one_shl}
 use Rattle.memory_providers.specs.Providers.{provider_at, provider_view, provider_active, provider_below}
 use Rattle.memory_providers.specs.Words.{is_among, word_of}
-use Rattle.registry_cycles.specs.declared.Row.TheVariants.{Of, Unserved}
 use Rattle.registry_cycles.specs.Rows.{is_at, provides_one, row_of}
 use Rattle.registry_cycles.proofs.Words.{bits_word, word_same}
 
@@ -34,22 +32,22 @@ pub rowed_begin : (m : List ℕ) (qs : List Port) → Rowed m qs qs 0
 rowed_begin m qs = record { small = omega arith; bits = λ j. rw (bit_none j); served = refl }
 
 module _ (m : List ℕ) (qs rest : List Port) (row : ℕ) (t : Rowed m qs rest row) where
-  pub rowed_end : rest ≡ [] → Of row ≡ row_of m qs
+  pub rowed_end : rest ≡ [] → Some row ≡ row_of m qs
   rowed_end e =
       let s : all (available (view m)) qs ≡ true = t.served ∙ rw e in
       let w : row ≡ word_of (provides_one m qs) places 0 = sym (bits_word row places t.small)
       ∙ word_same (is_among row) (provides_one m qs) places 0 (λ j l. sym (or-false (is_among row j)) ∙ ap (λ l. is_among row j || provides_one m l j) (sym e) ∙ t.bits j) in
-      rw s (ap Of w)
+      rw s (ap Some w)
 
-  module _ (q : Port) (ps : List Port) (e : rest ≡ q ∷ ps) (x : Place) (g : x ≡ provider_at m q) where
-    pub rowed_none : x ≡ None → Unserved ≡ row_of m qs
+  module _ (q : Port) (ps : List Port) (e : rest ≡ q ∷ ps) (x : Option ℕ) (g : x ≡ provider_at m q) where
+    pub rowed_none : x ≡ None → None ≡ row_of m qs
     rowed_none n = rw (t.served, e, provider_view m q, sym g ∙ n)
 
-    module _ (i : ℕ) (f : x ≡ At i) (l : Life) (h : l ≡ life_at m (i % places)) (b : Bool) (k : b ≡ is_active l.phase) where
+    module _ (i : ℕ) (f : x ≡ Some i) (l : Life) (h : l ≡ life_at m (i % places)) (b : Bool) (k : b ≡ is_active l.phase) where
       is_available_lem : available (view m) q ≡ b
       is_available_lem = rw (provider_view m q, sym g ∙ f) (provider_active m q x g i f l h b k)
 
-      pub rowed_not : b ≡ false → Unserved ≡ row_of m qs
+      pub rowed_not : b ≡ false → None ≡ row_of m qs
       rowed_not n = rw (t.served, e, is_available_lem ∙ n)
 
       below : i < places

@@ -1,5 +1,5 @@
 -- A round over words is a round over the plugins of their places.
-use Prim.Native.Nat.{ℕ, zero, suc, ◌-◌, ◌^◌, ◌<◌, ◌≤◌}
+use Prim.Native.Nat.{ℕ, zero, suc, ◌+◌, ◌-◌, ◌^◌, ◌<◌, ◌≤◌}
 use native.Mathlib.Omega.{arith}
 use mathlib.Core.Path.{◌≡◌, refl, sym, ap, ◌∙◌}
 use mathlib.Core.Bool.{Bool, true, false, not, ◌&&◌, and-true, and-false}
@@ -78,10 +78,10 @@ none_still zero rows left e = refl
 none_still (suc n) rows left e = ap (none_waiting n rows) (sym e) ∙ none_still n rows left e
 
 module _ (rows : List ℕ) (left n : ℕ) where
-  pub none_next : 0 < n → none_waiting n rows left ≡ none_waiting (n - 1) rows (word_of (waits_at rows left) places 0)
+  pub none_next : n < places → none_waiting (places - n) rows left ≡ none_waiting (places - (n + 1)) rows (word_of (waits_at rows left) places 0)
   unfolding none_waiting
-  none_next h = let s : n ≡ suc (n - 1) = omega arith in ap (λ k. none_waiting k rows left) s
+  none_next h = let s : places - n ≡ suc (places - (n + 1)) = omega arith in ap (λ k. none_waiting k rows left) s
 
-  pub none_end : n ≤ 0 → none_waiting n rows left ≡ eqb left 0
+  pub none_end : places ≤ n → none_waiting (places - n) rows left ≡ eqb left 0
   unfolding none_waiting
-  none_end h = let s : n ≡ 0 = omega arith in ap (λ k. none_waiting k rows left) s
+  none_end h = let s : places - n ≡ 0 = omega arith in ap (λ k. none_waiting k rows left) s

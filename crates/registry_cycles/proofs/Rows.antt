@@ -1,4 +1,5 @@
 -- The rows of a word's places, one more.
+use Rattle.std.specs.Prelude.{Option, Some, None}
 use Prim.Native.Nat.{ℕ, ◌+◌, ◌%◌, ◌<◌, ◌≤◌}
 use native.Mathlib.Nat.{mod-eq_of_lt}
 use native.Mathlib.Omega.{arith}
@@ -17,8 +18,6 @@ use Rattle.rules_laws.specs.Laws.Tests.{by_test}
 use Rattle.memory.specs.Layout.{dep_part, places}
 use Rattle.memory.specs.View.{plugin_at, view}
 use Rattle.memory_providers.specs.Words.{is_among, word_of}
-use Rattle.registry_cycles.specs.declared.Row.{Row}
-use Rattle.registry_cycles.specs.declared.Row.TheVariants.{Of, Unserved}
 use Rattle.registry_cycles.specs.Rows.{provides_one, row_of, row_at, served_in, RowsFor}
 
 deps_at_lem : (m : List ℕ) (i : ℕ) → (plugin_at m i).dependencies ≡ pairs (dep_part m i)
@@ -27,36 +26,36 @@ deps_at_lem m i = refl
 
 -- the row of a place, by its dependencies' words
 module _ (m : List ℕ) (among i : ℕ) (h : i < places) where
-  pub row_among : is_among among i ≡ true → (ws : List ℕ) → ws ≡ dep_part m (i % places) → (r : Row) → r ≡ row_of m (pairs ws) → r ≡ row_at m among i
+  pub row_among : is_among among i ≡ true → (ws : List ℕ) → ws ≡ dep_part m (i % places) → (r : Option ℕ) → r ≡ row_of m (pairs ws) → r ≡ row_at m among i
   row_among t ws e r f =
-      f ∙ ap (row_of m) (ap pairs (e ∙ ap (dep_part m) (mod-eq_of_lt h)) ∙ sym (deps_at_lem m i)) ∙ sym (ap (λ b. pick b (row_of m (plugin_at m i).dependencies) (Of 0)) t)
+      f ∙ ap (row_of m) (ap pairs (e ∙ ap (dep_part m) (mod-eq_of_lt h)) ∙ sym (deps_at_lem m i)) ∙ sym (ap (λ b. pick b (row_of m (plugin_at m i).dependencies) (Some 0)) t)
 
-  pub row_apart : is_among among i ≡ false → Of 0 ≡ row_at m among i
-  row_apart u = sym (ap (λ b. pick b (row_of m (plugin_at m i).dependencies) (Of 0)) u)
+  pub row_apart : is_among among i ≡ false → Some 0 ≡ row_at m among i
+  row_apart u = sym (ap (λ b. pick b (row_of m (plugin_at m i).dependencies) (Some 0)) u)
 
 -- a place that has a row is served, and one that has none is not
 module _ (m : List ℕ) (among i : ℕ) where
   abbrev deps : List Port
   deps = (plugin_at m i).dependencies
 
-  pub row_is : (x : ℕ) → Of x ≡ row_at m among i
+  pub row_is : (x : ℕ) → Some x ≡ row_at m among i
       → (served_in m among i ≡ true) × (is_among among i ≡ true → x ≡ word_of (provides_one m deps) places 0)
   row_is x e = by_test (is_among among i)
-      (λ t. let s : Of x ≡ row_of m deps = rw t at e in
+      (λ t. let s : Some x ≡ row_of m deps = rw t at e in
       let r = served (all (available (view m)) deps) s in
       (rw (t, r.0), λ y. r.1))
       (λ u. (rw u, λ y. let z : true ≡ false = sym y ∙ u in cc))
     where
-      served : (b : Bool) → Of x ≡ pick b (Of (word_of (provides_one m deps) places 0)) Unserved → (b ≡ true) × (x ≡ word_of (provides_one m deps) places 0)
+      served : (b : Bool) → Some x ≡ pick b (Some (word_of (provides_one m deps) places 0)) None → (b ≡ true) × (x ≡ word_of (provides_one m deps) places 0)
       served true e = (refl, cc)
       served false e = (cc, cc)
 
-  pub row_not : Unserved ≡ row_at m among i → served_in m among i ≡ false
+  pub row_not : None ≡ row_at m among i → served_in m among i ≡ false
   row_not e = by_test (is_among among i)
-      (λ t. let s : Unserved ≡ row_of m deps = rw t at e in rw (t, unserved (all (available (view m)) deps) s))
-      (λ u. let s : Unserved ≡ Of 0 = rw u at e in cc)
+      (λ t. let s : None ≡ row_of m deps = rw t at e in rw (t, unserved (all (available (view m)) deps) s))
+      (λ u. let s : None ≡ Some 0 = rw u at e in cc)
     where
-      unserved : (b : Bool) → Unserved ≡ pick b (Of (word_of (provides_one m deps) places 0)) Unserved → b ≡ false
+      unserved : (b : Bool) → None ≡ pick b (Some (word_of (provides_one m deps) places 0)) None → b ≡ false
       unserved true e = cc
       unserved false e = refl
 

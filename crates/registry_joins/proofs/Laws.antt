@@ -1,4 +1,5 @@
 -- What is asked, test by test: of the lists, and of the realm list and the parent.
+use Rattle.std.specs.Prelude.{Option, Some, None}
 use Prim.Native.Nat.{ℕ, ◌%◌}
 use mathlib.Core.Path.{◌≡◌, refl, sym, ap, ◌∙◌}
 use mathlib.Core.Bool.{Bool, true, false, and-false}
@@ -16,11 +17,8 @@ use Rattle.rules_laws.specs.Laws.Tests.{by_test}
 use Rattle.rules_load.specs.Joining.{ports_fit}
 use Rattle.memory.specs.Layout.{dep_part, places}
 use Rattle.memory.specs.View.{plugin_at, view}
-use Rattle.memory.specs.Writes.{find_at, parent_id}
+use Rattle.memory.specs.Writes.{find_at}
 use Rattle.memory.specs.Known.{at_place, at_lookup, none_lookup}
-use Rattle.memory.specs.declared.Parent.{Parent}
-use Rattle.memory.specs.declared.Parent.TheVariants as parent
-use Rattle.memory.specs.declared.Place.TheVariants.{At, None}
 use Rattle.ports_realms.specs.Halving.{reached_with, reached_in}
 use Rattle.ports_realms.proofs.Reached.{good_table}
 use Rattle.ports_realms.specs.Rows.{good_realms}
@@ -50,9 +48,9 @@ module _ (anchor : Port) (realms parents provisions dependencies : List ℕ) whe
         let f = ap (λ (x : Realms). all (resolved_in x) (pairs provisions)) (sym table) ∙ e in
         g ∙ ap (λ (x : Realms). given_list x (pairs provisions) anchor (pairs parents) (pairs dependencies)) table ∙ rw f
 
-module _ (m : List ℕ) (p : Parent) (anchor : Port) (realms provisions dependencies : List ℕ) where
+module _ (m : List ℕ) (p : Option ℕ) (anchor : Port) (realms provisions dependencies : List ℕ) where
   abbrev fit : Bool
-  fit = lent_fit (view m) (parent_id p) anchor realms provisions dependencies
+  fit = lent_fit (view m) p anchor realms provisions dependencies
 
   pub fit_bad : (rows : List ℕ) → rows ≡ drop 2 realms → bad_realms rows ≡ true → false ≡ fit
   unfolding lent_fit
@@ -63,8 +61,8 @@ module _ (m : List ℕ) (p : Parent) (anchor : Port) (realms provisions dependen
     good : bad_realms (drop 2 realms) ≡ false
     good = ap bad_realms (sym r) ∙ passes
 
-    lists_fit_lem : or_none (λ x. is_some (lookup (view m) x)) (parent_id p) ≡ true → (parents : List ℕ)
-        → pairs parents ≡ inherited_from (parent_of (view m) (parent_id p)) → lists anchor realms parents provisions dependencies ≡ fit
+    lists_fit_lem : or_none (λ x. is_some (lookup (view m) x)) p ≡ true → (parents : List ℕ)
+        → pairs parents ≡ inherited_from (parent_of (view m) p) → lists anchor realms parents provisions dependencies ≡ fit
     unfolding lent_fit lists_fit ports_fit realm_list
     lists_fit_lem stands parents e =
         ap (λ (x : Realms). lists_fit x anchor (pairs parents) (pairs provisions) (pairs dependencies)) (good_table realms good)
@@ -72,15 +70,15 @@ module _ (m : List ℕ) (p : Parent) (anchor : Port) (realms provisions dependen
         ∙ rw (good, stands, (good_realms (drop 2 realms) good).2)
         (by_test (leb (length (pairs dependencies)) max_dependencies) (λ y. rw y) (λ n. rw (n, and-false)))
 
-    pub fit_alone : p ≡ parent.None → (parents : List ℕ) → parents ≡ [] → {b : Bool}
+    pub fit_alone : p ≡ None → (parents : List ℕ) → parents ≡ [] → {b : Bool}
         → b ≡ lists anchor realms parents provisions dependencies → b ≡ fit
     fit_alone f parents e g = g ∙ lists_fit_lem (rw f refl) parents (rw (f, e))
 
-    pub fit_orphan : (id : ℕ) → p ≡ parent.Of id → find_at m id ≡ None → false ≡ fit
+    pub fit_orphan : (id : ℕ) → p ≡ Some id → find_at m id ≡ None → false ≡ fit
     unfolding lent_fit ports_fit
     fit_orphan id f e = rw f (rw (none_lookup m id e, and-false))
 
-    pub fit_child : (id : ℕ) → p ≡ parent.Of id → (at : ℕ) → find_at m id ≡ At at → (parents : List ℕ) → parents ≡ dep_part m (at % places)
+    pub fit_child : (id : ℕ) → p ≡ Some id → (at : ℕ) → find_at m id ≡ Some at → (parents : List ℕ) → parents ≡ dep_part m (at % places)
         → {b : Bool} → b ≡ lists anchor realms parents provisions dependencies → b ≡ fit
     unfolding plugin_at
     fit_child id f at e parents d g =

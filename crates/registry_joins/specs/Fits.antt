@@ -1,7 +1,6 @@
 -- What a text's plugin is asked of its ports, by lists as they are lent.
-use Rattle.std.specs.Prelude.{ℕ, ◌≤◌, ◌≡◌, Bool, false, not, ◌&&◌, List, leb, length}
+use Rattle.std.specs.Prelude.{ℕ, ◌≤◌, ◌≡◌, Bool, false, not, ◌&&◌, List, leb, length, Option}
 use Rattle.std.proofs.Math.Bool.{and-false}
-use Rattle.std.proofs.Math.Option.{Option}
 use Rattle.std.proofs.Common.{le-leb, le-ltb}
 use Rattle.rules.specs.Basics.{all}
 use Rattle.rules_types.specs.declared.Port.{Port}

@@ -2,73 +2,50 @@
 #![tactic(auto)]
 
 ghost use Rattle.std.specs.Prelude.{◌≡◌};
-ghost use Rattle.rules.specs.Admission.{is_queued};
-ghost use Rattle.registry_live.specs.Lives.{is_current, verdict_of, live_of};
+ghost use Rattle.registry_live.specs.Lives.{is_current, verdict_of, invocation_of, live_of};
 
 use memory::Life;
-use rules::{Phase, Root, refusal};
+use rules::{Phase, Refusal, Root};
 
-// The verdict on a life that is admitted; every other is a refusal's number.
-pub const ADMITTED: u64 = 0;
+// What an admission answers and a call takes.
+#[derive(Clone, Copy, PartialEq, Eq)]
+pub struct Invocation {
+    pub domain: u64,
+    pub id: u64,
+    pub generation: u64,
+    pub revision: u64,
+    pub argument: u64,
+}
 
 // Loading, and of this generation.
 fn is_current(life: Life, generation: u64) -> bool
     ensures { result ≡ is_current life generation }
 {
-    let phase = life.phase;
-    match phase {
-        Phase::Idle => false,
-        Phase::Loading => life.generation.0 == generation,
-        Phase::Active => false,
-        Phase::Unloading => false,
-    }
+    life.phase == Phase::Loading && life.generation.0 == generation
 }
 
 // What admission says of a found plugin's life.
-pub fn verdict(life: Life, generation: u64) -> u64
+#[tactic(auto, unfolding(rules::specs::Answers::verdict))]
+pub fn verdict(life: Life, generation: u64) -> Result<(), Refusal>
     ensures { result ≡ verdict_of life generation }
 {
     if life.retired {
-        return refusal::RETIRED;
+        return Err(Refusal::Retired);
     }
-    if is_current(life, generation) {
-        let root = life.root;
-        return match root {
-            Root::Unissued => ADMITTED,
-            Root::Queued(_, _) => refusal::INVALID_STATE,
-            Root::Spent => refusal::INVALID_STATE,
-        };
+    if !is_current(life, generation) {
+        return Err(Refusal::Stale);
     }
-    refusal::STALE
-}
-
-// Queued with this revision and argument.
-fn is_queued(root: Root, revision: u64, argument: u64) -> bool
-    ensures { result ≡ is_queued root revision argument }
-{
-    match root {
-        Root::Unissued => false,
-        Root::Queued(queued, given) => {
-            let same = queued == revision;
-            if same {
-                return given == argument;
-            }
-            false
-        }
-        Root::Spent => false,
+    if life.root != Root::Unissued {
+        return Err(Refusal::InvalidState);
     }
+    Ok(())
 }
 
 // Whether an invocation is still the admitted one of this life.
-pub fn is_live(life: Life, generation: u64, revision: u64, argument: u64) -> bool
-    ensures { result ≡ live_of life generation revision argument }
+pub fn is_live(life: Life, invocation: Invocation) -> bool
+    ensures { result ≡ live_of life (invocation_of invocation) }
 {
-    if is_current(life, generation) {
-        let same = life.revision == revision;
-        if same {
-            let root = life.root;
-            return is_queued(root, revision, argument);
-        }
-    }
-    false
+    is_current(life, invocation.generation)
+        && life.revision == invocation.revision
+        && life.root == Root::Queued(invocation.revision, invocation.argument)
 }

@@ -1,5 +1,5 @@
 -- The plugins of a text, one after the other: what holds once some have joined, one more, and one that does not.
-use Rattle.std.specs.Prelude.{ℕ, ◌+◌, ◌-◌, ◌≤◌, ◌<◌, ◌≡◌, refl, true, false, leb, drop}
+use Rattle.std.specs.Prelude.{ℕ, ◌+◌, ◌-◌, ◌≤◌, ◌<◌, ◌≡◌, refl, true, false, leb, drop, Option, Some, None}
 use native.Mathlib.Omega.{arith}
 use Rattle.std.proofs.Math.Path.{sym, ap}
 use Rattle.std.proofs.Common.{◌∙◌, subst}
@@ -27,8 +27,6 @@ use Rattle.memory_load.proofs.SoFar.{SoFar, so_far_start, so_far_next}
 use Rattle.text_form.specs.Forms.{Read, found, torn, and_then, read_many}
 use Rattle.text_form.proofs.Forms.{torn_found, many_exact}
 use Rattle.rules.proofs.Text.{block_lawful}
-use Rattle.text_read_number.specs.declared.Next.{Next}
-use Rattle.text_read_number.specs.declared.Next.TheVariants.{At, Torn}
 use Rattle.text_read_number.specs.Reads.{read_from, read_at, Reads}
 use Rattle.text_read.specs.Lists.{many_none, many_more, many_torn, many_left}
 use Rattle.registry_block.specs.declared.Joined.{Joined}
@@ -36,19 +34,20 @@ use Rattle.registry_load.specs.Joined.{fits, fits_passes, unfit_refused}
 
 -- A block that does not join: torn, or its plugin does not fit.
 pub data Apart (t : List ℕ) (at : ℕ) (w : List ℕ) (from next rows : ℕ) : Type 0 where
-  torn_block : (p : Plugin) → Reads block.read t (At at) p Torn → Apart t at w from next rows
-  unfit_block : (p : Plugin) (n : ℕ) → Reads block.read t (At at) p (At n) → fits w from next rows p ≡ false → Apart t at w from next rows
+  torn_block : Reads block.read t at None → Apart t at w from next rows
+  unfit_block : (p : Plugin) (n : ℕ) → Reads block.read t at (Some (p, n)) → fits w from next rows p ≡ false → Apart t at w from next rows
 
 -- What is left of a block at a place: the plugin in the words, or nothing that is asked for again.
-pub data JoinRead (t : List ℕ) (at : ℕ) (w : List ℕ) (place from next rows : ℕ) : Joined → List ℕ → Type 0 where
-  refused : (w' : List ℕ) → Apart t at w from next rows → JoinRead t at w place from next rows (record { next = Torn; rows = 0; from = 0 }) w'
-  joined : (p : Plugin) (n : ℕ) → Reads block.read t (At at) p (At n) → fits w from next rows p ≡ true
-      → JoinRead t at w place from next rows (record { next = At n; rows = rows + rows_of p; from = p.id + 1 }) (loaded_plugin w place rows next (unqueued p))
+pub data JoinRead (t : List ℕ) (at : ℕ) (w : List ℕ) (place from next rows : ℕ) : Option Joined → List ℕ → Type 0 where
+  refused : (w' : List ℕ) → Apart t at w from next rows → JoinRead t at w place from next rows None w'
+  joined : (p : Plugin) (n : ℕ) → Reads block.read t at (Some (p, n)) → fits w from next rows p ≡ true
+      → JoinRead t at w place from next rows (Some (record { next = n; rows = rows + rows_of p; from = p.id + 1 }))
+      (loaded_plugin w place rows next (unqueued p))
 
 -- Some plugins have joined.
 pub record PluginsSoFar (t : List ℕ) (at domain first next : ℕ) (w : List ℕ) (place rows from k : ℕ) : Type 0 where
   pub done : List Plugin
-  pub reads : Reads (read_many block k) t (At at) done (At place)
+  pub reads : Reads (read_many block k) t at (Some (done, place))
   pub count : k ≡ length done
   pub written : SoFar domain first next from (map unqueued done) w
   pub ids : from ≡ behind_ids first done
@@ -60,11 +59,11 @@ pub record PluginsSoFar (t : List ℕ) (at domain first next : ℕ) (w : List �
 -- No plugins that are read here make a text that loads.
 abbrev pub Unfit : List ℕ → (at count first next : ℕ) → Type 0
 Unfit t at count first next =
-    (s : Said) (rest : List ℕ) → s.first ≡ first → s.next ≡ next → read_from (read_many block count) t (At at) ≡ found s.plugins rest → loadable s ≡ false
+    (s : Said) (rest : List ℕ) → s.first ≡ first → s.next ≡ next → read_from (read_many block count) t at ≡ found s.plugins rest → loadable s ≡ false
 
-pub data PluginsRead (t : List ℕ) (at count domain first next : ℕ) : Next → List ℕ → Type 0 where
-  stopped : (w : List ℕ) → Unfit t at count first next → PluginsRead t at count domain first next Torn w
-  all : {w : List ℕ} {n rows from : ℕ} → PluginsSoFar t at domain first next w n rows from count → PluginsRead t at count domain first next (At n) w
+pub data PluginsRead (t : List ℕ) (at count domain first next : ℕ) : Option ℕ → List ℕ → Type 0 where
+  stopped : (w : List ℕ) → Unfit t at count first next → PluginsRead t at count domain first next None w
+  all : {w : List ℕ} {n rows from : ℕ} → PluginsSoFar t at domain first next w n rows from count → PluginsRead t at count domain first next (Some n) w
 
 -- what follows some that were read
 behind_some : (l m : List Plugin) (r : Read (List Plugin)) (rest : List ℕ) → and_then r (λ k s. found (l ++ k) s) ≡ found m rest
@@ -77,7 +76,7 @@ module _ (t : List ℕ) (at domain first next : ℕ) where
   unfolding join_all
   plugins_start h l = record {
     done = [];
-    reads = many_none block t (At at) h;
+    reads = many_none block t at h;
     count = refl;
     written = so_far_start domain first next;
     ids = refl;
@@ -96,16 +95,16 @@ module _ (t : List ℕ) (at domain first next : ℕ) where
     held = ap plugins f.written.registry ∙ held_placed max_plugins (map unqueued f.done) f.written.few
 
     pub plugins_stop : Apart t place w from next rows → Unfit t at count first next
-    plugins_stop (torn_block p x) s rest a b e =
-        let one = many_torn block (k + 1) count (omega arith) (many_more block k f.reads x) f.done in
-        torn_found s.plugins rest (one.said ∙ e)
+    plugins_stop (torn_block x) s rest a b e =
+        let none = many_torn block k f.reads count h x in
+        torn_found s.plugins rest (none.said ∙ e)
     plugins_stop (unfit_block p n x u) s rest a b e =
-        let left = many_left block (k + 1) count (omega arith) (many_more block k f.reads x) in
-        let more = behind_some (f.done ++ p ∷ []) s.plugins (read_from (read_many block (count - (k + 1))) t (At n)) rest (sym left ∙ e) in
+        let left = many_left block (k + 1) (many_more block k f.reads x) count (omega arith) in
+        let more = behind_some (f.done ++ p ∷ []) s.plugins (read_from (read_many block (count - (k + 1))) t n) rest (sym left ∙ e) in
         unfit_refused w from next f.done p few held s more.0 (f.ids ∙ ap (λ i. behind_ids i f.done) (sym a)) (sym b)
         (more.1 ∙ append_assoc f.done (p ∷ []) more.0) (ap (λ r. fits w from next r p) (sym f.used) ∙ u)
 
-    pub plugins_more : (p : Plugin) (n : ℕ) → Reads block.read t (At place) p (At n) → fits w from next rows p ≡ true
+    pub plugins_more : (p : Plugin) (n : ℕ) → Reads block.read t place (Some (p, n)) → fits w from next rows p ≡ true
         → PluginsSoFar t at domain first next (loaded_plugin w k rows next (unqueued p)) n (rows + rows_of p) (p.id + 1) (k + 1)
     unfolding joins
     plugins_more p n x y =
@@ -136,18 +135,12 @@ module _ (t : List ℕ) (at domain first next : ℕ) where
         sums l p = let z : rows_of p + 0 ≡ rows_of p = omega arith in sym (rows_append l (p ∷ []) ∙ ap (λ n. sum_rows l + n) z)
 
     -- By what was done with the next block.
-    pub plugins_torn : {r : Joined} {w' : List ℕ} → JoinRead t place w k from next rows r w' → r.next ≡ Torn → (w'' : List ℕ)
-        → PluginsRead t at count domain first next Torn w''
-    plugins_torn (refused w' a) e w'' = stopped w'' (plugins_stop a)
-    plugins_torn (joined p n x y) e w'' = let z : ◌≡◌ {A = ℕ} 0 1 = cc in absurd (omega arith)
+    pub plugins_torn : {w' : List ℕ} → JoinRead t place w k from next rows None w' → (w'' : List ℕ) → PluginsRead t at count domain first next None w''
+    plugins_torn (refused w' a) w'' = stopped w'' (plugins_stop a)
 
-    pub plugins_next : {r : Joined} {w' : List ℕ} (n : ℕ) → JoinRead t place w k from next rows r w' → r.next ≡ At n
-        → PluginsSoFar t at domain first next w' n r.rows r.from (k + 1)
-    plugins_next n (refused w' a) e = let z : ◌≡◌ {A = ℕ} 0 1 = cc in absurd (omega arith)
-    plugins_next n (joined p m x y) e =
-        let i : m ≡ n = cc in
-        subst (λ (j : ℕ). PluginsSoFar t at domain first next (loaded_plugin w k rows next (unqueued p)) j (rows + rows_of p) (p.id + 1) (k + 1)) i
-        (plugins_more p m x y)
+    pub plugins_next : {r : Joined} {w' : List ℕ} → JoinRead t place w k from next rows (Some r) w'
+        → PluginsSoFar t at domain first next w' r.next r.rows r.from (k + 1)
+    plugins_next (joined p m x y) = plugins_more p m x y
 
 -- Too many plugins, and a next id below the first.
 pub many_unfit : (t : List ℕ) (at count first next : ℕ) → at ≤ length t → max_plugins < count → Unfit t at count first next
@@ -162,13 +155,9 @@ order_unfit t at count first next h s rest a b e = by_test (loadable s)
 
 -- By the answer.
 module _ {t : List ℕ} {at count domain first next : ℕ} where
-  pub plugins_unfit : {r : Next} {w : List ℕ} → PluginsRead t at count domain first next r w → r ≡ Torn → Unfit t at count first next
-  plugins_unfit (stopped w u) e = u
-  plugins_unfit (all f) e = let z : ◌≡◌ {A = ℕ} 0 1 = cc in absurd (omega arith)
+  pub plugins_unfit : {w : List ℕ} → PluginsRead t at count domain first next None w → Unfit t at count first next
+  plugins_unfit (stopped w u) = u
 
-  pub plugins_all : {r : Next} {w : List ℕ} (n : ℕ) → PluginsRead t at count domain first next r w → r ≡ At n
+  pub plugins_all : {n : ℕ} {w : List ℕ} → PluginsRead t at count domain first next (Some n) w
       → (rows : ℕ) × (from : ℕ) × PluginsSoFar t at domain first next w n rows from count
-  plugins_all n (stopped w u) e = let z : ◌≡◌ {A = ℕ} 0 1 = cc in absurd (omega arith)
-  plugins_all n (all {w = w} {n = m} {rows = rows} {from = from} f) e =
-      let i : m ≡ n = cc in
-      (rows, from, subst (λ (j : ℕ). PluginsSoFar t at domain first next w j rows from count) i f)
+  plugins_all (all {rows = rows} {from = from} f) = (rows, from, f)

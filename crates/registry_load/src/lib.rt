@@ -16,9 +16,8 @@ ghost use Rattle.registry_load.specs.Words.{Opens};
 
 use memory::WORDS;
 use registry_block::Joined;
-use rules::{Done, limits, refusal};
-use text_read_block::{CLAIM_WORDS, DEPENDENCY_WORDS, REALM_WORDS, VALUE_WORDS};
-use text_read_number::Next;
+use rules::{Refusal, limits};
+use text_read_block::Lists;
 
 // What the lines before the plugins say, and the place behind them.
 #[derive(Clone, Copy)]
@@ -27,14 +26,7 @@ struct Header {
     first: u64,
     next: u64,
     count: u64,
-    behind: Next,
-}
-
-// The domain that a text says; or that it says no registry.
-#[derive(Clone, Copy)]
-enum Text {
-    Of(u64),
-    Bad,
+    behind: usize,
 }
 
 fn count(words: &[u64]) -> usize
@@ -44,56 +36,30 @@ fn count(words: &[u64]) -> usize
 }
 
 // What the types of lent words say of their lengths, for a proof. It compiles to nothing.
-fn rooms(
-    realms: &[u64; REALM_WORDS],
-    dependencies: &[u64; DEPENDENCY_WORDS],
-    claims: &[u64; CLAIM_WORDS],
-    values: &[u64; VALUE_WORDS],
-)
-    ensures { Rooms (record {
-      realms = realms.entry.now;
-      dependencies = dependencies.now;
-      claims = claims.now;
-      values = values.now;
-    }) }
+fn rooms(lists: &Lists)
+    ensures { Rooms lists.now }
 {
-    let r = count(realms);
-    let d = count(dependencies);
-    let c = count(claims);
-    let v = count(values);
+    let r = count(&lists.realms);
+    let d = count(&lists.dependencies);
+    let c = count(&lists.claims);
+    let v = count(&lists.values);
 }
 
-// The block at a place: its lists go to lent words, and its plugin to the next place, if it fits beside those before it.
+// The block behind the plugins so far: its lists go to lent words, and its plugin to the next place, if it fits beside those before it.
 fn join(
     w: &mut [u64; WORDS],
     text: &[u8],
-    at: usize,
-    realms: &mut [u64; REALM_WORDS],
-    dependencies: &mut [u64; DEPENDENCY_WORDS],
-    claims: &mut [u64; CLAIM_WORDS],
-    values: &mut [u64; VALUE_WORDS],
+    lists: &mut Lists,
     place: usize,
-    rows: usize,
-    from: u64,
+    so_far: Joined,
     next: u64,
-) -> Joined
+) -> Option<Joined>
     requires { place < places }
-    ensures { JoinRead text.now at w.old place from next rows result w.new }
+    ensures { JoinRead text.now so_far.next w.old place so_far.from next so_far.rows result w.new }
 {
-    rooms(realms, dependencies, claims, values);
-    let b = text_read_block::read_block(text, Next::At(at), realms, dependencies, claims, values);
-    registry_block::join(
-        w,
-        b,
-        realms,
-        dependencies,
-        claims,
-        values,
-        place,
-        rows,
-        from,
-        next,
-    )
+    rooms(lists);
+    let b = text_read_block::read_block(text, so_far.next, lists)?;
+    registry_block::join(w, &b, lists, place, so_far.rows, so_far.from, next)
 }
 
 // So many blocks, from a place on: the place behind them.
@@ -105,109 +71,74 @@ fn plugins(
     domain: u64,
     first: u64,
     next: u64,
-) -> Next
+) -> Option<usize>
     requires opened { w.old ≡ opened_with zeros domain first next }
     requires in_text { (at ≤ length text.now) × (count ≤ max_plugins) × (first ≤ next) }
     ensures { PluginsRead text.now at count domain first next result w.new }
 {
-    let mut realms = [0u64; REALM_WORDS];
-    let mut dependencies = [0u64; DEPENDENCY_WORDS];
-    let mut claims = [0u64; CLAIM_WORDS];
-    let mut values = [0u64; VALUE_WORDS];
-    let mut behind = at;
-    let mut rows: usize = 0;
-    let mut from = first;
-    let mut k: usize = 0;
-    while k < count {
-        let one = join(
-            w,
-            text,
-            behind,
-            &mut realms,
-            &mut dependencies,
-            &mut claims,
-            &mut values,
-            k,
-            rows,
-            from,
-            next,
-        );
-        let end = one.next;
-        let Next::At(place) = end else {
-            return Next::Torn;
-        };
-        behind = place;
-        rows = one.rows;
-        from = one.from;
-        k += 1;
+    let mut lists = Lists::EMPTY;
+    let mut so_far = Joined {
+        next: at,
+        rows: 0,
+        from: first,
+    };
+    for k in 0..count {
+        so_far = join(w, text, &mut lists, k, so_far, next)?;
     }
-    Next::At(behind)
+    Some(so_far.next)
 }
 
 // The lines before the plugins.
-fn read_header(text: &[u8]) -> Header
+fn read_header(text: &[u8]) -> Option<Header>
     ensures { HeaderRead text.now result }
 {
-    let domain = text_read::number_line(text, Next::At(0), b"domain=");
-    let second = domain.next;
-    let first = text_read::number_line(text, second, b"first=");
-    let third = first.next;
-    let next = text_read::number_line(text, third, b"next=");
-    let fourth = next.next;
-    let count = text_read::number_line(text, fourth, b"plugins=");
-    let behind = count.next;
-    Header {
-        domain: domain.value,
-        first: first.value,
-        next: next.value,
-        count: count.value,
+    let (domain, at) = text_read::number_line(text, 0, b"domain=")?;
+    let (first, at) = text_read::number_line(text, at, b"first=")?;
+    let (next, at) = text_read::number_line(text, at, b"next=")?;
+    let (count, behind) = text_read::number_line(text, at, b"plugins=")?;
+    Some(Header {
+        domain,
+        first,
+        next,
+        count,
         behind,
-    }
+    })
 }
 
-// The whole text, read into words of zeros.
-fn read(w: &mut [u64; WORDS], domain: u64, text: &[u8]) -> Text
+// The domain of the whole text, which is read into words of zeros.
+fn read(w: &mut [u64; WORDS], domain: u64, text: &[u8]) -> Option<u64>
     requires { w.old ≡ zeros }
     ensures { TextRead text.now domain result w.new }
 {
-    let h = read_header(text);
-    let start = h.behind;
-    let Next::At(at) = start else {
-        return Text::Bad;
-    };
+    let h = read_header(text)?;
     if (limits::PLUGINS as u64) < h.count {
-        return Text::Bad;
+        return None;
     }
     if h.next < h.first {
-        return Text::Bad;
+        return None;
     }
     memory::open_words(w, domain, h.first, h.next);
-    let end = plugins(w, text, at, h.count as usize, domain, h.first, h.next);
-    let Next::At(behind) = end else {
-        return Text::Bad;
-    };
-    let more = behind < text.len();
+    let end = plugins(w, text, h.behind, h.count as usize, domain, h.first, h.next)?;
+    let more = end < text.len();
     if more {
-        return Text::Bad;
+        return None;
     }
     if !registry_cycles::all_hold(w) {
-        return Text::Bad;
+        return None;
     }
-    Text::Of(h.domain)
+    Some(h.domain)
 }
 
 // 24 where the text says no registry; 25 where the domain is the text's.
-pub fn load(m: &mut [u64; WORDS], domain: u64, text: &[u8]) -> Done
+pub fn load(m: &mut [u64; WORDS], domain: u64, text: &[u8]) -> Result<(), Refusal>
     ensures { Opens m.old (load domain text.now) (done_answer result) m.new }
 {
     let mut w = [0u64; WORDS];
-    let said = read(&mut w, domain, text);
-    let Text::Of(own) = said else {
-        return Done::Refused(refusal::BAD_TEXT);
-    };
-    if own == domain {
-        return Done::Refused(refusal::SAME_DOMAIN);
+    let own = read(&mut w, domain, text).ok_or(Refusal::BadText)?;
+    let same = own == domain;
+    if same {
+        return Err(Refusal::SameDomain);
     }
     memory_load::copy_words(m, &w);
-    Done::Accepted
+    Ok(())
 }

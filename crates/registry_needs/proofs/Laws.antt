@@ -1,10 +1,6 @@
 -- A port that is available by its provider, and the users of what a place offers.
-use Prim.Native.Nat.{ℕ, ◌%◌, ◌<◌}
-use native.Mathlib.Nat.{mod-eq_of_lt}
-use mathlib.Core.Path.{◌≡◌, sym, ap, ◌∙◌}
-use mathlib.Core.Bool.{Bool, true, false, ◌&&◌, ◌||◌}
-use mathlib.Core.List.{List}
-use lib.ListN.{length}
+use Rattle.std.specs.Prelude.{Option, Some, None}
+use Rattle.std.proofs.Common.{ℕ, ◌%◌, ◌<◌, mod-eq_of_lt, ◌≡◌, sym, ap, ◌∙◌, Bool, true, false, ◌&&◌, ◌||◌, List, length}
 use Rattle.rules.specs.Basics.{any}
 use Rattle.rules.specs.Holds.{is_active, is_loading, running}
 use Rattle.rules_types.specs.declared.Port.{Port}
@@ -13,19 +9,17 @@ use Rattle.rules.specs.Ports.{pairs}
 use Rattle.memory.specs.Layout.{dep_part, memory_words, places}
 use Rattle.memory.specs.View.{life_at, plugin_at, view}
 use Rattle.memory.specs.declared.Life.{Life}
-use Rattle.memory.specs.declared.Place.{Place}
-use Rattle.memory.specs.declared.Place.TheVariants.{At, None}
 use Rattle.memory_providers.specs.declared.KeyBits.{KeyBits}
 use Rattle.memory_providers.specs.Claimed.{meets_provides}
 use Rattle.memory_providers.specs.Providers.{provider_at, provider_view, provider_active, offered_part, no_bits, key_bits, wanted}
 use Rattle.registry_needs.specs.Users.{uses, user_at}
 
 -- a port is available exactly if its provider is Active
-module _ (m : List ℕ) (q : Port) (x : Place) (e : x ≡ provider_at m q) where
+module _ (m : List ℕ) (q : Port) (x : Option ℕ) (e : x ≡ provider_at m q) where
   pub available_none : x ≡ None → false ≡ available (view m) q
   available_none f = rw (provider_view m q, sym e ∙ f)
 
-  pub available_active : (i : ℕ) → x ≡ At i → (l : Life) → l ≡ life_at m (i % places) → (b : Bool) → b ≡ is_active l.phase → b ≡ available (view m) q
+  pub available_active : (i : ℕ) → x ≡ Some i → (l : Life) → l ≡ life_at m (i % places) → (b : Bool) → b ≡ is_active l.phase → b ≡ available (view m) q
   available_active i f l g b h = rw (provider_view m q, sym e ∙ f) (sym (provider_active m q x e i f l g b h))
 
 -- a plugin that runs, and one that does not

@@ -3,7 +3,7 @@
 
 ghost use Rattle.std.specs.Prelude.{◌≡◌, ◌||◌, ◌%◌, ◌<◌};
 ghost use Rattle.rules.specs.Basics.{all};
-ghost use Rattle.rules.specs.Holds.{port, is_active, is_loading};
+ghost use Rattle.rules.specs.Holds.{is_active, is_loading};
 ghost use Rattle.rules.specs.Phases.{available, in_use};
 ghost use Rattle.rules.specs.Ports.{pairs};
 ghost use Rattle.memory.specs.View.{plugin_at, view};
@@ -12,41 +12,29 @@ ghost use Rattle.memory_keys.specs.Known.{Known};
 ghost use Rattle.registry_needs.specs.Users.{uses};
 
 use memory::layout::{PLACES, ROW_WORDS};
-use memory::{Life, Place, WORDS};
+use memory::{Life, WORDS};
 use memory_providers::KeyBits;
-use rules::Phase;
+use rules::{Phase, Port};
 
 pub fn is_active(life: Life) -> bool
     ensures { result ≡ is_active life.phase }
 {
-    let phase = life.phase;
-    match phase {
-        Phase::Idle => false,
-        Phase::Loading => false,
-        Phase::Active => true,
-        Phase::Unloading => false,
-    }
+    life.phase == Phase::Active
 }
 
 // Loading or Active.
 pub fn is_running(life: Life) -> bool
     ensures { result ≡ (is_loading life.phase || is_active life.phase) }
 {
-    let phase = life.phase;
-    match phase {
-        Phase::Idle => false,
-        Phase::Loading => true,
-        Phase::Active => true,
-        Phase::Unloading => false,
-    }
+    matches!(life.phase, Phase::Loading | Phase::Active)
 }
 
 // Whether the port's provider is Active, by a table of the keys that places offer.
-fn is_available(m: &[u64; WORDS], table: &mut [u64; PLACES], key: u64, realm: u64) -> bool
+fn is_available(m: &[u64; WORDS], table: &mut [u64; PLACES], port: Port) -> bool
     requires { Known m.now table.old }
-    ensures { (result ≡ available (view m.now) (port key realm)) × Known m.now table.new }
+    ensures { (result ≡ available (view m.now) port) × Known m.now table.new }
 {
-    let Place::At(at) = memory_keys::provider_by(m, table, key, realm) else {
+    let Some(at) = memory_keys::provider_by(m, table, port) else {
         return false;
     };
     is_active(memory_life::load(m, at))
@@ -60,11 +48,12 @@ pub fn all_available(m: &[u64; WORDS], list: &[u64]) -> bool
         return true;
     }
     let mut table = [u64::MAX; PLACES];
-    let mut i: usize = 1;
-    while i < list.len() {
-        if is_available(m, &mut table, list[i - 1], list[i]) {
-            i += 2;
-        } else {
+    for pair in list.chunks_exact(ROW_WORDS) {
+        let port = Port {
+            key: pair[0],
+            realm: pair[1],
+        };
+        if !is_available(m, &mut table, port) {
             return false;
         }
     }
@@ -75,28 +64,20 @@ pub fn all_available(m: &[u64; WORDS], list: &[u64]) -> bool
 fn is_user(m: &[u64; WORDS], user: usize, bits: KeyBits, ports: &[u64]) -> bool
     ensures { result ≡ uses bits (pairs ports.now) (plugin_at m.now (user % places)) }
 {
-    if is_running(memory_life::load(m, user)) {
-        memory_providers::meets(bits, ports, memory_lists::dependency_words(m, user))
-    } else {
-        false
-    }
+    is_running(memory_life::load(m, user))
+        && memory_providers::meets(bits, ports, memory_lists::dependency_words(m, user))
 }
 
 // Whether a Loading or Active plugin depends on a provision or the anchor of this place's: these and their bits are taken once.
 pub fn in_use(m: &[u64; WORDS], place: usize) -> bool
     ensures { result ≡ in_use (view m.now) (plugin_at m.now (place % places)) }
 {
-    memory::known(m);
     let ports = memory_providers::offered_words(m, place);
     let bits = memory_providers::key_bits(ports);
-    let mut i: usize = 0;
-    while i < PLACES {
-        if memory::is_taken(m, i) {
-            if is_user(m, i, bits, ports) {
-                return true;
-            }
+    for i in 0..PLACES {
+        if memory::is_taken(m, i) && is_user(m, i, bits, ports) {
+            return true;
         }
-        i += 1;
     }
     false
 }

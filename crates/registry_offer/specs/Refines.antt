@@ -1,8 +1,7 @@
 -- Of dense words that say a built registry, the registry after an offer is the rule's, and the words are dense again.
-use Rattle.std.specs.Prelude.{ℕ, ◌+◌, ◌*◌, ◌^◌, ◌<◌, ◌≤◌, ◌≡◌, true, false, not, List, [], eqb, length}
+use Rattle.std.specs.Prelude.{ℕ, ◌+◌, ◌*◌, ◌^◌, ◌<◌, ◌≤◌, ◌≡◌, true, false, not, List, [], eqb, length, Option, Some, None}
 use Rattle.std.proofs.Common.{arith, sym, ap, ◌∙◌}
 use Rattle.std.proofs.Math.Path.{refl, subst}
-use Rattle.std.proofs.Math.Option.{Option, none, some}
 use Rattle.std.proofs.Math.Seq.{get_or-set_other}
 use borrow.Author.Tests.{eq-eqb, ne_eqb, eqb-true, eqb-false, not-false}
 use Rattle.rules.specs.Basics.{pick, is_some}
@@ -22,12 +21,8 @@ use Rattle.rules.specs.Limits.{max_provision_keys}
 use Rattle.memory.specs.View.{value_at, plugin_at, place_at, view}
 use Rattle.memory.specs.Writes.{find_at}
 use Rattle.memory.specs.Known.{at_below, at_taken, at_known, none_known}
-use Rattle.memory.specs.declared.Place.{Place}
-use Rattle.memory.specs.declared.Place.TheVariants.{At, None}
 use Rattle.memory_lists.specs.Listed.{provided_at}
 use Rattle.memory_places.specs.Placed.{places_map, taken_in}
-use Rattle.ports.specs.declared.Found.{Found}
-use Rattle.ports.specs.declared.Found.TheVariants as found
 use Rattle.memory_values.specs.Values.{mask_at, mask_bit, masked, port_from, with_value}
 use Rattle.memory_values.specs.Firsts.{port_below}
 use Rattle.memory_values.specs.After.{none_free, set_length, set_taken, set_elsewhere, set_offered}
@@ -140,7 +135,7 @@ module _ (m : List ℕ) (d : Dense m) (built : Built (view m)) (id : ℕ) (q : P
   unfolding left_by after
   refused x vs = record { registry = refl; dense = d }
 
-  module _ (i : ℕ) (e : find_at m id ≡ At i) where
+  module _ (i : ℕ) (e : find_at m id ≡ Some i) where
     -- a plugin's provisions are distinct
     distinct : repeats (pairs (prov_part m i)) ≡ false
     distinct =
@@ -148,7 +143,7 @@ module _ (m : List ℕ) (d : Dense m) (built : Built (view m)) (id : ℕ) (q : P
         let s = (built.members p (taken_in m i (at_taken m id i e))).shaped.apart in
         sym (ap repeats (provided_at m i)) ∙ (neither (is_in p.anchor (provided p)) (repeats (provided p)) s).1
 
-    kept : (j : ℕ) → port_from 0 q (pairs (prov_part m i)) ≡ found.At j → value_at m i j ≡ none → Leaves (stores (with_offered q v (plugin_at m i)) [])
+    kept : (j : ℕ) → port_from 0 q (pairs (prov_part m i)) ≡ Some j → value_at m i j ≡ None → Leaves (stores (with_offered q v (plugin_at m i)) [])
     kept j t n =
         let b = port_below m i q j t in
         let h = at_below m id i e in
@@ -158,26 +153,26 @@ module _ (m : List ℕ) (d : Dense m) (built : Built (view m)) (id : ℕ) (q : P
           dense = rw (put_there m i q j t id e v) (value_dense m i j v d h b);
         }
 
-    absent : (x : Option ℕ) → is_some x ≡ false → x ≡ none
-    absent none z = refl
-    absent (some n) z = cc
+    absent : (x : Option ℕ) → is_some x ≡ false → x ≡ None
+    absent None z = refl
+    absent (Some n) z = cc
 
     found_refines : Leaves (offers q v (plugin_at m i))
     found_refines = checked_elim Leaves (offer_checks q (plugin_at m i)) (stores (with_offered q v (plugin_at m i)) []) (λ x. refused x []) λ c.
         go c.1.0 c.1.1.0 (port_from 0 q (pairs (prov_part m i))) refl
       where
         go : not (is_in q (provided (plugin_at m i))) ≡ false → is_some (value_in q (plugin_at m i).provisions) ≡ false
-            → (f : Found) → port_from 0 q (pairs (prov_part m i)) ≡ f → Leaves (stores (with_offered q v (plugin_at m i)) [])
-        go a b found.None t =
+            → (f : Option ℕ) → port_from 0 q (pairs (prov_part m i)) ≡ f → Leaves (stores (with_offered q v (plugin_at m i)) [])
+        go a b None t =
             let z : true ≡ false = sym (not-false (is_in q (provided (plugin_at m i))) a) ∙ undeclared m i q t in
             let y : ◌≡◌ {A = ℕ} 0 1 = cc in
             absurd (omega arith)
-        go a b (found.At j) t = kept j t (sym (value_is m i q j t) ∙ absent (value_in q (plugin_at m i).provisions) b)
+        go a b (Some j) t = kept j t (sym (value_is m i q j t) ∙ absent (value_in q (plugin_at m i).provisions) b)
 
-  offered_at : (p : Place) → find_at m id ≡ p → Leaves (offer (view m) id q v)
+  offered_at : (p : Option ℕ) → find_at m id ≡ p → Leaves (offer (view m) id q v)
   unfolding offer
   offered_at None e = rw (none_known m id e (offers q v)) (refused Unknown [])
-  offered_at (At i) e = rw (at_known m id i e (offers q v)) (found_refines i e)
+  offered_at (Some i) e = rw (at_known m id i e (offers q v)) (found_refines i e)
 
 pub offer_refines : (m : List ℕ) → Dense m → Built (view m) → (id : ℕ) (q : Port) (v : ℕ)
     → Refines m (offered_to m id q v (offer (view m) id q v)) (offer (view m) id q v)

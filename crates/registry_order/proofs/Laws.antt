@@ -1,4 +1,5 @@
--- What the checks of an id and of a set come to, a provider in time, and the steps of an order.
+-- What the checks of a set come to, a provider in time, and the steps of an order.
+use Rattle.std.specs.Prelude.{Option, Some, None, Ok, Err}
 use Prim.Native.Nat.{ℕ, ◌+◌, ◌%◌, ◌≤◌, ◌<◌}
 use native.Mathlib.Numerals.{add-one}
 use mathlib.Core.Path.{◌≡◌, sym, ap, ◌∙◌}
@@ -6,15 +7,13 @@ use mathlib.Core.Bool.{Bool, true, false, ◌&&◌}
 use mathlib.Core.List.{List, [], ◌∷◌, ◌++◌}
 use lib.ListN.{length, get_or, take, drop, drop_of_length-le}
 use lib.Seq.{drop-cons, take-suc}
-use borrow.Author.Tests.{eq-eqb, ne_eqb}
-use Rattle.rules.specs.Basics.{all, yes_no, last}
-use Rattle.rules.specs.Holds.{Registry, is_active, is_idle}
+use Rattle.rules.specs.Basics.{all, yes_no}
+use Rattle.rules.specs.Holds.{Registry, is_active}
 use Rattle.rules.specs.Answers.{verdict}
 use Rattle.rules.specs.Outcomes.{Refused, Accepted, answers, answer_of}
 use Rattle.rules.specs.Orders.{named, id_checks, checks_behind, set_checks, in_time, supplied, can_come, passes, check_order}
 use Rattle.rules.specs.Ports.{pairs}
-use Rattle.rules_types.specs.declared.Done.{Done}
-use Rattle.rules_types.specs.declared.Done.TheVariants as done
+use Rattle.rules.specs.Refusals.{Refusal, number}
 use Rattle.rules_types.specs.declared.Port.{Port}
 use Rattle.rules_laws.specs.Laws.Verdicts.{verdict_first, verdict_then, checked_pass, checked_refuses, refused_answer}
 use Rattle.rules_orders.specs.Follows.{follow, passes_other, passes_same}
@@ -23,56 +22,35 @@ use Rattle.memory.specs.View.{life_at, plugin_at, view}
 use Rattle.memory.specs.Writes.{find_at}
 use Rattle.memory.specs.Known.{at_place, at_lookup, none_lookup}
 use Rattle.memory.specs.declared.Life.{Life}
-use Rattle.memory.specs.declared.Place.{Place}
-use Rattle.memory.specs.declared.Place.TheVariants.{At, None}
 use Rattle.memory_providers.specs.Providers.{provider_at, provider_view, provider_place, provider_active}
-use Rattle.registry_order.specs.Checks.{life_checks}
-
--- 2, 3, 16 of a life
-module _ (l : Life) where
-  pub life_2 : l.retired ≡ true → done.Refused 2 ≡ verdict (life_checks l)
-  unfolding verdict
-  life_2 t = rw t
-
-  module _ (n : l.retired ≡ false) (b : Bool) (e : b ≡ is_idle l.phase) where
-    pub life_3 : b ≡ false → done.Refused 3 ≡ verdict (life_checks l)
-    unfolding verdict
-    life_3 f = rw (n, sym e ∙ f)
-
-    module _ (t : b ≡ true) where
-      pub life_16 : l.generation.0 ≡ last → done.Refused 16 ≡ verdict (life_checks l)
-      unfolding verdict
-      life_16 g = rw (n, sym e ∙ t, eq-eqb _ _ g)
-
-      pub life_passes : (l.generation.0 ≡ last → ⊥) → done.Accepted ≡ verdict (life_checks l)
-      unfolding verdict
-      life_passes g = rw (n, sym e ∙ t, ne_eqb _ _ g)
 
 -- the set's, id by id
 module _ (r : Registry) (ids : List ℕ) (i : ℕ) where
-  pub set_end : length ids ≤ i → verdict (checks_behind r (take i ids) (drop i ids)) ≡ done.Accepted
+  pub set_end : length ids ≤ i → verdict (checks_behind r (take i ids) (drop i ids)) ≡ Ok tt
   unfolding verdict
   set_end h = rw (drop_of_length-le ids h)
 
-  module _ (h : i < length ids) (v : Done) (e : v ≡ verdict (id_checks r (take i ids) (get_or ids i 0))) where
+  module _ (h : i < length ids) where
     checks_at : checks_behind r (take i ids) (drop i ids)
         ≡ id_checks r (take i ids) (get_or ids i 0) ++ checks_behind r (take (i + 1) ids) (drop (i + 1) ids)
     checks_at = rw (add-one i, drop-cons ids i 0 h, take-suc ids i 0 h)
 
-    pub set_refused : (n : ℕ) → v ≡ done.Refused n → verdict (checks_behind r (take i ids) (drop i ids)) ≡ done.Refused n
-    set_refused n z = ap verdict checks_at ∙ verdict_first _ _ n (sym e ∙ z)
+    pub set_refused : (x : Refusal) → Err x ≡ verdict (id_checks r (take i ids) (get_or ids i 0))
+        → verdict (checks_behind r (take i ids) (drop i ids)) ≡ Err x
+    set_refused x e = ap verdict checks_at ∙ verdict_first _ _ x (sym e)
 
-    pub set_next : v ≡ done.Accepted → verdict (checks_behind r (take i ids) (drop i ids)) ≡ verdict (checks_behind r (take (i + 1) ids) (drop (i + 1) ids))
-    set_next z = ap verdict checks_at ∙ verdict_then _ _ (sym e ∙ z)
+    pub set_next : Ok tt ≡ verdict (id_checks r (take i ids) (get_or ids i 0))
+        → verdict (checks_behind r (take i ids) (drop i ids)) ≡ verdict (checks_behind r (take (i + 1) ids) (drop (i + 1) ids))
+    set_next e = ap verdict checks_at ∙ verdict_then _ _ (sym e)
 
 -- a provider's phase decides, or its id
-module _ (m before : List ℕ) (q : Port) (x : Place) (e : x ≡ provider_at m q) where
+module _ (m before : List ℕ) (q : Port) (x : Option ℕ) (e : x ≡ provider_at m q) where
   pub in_time_none : x ≡ None → false ≡ in_time (view m) before q
   in_time_none f = rw (provider_view m q, sym e ∙ f)
 
-  module _ (i : ℕ) (f : x ≡ At i) (l : Life) (g : l ≡ life_at m (i % places)) (b : Bool) (h : b ≡ is_active l.phase) where
-    pub in_time_active : b ≡ true → true ≡ in_time (view m) before q
-    in_time_active t = rw (provider_view m q, sym e ∙ f) (rw (provider_active m q x e i f l g b h ∙ t))
+  module _ (i : ℕ) (f : x ≡ Some i) (l : Life) (g : l ≡ life_at m (i % places)) (b : Bool) (h : b ≡ is_active l.phase) where
+    pub in_time_active : b ≡ true → b ≡ in_time (view m) before q
+    in_time_active t = t ∙ rw (provider_view m q, sym e ∙ f) (rw (provider_active m q x e i f l g b h ∙ t))
 
     pub in_time_named : b ≡ false → (id : ℕ) → id ≡ id_at m (i % places) → (d : Bool) → d ≡ named id before → d ≡ in_time (view m) before q
     unfolding plugin_at
@@ -86,24 +64,12 @@ module _ (m before : List ℕ) (id : ℕ) where
   unfolding supplied
   supplied_none e = rw (none_lookup m id e)
 
-  pub supplied_found : (i : ℕ) → find_at m id ≡ At i → (ws : List ℕ) → ws ≡ dep_part m (i % places)
+  pub supplied_found : (i : ℕ) → find_at m id ≡ Some i → (ws : List ℕ) → ws ≡ dep_part m (i % places)
       → (b : Bool) → b ≡ all (in_time (view m) before) (pairs ws) → b ≡ supplied (view m) before id
   unfolding supplied plugin_at
   supplied_found i e ws g b h =
       let s : ws ≡ dep_part m i = g ∙ ap (dep_part m) (at_place m id i e) in
       h ∙ ap (λ z. all (in_time (view m) before) (pairs z)) s ∙ sym (rw (at_lookup m id i e))
-
--- the set's, not named yet, and supplied
-module _ (r : Registry) (set before : List ℕ) (id : ℕ) (b : Bool) (e : b ≡ named id set) where
-  pub follows_foreign : b ≡ false → false ≡ (named id set && can_come r before id)
-  follows_foreign f = rw (sym e ∙ f)
-
-  module _ (t : b ≡ true) (d : Bool) (g : d ≡ named id before) where
-    pub follows_named : d ≡ true → false ≡ (named id set && can_come r before id)
-    follows_named u = rw (sym e ∙ t, sym g ∙ u)
-
-    pub follows_supplied : d ≡ false → (s : Bool) → s ≡ supplied r before id → s ≡ (named id set && can_come r before id)
-    follows_supplied u s h = rw (sym e ∙ t, sym g ∙ u) h
 
 -- an order, id by id
 module _ (r : Registry) (set order : List ℕ) where
@@ -133,10 +99,11 @@ module _ (r : Registry) (set order : List ℕ) where
 
 -- The checker's answers, once the set's verdict is known.
 module _ (r : Registry) (set order : List ℕ) where
-  pub order_refused : (n : ℕ) → verdict (set_checks r set) ≡ done.Refused n → Refused n [] ≡ answer_of (check_order r set order)
+  pub order_refused : (x : Refusal) → Err x ≡ verdict (set_checks r set) → Refused (number x) [] ≡ answer_of (check_order r set order)
   unfolding check_order
-  order_refused n e = sym (refused_answer _ n (checked_refuses (set_checks r set) (answers (yes_no (passes r set order) ∷ [])) n e))
+  order_refused x e = sym (refused_answer _ x (checked_refuses (set_checks r set) (answers (yes_no (passes r set order) ∷ [])) x (sym e)))
 
-  pub order_told : verdict (set_checks r set) ≡ done.Accepted → (b : Bool) → b ≡ passes r set order → Accepted (yes_no b ∷ []) ≡ answer_of (check_order r set order)
+  pub order_told : Ok tt ≡ verdict (set_checks r set) → (b : Bool) → b ≡ passes r set order
+      → Accepted (yes_no b ∷ []) ≡ answer_of (check_order r set order)
   unfolding check_order
-  order_told e b f = rw (checked_pass (set_checks r set) (answers (yes_no (passes r set order) ∷ [])) e) (rw f)
+  order_told e b f = rw (checked_pass (set_checks r set) (answers (yes_no (passes r set order) ∷ [])) (sym e)) (rw f)

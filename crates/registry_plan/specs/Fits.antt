@@ -1,10 +1,9 @@
 -- No more ids pass a set's checks than there are places.
-use Rattle.std.specs.Prelude.{ℕ, zero, suc, ◌+◌, ◌≤◌, ◌≡◌, List, length}
+use Rattle.std.specs.Prelude.{ℕ, zero, suc, ◌+◌, ◌≤◌, ◌≡◌, List, length, Ok}
 use Rattle.std.proofs.Common.{arith}
 use Rattle.rules.specs.Answers.{verdict}
 use Rattle.rules.specs.Holds.{held, count}
 use Rattle.rules.specs.Orders.{set_checks}
-use Rattle.rules_types.specs.declared.Done.TheVariants as done
 use Rattle.rules_laws.specs.Laws.Tests.{by_test}
 use Rattle.rules_laws.specs.Laws.Verdicts.{passes}
 use Rattle.rules_orders.specs.Sets.{set_size}
@@ -18,6 +17,6 @@ held_short (suc n) m i =
     let r = held_short n m (i + 1) in
     by_test (taken m i) (λ t. rw t (omega arith)) (λ f. rw f (omega arith))
 
-pub set_fits : (m set : List ℕ) → verdict (set_checks (view m) set) ≡ done.Accepted → length set ≤ 32
+pub set_fits : (m set : List ℕ) → verdict (set_checks (view m) set) ≡ Ok tt → length set ≤ 32
 unfolding count view
 set_fits m set e = omega (arith, set_size (view m) set (passes (set_checks (view m) set) e), held_short 32 m 0)

@@ -1,6 +1,5 @@
 -- For each id of a set a row of bits: which ids of the set it waits for, by their places there.
-use Rattle.std.specs.Prelude.{ℕ, suc, List, [], ◌∷◌, eqb, ltb, length}
-use Rattle.std.proofs.Math.Option.{Option, none, some}
+use Rattle.std.specs.Prelude.{ℕ, suc, List, [], ◌∷◌, eqb, ltb, length, Option, Some, None}
 use Rattle.rules.specs.Basics.{pick}
 use Rattle.rules.specs.Holds.{Plugin, Registry, lookup, provider, is_active}
 use Rattle.rules_types.specs.declared.Port.{Port}
@@ -16,8 +15,8 @@ abbrev pub waits_at : List ℕ → (own id : ℕ) → ℕ
 waits_at set own id = pick (ltb (place_in id set) (length set)) (place_in id set) own
 
 abbrev pub waits_on : List ℕ → (own row : ℕ) → Option Plugin → ℕ
-waits_on set own row none = with_bit row own
-waits_on set own row (some p) = pick (is_active p.phase) row (with_bit row (waits_at set own p.id))
+waits_on set own row None = with_bit row own
+waits_on set own row (Some p) = pick (is_active p.phase) row (with_bit row (waits_at set own p.id))
 
 abbrev pub waits_for : Registry → List ℕ → (own row : ℕ) → Port → ℕ
 waits_for r set own row q = waits_on set own row (provider r q)
@@ -27,8 +26,8 @@ waits_for_all r set own row [] = row
 waits_for_all r set own row (q ∷ qs) = waits_for_all r set own (waits_for r set own row q) qs
 
 abbrev pub row_in : Registry → List ℕ → (own : ℕ) → Option Plugin → ℕ
-row_in r set own none = with_bit 0 own
-row_in r set own (some p) = waits_for_all r set own 0 p.dependencies
+row_in r set own None = with_bit 0 own
+row_in r set own (Some p) = waits_for_all r set own 0 p.dependencies
 
 abbrev pub row_of : Registry → List ℕ → (own id : ℕ) → ℕ
 row_of r set own id = row_in r set own (lookup r id)

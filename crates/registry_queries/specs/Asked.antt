@@ -1,18 +1,23 @@
 -- What a question comes to where its id is found in the words, and where it is not.
-use Rattle.std.specs.Prelude.{ℕ, ◌≡◌, refl, List, []}
+use Rattle.std.specs.Prelude.{ℕ, ◌%◌, ◌≡◌, refl, List, [], Option, Some, None, Result, Ok, Err}
 use Rattle.std.proofs.Common.{◌∙◌}
-use Rattle.rules.specs.Refusals.{Unknown}
+use Rattle.rules.specs.Refusals.{Refusal, Unknown}
 use Rattle.rules.specs.Outcomes.{refuses, answers}
 use Rattle.rules.specs.Ports.{pairs, rows_in, realm_list}
 use Rattle.rules.specs.Queries.{Field, field_of, ask_plugin}
 use Rattle.rules.specs.Dependencies.{first_port, dependency_port}
 use Rattle.rules.specs.Lists.{Which, Dependencies, Provisions, RealmRows, list_of, listing, list}
-use Rattle.memory.specs.Layout.{dep_part, prov_part, realm_part}
-use Rattle.memory.specs.View.{plugin_at, view}
+use Rattle.memory.specs.Layout.{dep_part, prov_part, realm_part, places}
+use Rattle.memory.specs.View.{life_at, plugin_at, view}
 use Rattle.memory.specs.Writes.{find_at}
 use Rattle.memory.specs.Known.{at_known, none_known}
-use Rattle.memory.specs.declared.Place.TheVariants.{At, None}
+use Rattle.memory.specs.declared.Life.{Life}
 use Rattle.memory_lists.specs.Listed.{provided_at}
+
+-- The life at the place where an id was found, or refusal 1.
+abbrev pub life_known : List ℕ → Option ℕ → Result Life Refusal
+life_known m (Some i) = Ok (life_at m (i % places))
+life_known m None = Err Unknown
 
 -- The words of a list.
 abbrev pub part_of : Which → List ℕ → ℕ → List ℕ
@@ -26,7 +31,7 @@ list_at Dependencies m i = refl
 list_at Provisions m i = provided_at m i
 list_at RealmRows m i = refl
 
-module _ (m : List ℕ) (id i : ℕ) (e : find_at m id ≡ At i) where
+module _ (m : List ℕ) (id i : ℕ) (e : find_at m id ≡ Some i) where
   pub asked : (f : Field) → ask_plugin (view m) f id ≡ answers (field_of f (plugin_at m i))
   unfolding ask_plugin
   asked f = at_known m id i e (λ p. answers (field_of f p))

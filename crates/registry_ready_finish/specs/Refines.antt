@@ -1,5 +1,5 @@
 -- Of dense words, the registry after a finish is the rules', and the words are dense again.
-use Rattle.std.specs.Prelude.{ℕ, ◌+◌, ◌*◌, ◌≡◌, refl, ◌≢◌, length, set}
+use Rattle.std.specs.Prelude.{ℕ, ◌+◌, ◌*◌, ◌≡◌, refl, ◌≢◌, length, set, Some}
 use Rattle.std.proofs.Common.{arith, sym, ◌∙◌, length-set, get_or-set_other}
 use Rattle.std.proofs.Math.Path.{ap}
 use mathlib.Core.List.{List, [], map}
@@ -18,7 +18,6 @@ use Rattle.memory.specs.Frames.{life_length, life_before}
 use Rattle.memory.specs.Stores.{plugin_put, plugin_other}
 use Rattle.memory.specs.Known.{at_below, at_taken, at_id}
 use Rattle.memory.specs.declared.Life.{Life}
-use Rattle.memory.specs.declared.Place.TheVariants.{At}
 use Rattle.memory_rows.specs.Dense.{Dense, Refines}
 use Rattle.memory_rows.specs.Stored.{same_dense, life_dense, changed_view, known_elim}
 use Rattle.memory_values.specs.After.{drop_taken, drop_elsewhere, drop_plugin}
@@ -31,7 +30,7 @@ module _ (m : List ℕ) (d : Dense m) where
   Finished o = Refines m (finished_to m o) o
 
   -- a life stored, and then no value
-  module _ (id i : ℕ) (e : find_at m id ≡ At i) where
+  module _ (id i : ℕ) (e : find_at m id ≡ Some i) where
     abbrev l : Life
     l = finished_life (life_at m i) (or_else (rules.cell (life_at m i).phase rules.Finish) (life_at m i).phase)
 

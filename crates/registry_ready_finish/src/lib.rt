@@ -9,60 +9,48 @@ ghost use Rattle.memory.specs.View.{view};
 ghost use Rattle.memory.specs.Known.{stored_life};
 ghost use Rattle.registry_ready_finish.specs.Finished.{finished_to};
 
-use memory::{Life, Place, WORDS};
-use ports::Found;
-use registry_table::{Cell, Step};
-use rules::{Done, Root, refusal};
+use memory::{Life, WORDS};
+use registry_table::Step;
+use rules::{Refusal, Root};
 
 fn is_spent(life: Life) -> bool
     ensures { result ≡ is_spent life.root }
 {
-    let root = life.root;
-    match root {
-        Root::Unissued => false,
-        Root::Queued(_, _) => false,
-        Root::Spent => true,
-    }
+    life.root == Root::Spent
 }
 
 // 1, 2, phase, 17, 22 if a provision has no value.
-pub fn ready(m: &mut [u64; WORDS], id: u64) -> Done
+pub fn ready(m: &mut [u64; WORDS], id: u64) -> Result<(), Refusal>
     ensures { Meets stored_life (ready (view m.old) id) m.old (done_answer result) m.new }
 {
-    let Place::At(at) = memory::find(m, id) else {
-        return Done::Refused(refusal::UNKNOWN);
+    let Some(at) = memory::find(m, id) else {
+        return Err(Refusal::Unknown);
     };
     let life = memory_life::load(m, at);
     if life.retired {
-        return Done::Refused(refusal::RETIRED);
+        return Err(Refusal::Retired);
     }
-    let phase = life.phase;
-    let Cell::To(next) = registry_table::next(phase, Step::Ready) else {
-        return Done::Refused(refusal::INVALID_STATE);
-    };
-    if is_spent(life) {
-        let Found::At(_) = memory_values::first_lacking(m, at) else {
-            memory_life::store(m, at, life.with_phase(next));
-            return Done::Accepted;
-        };
-        return Done::Refused(refusal::MISSING);
+    let next = registry_table::next(life.phase, Step::Ready).ok_or(Refusal::InvalidState)?;
+    if !is_spent(life) {
+        return Err(Refusal::NotRun);
     }
-    Done::Refused(refusal::NOT_RUN)
+    if memory_values::first_lacking(m, at).is_some() {
+        return Err(Refusal::Missing);
+    }
+    memory_life::store(m, at, life.with_phase(next));
+    Ok(())
 }
 
 // 1, phase; values are dropped and root is Unissued.
-pub fn finish(m: &mut [u64; WORDS], id: u64) -> Done
+pub fn finish(m: &mut [u64; WORDS], id: u64) -> Result<(), Refusal>
     ensures { Meets finished_to (finish (view m.old) id) m.old (done_answer result) m.new }
 {
-    let Place::At(at) = memory::find(m, id) else {
-        return Done::Refused(refusal::UNKNOWN);
+    let Some(at) = memory::find(m, id) else {
+        return Err(Refusal::Unknown);
     };
     let life = memory_life::load(m, at);
-    let phase = life.phase;
-    let Cell::To(next) = registry_table::next(phase, Step::Finish) else {
-        return Done::Refused(refusal::INVALID_STATE);
-    };
+    let next = registry_table::next(life.phase, Step::Finish).ok_or(Refusal::InvalidState)?;
     memory_life::store(m, at, life.finished(next));
     memory_values::drop_values(m, at);
-    Done::Accepted
+    Ok(())
 }

@@ -1,7 +1,6 @@
 -- Of dense words in which no plugin has the next id, the registry after a registration is the rules', and the words are dense again.
-use Rattle.std.specs.Prelude.{ℕ, ◌+◌, ◌≤◌, ◌≡◌, refl, ◌≢◌, true, List, [], ◌∷◌, map, ltb, drop}
+use Rattle.std.specs.Prelude.{ℕ, ◌+◌, ◌≤◌, ◌≡◌, refl, ◌≢◌, true, List, [], ◌∷◌, map, ltb, drop, Option, Some, None}
 use Rattle.std.proofs.Common.{arith, ap, ◌∙◌, ltb-false}
-use Rattle.std.proofs.Math.Option.{Option, none, some}
 use Rattle.std.proofs.Math.ListN.{length, length-map}
 use Rattle.rules.specs.Holds.{Registry, rows_of, rows_in_use, edition_number, default_of}
 use Rattle.rules.specs.Ports.{flat, realm_list, realms_of, resolve}
@@ -15,8 +14,6 @@ use Rattle.memory.specs.Ways.{left_by}
 use Rattle.memory.specs.Layout.{word, taken, id_at, next_word}
 use Rattle.rules.specs.Limits.{max_rows, max_dependencies, max_dependency_keys, max_provision_keys, max_realm_rows}
 use Rattle.memory.specs.View.{parent_of, plugin_at, view}
-use Rattle.memory.specs.declared.Place.{Place}
-use Rattle.memory.specs.declared.Place.TheVariants.{At, None}
 use Rattle.memory_places.specs.Changes.{free_at}
 use Rattle.memory_places.specs.Free.{count_full}
 use Rattle.memory_places.specs.Placed.{taken_in}
@@ -38,8 +35,8 @@ unfolding view plugin_at
 built_fresh m b j t e = omega (arith, (b.members (plugin_at m j) (taken_in m j t)).below)
 
 parent_back : (p : Option ℕ) → parent_of (tag_of p) (word_of p) ≡ p
-parent_back none = refl
-parent_back (some id) = refl
+parent_back None = refl
+parent_back (Some id) = refl
 
 module _ (m : List ℕ) (d : Definition) where
   abbrev r : Registry
@@ -98,19 +95,19 @@ module _ (m : List ℕ) (d : Definition) where
     abbrev o : Outcome
     o = adds (new_plugin r d) (r.next ∷ [])
 
-    written : (at : ℕ) → free_at m ≡ At at
+    written : (at : ℕ) → free_at m ≡ Some at
         → added_to m o ≡ filled_place m at (entry_of n (used m) (word m next_word + 1)) n.dependencies (claim_words n) n.realms
     unfolding left_by new_plugin
     written at e = rw e λ i.
         filled_place m at (entry_of n (used_is m dense.size i) (word m next_word + 1)) n.dependencies (flat (d.anchor ∷ new_ports r d i)) n.realms
 
-    registered : (free : Place) → free_at m ≡ free → Refines m (added_to m o) o
+    registered : (free : Option ℕ) → free_at m ≡ free → Refines m (added_to m o) o
     registered None e =
         let a = count_full m e in
         let b = p.1.1.1.1.1.1.1.1.1.1.0 in
         let z : ◌≡◌ {A = ℕ} 0 1 = cc in
         absurd (omega arith)
-    registered (At at) e = rw (written at e) record {
+    registered (Some at) e = rw (written at e) record {
       registry = filled_view m at n (word m next_word + 1) e dense sized fresh refl (r.next ∷ []) ∙ ap (λ x. after r (adds x (r.next ∷ []))) same;
       dense = filled_dense m at n (word m next_word + 1) e dense sized fresh;
     }

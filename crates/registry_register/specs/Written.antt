@@ -1,32 +1,26 @@
 -- What a registration answers, and the words it leaves.
-use Rattle.std.specs.Prelude.{ℕ, ◌+◌, ◌-◌, ◌/◌, ◌≡◌, refl, List, [], ◌∷◌, length}
-use Rattle.std.proofs.Math.Option.{Option}
+use Rattle.std.specs.Prelude.{ℕ, ◌+◌, ◌-◌, ◌/◌, ◌≡◌, refl, List, [], ◌∷◌, length, Option, Some, None, Result, Ok, Err}
 use Rattle.rules.specs.Holds.{Plugin, provided, rows_in_use, edition_number, default_of}
 use Rattle.rules_types.specs.declared.Port.{Port}
 use Rattle.rules_types.specs.declared.Edition.{Edition}
 use Rattle.rules.specs.Ports.{flat, rows_in, realm_list}
 use Rattle.rules.specs.Outcomes.{Answer, Refused, Accepted, Outcome}
+use Rattle.rules.specs.Refusals.{Refusal, number}
 use Rattle.rules.specs.Registration.{Definition, room_checks}
 use Rattle.memory.specs.Layout.{word, next_word}
 use Rattle.memory.specs.View.{view}
-use Rattle.memory.specs.Writes.{parent_id}
 use Rattle.memory.specs.Ways.{Way, left_by, by_adding, Sized, adding_sized}
-use Rattle.memory.specs.declared.Parent.{Parent}
-use Rattle.memory.specs.declared.Place.{Place}
-use Rattle.memory.specs.declared.Place.TheVariants.{At, None}
 use Rattle.memory_places.specs.Changes.{free_at}
 use Rattle.memory_entry.specs.Entries.{filled_place}
 use Rattle.memory_entry.specs.Filled.{filled_size}
 use Rattle.memory_entry.specs.declared.Entry.{Entry}
 use Rattle.rules.specs.Answers.{verdict}
-use Rattle.rules_types.specs.declared.Done.{Done}
-use Rattle.rules_types.specs.declared.Done.TheVariants as done
 use Rattle.registry_register.specs.Parts.{tag_of, word_of}
 
 -- the rules' definition of what is lent
-abbrev pub definition : Parent → Port → List ℕ → List ℕ → List ℕ → ℕ → Definition
+abbrev pub definition : Option ℕ → Port → List ℕ → List ℕ → List ℕ → ℕ → Definition
 definition parent anchor realms dependencies provisions payload = record {
-  parent = parent_id parent;
+  parent = parent;
   anchor = anchor;
   realms = realms;
   dependencies = dependencies;
@@ -51,8 +45,8 @@ new_entry m parent payload edition dependencies provisions realms = record {
 }
 
 -- Written to a place; no place leaves the words.
-abbrev pub written_at : List ℕ → Place → Entry → List ℕ → List ℕ → List ℕ → List ℕ
-written_at m (At p) e dependencies claims realms = filled_place m p e dependencies claims realms
+abbrev pub written_at : List ℕ → Option ℕ → Entry → List ℕ → List ℕ → List ℕ → List ℕ
+written_at m (Some p) e dependencies claims realms = filled_place m p e dependencies claims realms
 written_at m None e dependencies claims realms = m
 
 -- The words after a registration: the new plugin stands at the lowest free place.
@@ -69,16 +63,16 @@ abbrev pub added_to : List ℕ → Outcome → List ℕ
 added_to = left_by adding
 
 -- The late checks and what is written where they pass, by a count of dependencies and the lent lists.
-abbrev pub late_verdict : List ℕ → ℕ → List ℕ → Done
+abbrev pub late_verdict : List ℕ → ℕ → List ℕ → Result Unit Refusal
 late_verdict m count claims = verdict (room_checks (view m) count (rows_in_use (view m) + (count + length claims / 2)))
 
-abbrev pub answer_by : Done → ℕ → Answer
-answer_by done.Accepted id = Accepted (id ∷ [])
-answer_by (done.Refused n) id = Refused n []
+abbrev pub answer_by : Result Unit Refusal → ℕ → Answer
+answer_by (Ok x) id = Accepted (id ∷ [])
+answer_by (Err why) id = Refused (number why) []
 
-abbrev pub words_by : Done → List ℕ → List ℕ → List ℕ
-words_by done.Accepted m new = new
-words_by (done.Refused n) m new = m
+abbrev pub words_by : Result Unit Refusal → List ℕ → List ℕ → List ℕ
+words_by (Ok x) m new = new
+words_by (Err why) m new = m
 
 unfoldable pub settled_answer : List ℕ → ℕ → List ℕ → Answer
 settled_answer m count claims = answer_by (late_verdict m count claims) (word m next_word)
@@ -95,10 +89,10 @@ Settles m parent payload count dependencies claims realms a m' =
     (a ≡ settled_answer m count claims) × (m' ≡ settled_words m parent payload count dependencies claims realms)
 
 -- On any words, there are as many after a registration.
-written_size : (m : List ℕ) (free : Place) (e : Entry) (dependencies claims realms : List ℕ)
+written_size : (m : List ℕ) (free : Option ℕ) (e : Entry) (dependencies claims realms : List ℕ)
     → length (written_at m free e dependencies claims realms) ≡ length m
 written_size m None e dependencies claims realms = refl
-written_size m (At p) e dependencies claims realms = filled_size m p e dependencies claims realms
+written_size m (Some p) e dependencies claims realms = filled_size m p e dependencies claims realms
 
 pub added_sized : Sized adding
 added_sized = adding_sized _ λ m q. written_size m (free_at m) _ _ _ _

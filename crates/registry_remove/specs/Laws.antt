@@ -1,28 +1,20 @@
 -- What removal comes to where the id is found in the words, and where it is not.
-use Rattle.std.specs.Prelude.{ℕ, ◌%◌, ◌<◌, ◌≡◌, Bool, true, false, not, ◌&&◌, List, [], ◌∷◌, eqb}
+use Rattle.std.specs.Prelude.{ℕ, ◌%◌, ◌<◌, ◌≡◌, Bool, true, false, not, ◌&&◌, List, [], ◌∷◌, eqb, Some, None}
 use Rattle.std.proofs.Common.{mod-eq_of_lt, ◌∙◌}
 use Rattle.std.proofs.Math.Path.{sym, ap}
 use Rattle.rules.specs.Basics.{any, holds}
 use Rattle.rules.specs.Holds.{Plugin, plugins, is_idle}
-use Rattle.rules.specs.Refusals.{Refusal, number, Unknown, InvalidState, HasChildren}
-use Rattle.rules.specs.Outcomes.{Outcome, refuses, removes, ◌⇒◌, checked, answer_of}
+use Rattle.rules.specs.Refusals.{Unknown, InvalidState, HasChildren}
+use Rattle.rules.specs.Outcomes.{Accepted, Outcome, refuses, removes, ◌⇒◌, checked, Meets}
 use Rattle.rules.specs.Retirement.{is_child_of, remove}
 use Rattle.memory.specs.Ways.{left_by}
 use Rattle.memory.specs.View.{parent_at, life_at, plugin_at, view}
 use Rattle.memory.specs.Writes.{find_at}
 use Rattle.memory.specs.Known.{at_place, at_known, none_known}
 use Rattle.memory.specs.declared.Life.{Life}
-use Rattle.memory.specs.declared.Place.TheVariants.{At, None}
 use Rattle.memory.specs.Layout.{places}
 use Rattle.memory_rows.specs.Moves.{freed_place}
-use Rattle.rules_types.specs.declared.Done.{Done}
-use Rattle.rules_types.specs.declared.Done.TheVariants as done
-use Rattle.rules.specs.Answers.{done_answer}
 use Rattle.registry_remove.specs.Words.{removed_from}
-
--- an answer, and the words after a removal
-abbrev pub Freed : Outcome → List ℕ → Done → List ℕ → Type 0
-Freed o m r m' = (done_answer r ≡ answer_of o) × (m' ≡ removed_from m o)
 
 abbrev pub removal : List ℕ → ℕ → Plugin → Outcome
 removal m id p =
@@ -32,19 +24,15 @@ removal m id p =
     ∷ [])
     (removes id [])
 
-pub freed_refused : (o : Outcome) (m : List ℕ) (x : Refusal) → o ≡ refuses x [] → Freed o m (done.Refused (number x)) m
-unfolding left_by
-freed_refused o m x e = (rw e, rw e)
-
 pub remove_none : (m : List ℕ) (id : ℕ) → find_at m id ≡ None → remove (view m) id ≡ refuses Unknown []
 unfolding remove
 remove_none m id e = none_known m id e (removal m id)
 
-pub remove_found : (m : List ℕ) (id i : ℕ) → find_at m id ≡ At i → remove (view m) id ≡ removal m id (plugin_at m i)
+pub remove_found : (m : List ℕ) (id i : ℕ) → find_at m id ≡ Some i → remove (view m) id ≡ removal m id (plugin_at m i)
 unfolding remove
 remove_found m id i e = at_known m id i e (removal m id)
 
-module _ (m : List ℕ) (id i : ℕ) (life : Life) (b : Bool) (e : find_at m id ≡ At i) (l : life ≡ life_at m (i % places))
+module _ (m : List ℕ) (id i : ℕ) (life : Life) (b : Bool) (e : find_at m id ≡ Some i) (l : life ≡ life_at m (i % places))
     (t : b ≡ (is_idle life.phase && life.retired)) where
   removable : (is_idle (plugin_at m i).phase && (plugin_at m i).retired) ≡ b
   unfolding plugin_at
@@ -63,7 +51,7 @@ module _ (m : List ℕ) (id i : ℕ) (life : Life) (b : Bool) (e : find_at m id 
     unfolding checked
     remove_done z = remove_found m id i e ∙ rw (removable ∙ y) (rw (sym u ∙ z))
 
-    pub freed_done : (m' : List ℕ) → k ≡ false → m' ≡ freed_place m (i % places) → Freed (remove (view m) id) m done.Accepted m'
+    pub freed_done : (m' : List ℕ) → k ≡ false → m' ≡ freed_place m (i % places) → Meets removed_from (remove (view m) id) m (Accepted []) m'
     unfolding left_by
     freed_done m' z s = (rw (remove_done z), rw (remove_done z, e) (s ∙ ap (freed_place m) (at_place m id i e)))
 

@@ -1,5 +1,5 @@
 -- Of dense words, the registry after removing or opening is the rules', and the words are dense again.
-use Rattle.std.specs.Prelude.{ℕ, ◌≡◌, refl, not, ◌&&◌, length}
+use Rattle.std.specs.Prelude.{ℕ, ◌≡◌, refl, not, ◌&&◌, length, Option, Some, None}
 use Rattle.std.proofs.Math.Path.{ap}
 use Rattle.std.proofs.Common.{◌∙◌}
 use mathlib.Core.List.{List, [], ◌∷◌}
@@ -14,8 +14,6 @@ use Rattle.memory.specs.Layout.{id_at, memory_words}
 use Rattle.memory.specs.View.{plugin_at, view}
 use Rattle.memory.specs.Writes.{find_at}
 use Rattle.memory.specs.Known.{at_taken, at_id}
-use Rattle.memory.specs.declared.Place.{Place}
-use Rattle.memory.specs.declared.Place.TheVariants.{At, None}
 use Rattle.memory_rows.specs.Dense.{Dense, Refines}
 use Rattle.memory_rows.specs.Freed.{freed_dense, freed_view}
 use Rattle.memory.specs.Writes.{opened_with}
@@ -31,7 +29,7 @@ module _ (m : List ℕ) (d : Dense m) where
   unfolding left_by after
   removed_refused x = record { registry = refl; dense = d }
 
-  removed_one : (id i : ℕ) → find_at m id ≡ At i → Removed (removes id [])
+  removed_one : (id i : ℕ) → find_at m id ≡ Some i → Removed (removes id [])
   unfolding left_by plugin_at
   removed_one id i e =
       let t = at_taken m id i e in
@@ -41,9 +39,9 @@ module _ (m : List ℕ) (d : Dense m) where
   pub remove_refines : (id : ℕ) → Refines m (removed_from m (remove (view m) id)) (remove (view m) id)
   remove_refines id = go (find_at m id) refl
     where
-      go : (p : Place) → find_at m id ≡ p → Removed (remove (view m) id)
+      go : (p : Option ℕ) → find_at m id ≡ p → Removed (remove (view m) id)
       go None e = rw (remove_none m id e) (removed_refused Unknown)
-      go (At i) e = rw (remove_found m id i e)
+      go (Some i) e = rw (remove_found m id i e)
           (checked_elim Removed
           ((not (is_idle (plugin_at m i).phase && (plugin_at m i).retired) ⇒ InvalidState) ∷ (any (is_child_of id) (plugins (view m)) ⇒ HasChildren) ∷ [])
           (removes id []) removed_refused (λ h. removed_one id i e))

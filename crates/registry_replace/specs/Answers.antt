@@ -1,20 +1,24 @@
--- What a replacement and the question of a count answer in document 01's numbers: yes is 1, no is 0.
-use Rattle.std.specs.Prelude.{◌≡◌, [], ◌∷◌}
+-- What a replacement answers in document 01's numbers.
+use Rattle.std.specs.Prelude.{ℕ, ◌≡◌, [], ◌∷◌, Result, Ok, Err}
 use Rattle.std.proofs.Common.{ap}
 use Rattle.rules.specs.Outcomes.{Answer, Refused, Accepted}
-use Rattle.registry_replace.specs.declared.Replaced.{Replaced}
-use Rattle.registry_replace.specs.declared.Replaced.TheVariants as replaced
+use Rattle.rules.specs.Refusals.{Refusal, number, refusal_exact}
+use Rattle.registry_replace.specs.declared.Unreplaced.{Unreplaced}
 
-abbrev pub replaced_answer : Replaced → Answer
-replaced_answer (replaced.Former p) = Accepted (p ∷ [])
-replaced_answer (replaced.Refused n p) = Refused n (p ∷ [])
+abbrev pub unreplaced : Refusal → ℕ → Unreplaced
+unreplaced x v = record { why = x; payload = v }
+
+abbrev pub replaced_answer : Result ℕ Unreplaced → Answer
+replaced_answer (Ok p) = Accepted (p ∷ [])
+replaced_answer (Err u) = Refused (number u.why) (u.payload ∷ [])
 
 -- Any two outcomes that such a promise allows are equal.
-pub replaced_exact : (a b : Replaced) → replaced_answer a ≡ replaced_answer b → a ≡ b
-replaced_exact (replaced.Former p) (replaced.Former q) e = let j : p ≡ q = cc in ap replaced.Former j
-replaced_exact (replaced.Former p) (replaced.Refused k q) e = cc
-replaced_exact (replaced.Refused n p) (replaced.Former q) e = cc
-replaced_exact (replaced.Refused n p) (replaced.Refused k q) e =
-    let j : n ≡ k = cc in
-    let h : p ≡ q = cc in
-    rw (j, h)
+pub replaced_exact : (a b : Result ℕ Unreplaced) → replaced_answer a ≡ replaced_answer b → a ≡ b
+replaced_exact (Ok p) (Ok q) e = let j : p ≡ q = cc in ap Ok j
+replaced_exact (Ok p) (Err u) e = cc
+replaced_exact (Err u) (Ok p) e = cc
+replaced_exact (Err u) (Err w) e =
+    let n : number u.why ≡ number w.why = cc in
+    let j = refusal_exact u.why w.why n in
+    let k : u.payload ≡ w.payload = cc in
+    λ i. Err (unreplaced (j i) (k i))

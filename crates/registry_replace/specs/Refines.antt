@@ -1,5 +1,5 @@
 -- Of dense words, the registry after a replacement is the rules', and the words are dense again.
-use Rattle.std.specs.Prelude.{ℕ, ◌+◌, ◌≡◌, refl, List, [], ◌∷◌, eqb}
+use Rattle.std.specs.Prelude.{ℕ, ◌+◌, ◌≡◌, refl, List, [], ◌∷◌, eqb, Option, Some, None}
 use Rattle.std.proofs.Common.{ap, ◌∙◌}
 use Rattle.rules.specs.Basics.{last}
 use Rattle.rules.specs.Refusals.{Refusal, Unknown, Exhausted}
@@ -12,8 +12,6 @@ use Rattle.memory.specs.Writes.{find_at, renewed_at}
 use Rattle.memory.specs.Frames.{with_life, renewed_only}
 use Rattle.memory.specs.Stores.{renewed_view}
 use Rattle.memory.specs.Known.{at_below, at_taken}
-use Rattle.memory.specs.declared.Place.{Place}
-use Rattle.memory.specs.declared.Place.TheVariants.{At, None}
 use Rattle.memory_rows.specs.Dense.{Dense, Refines}
 use Rattle.memory_rows.specs.Stored.{only_dense}
 use Rattle.registry_replace.specs.Words.{replaced_in, replaced_at}
@@ -27,7 +25,7 @@ module _ (m : List ℕ) (d : Dense m) where
   unfolding left_by after
   left_refused x vs = record { registry = refl; dense = d }
 
-  left_replaced : (id i v : ℕ) → find_at m id ≡ At i → (vs : List ℕ) → Left (stores (with_life (plugin_at m i) (replaced_life (life_at m i) v)) vs)
+  left_replaced : (id i v : ℕ) → find_at m id ≡ Some i → (vs : List ℕ) → Left (stores (with_life (plugin_at m i) (replaced_life (life_at m i) v)) vs)
   left_replaced id i v e vs =
       let n = (life_at m i).revision + 1 in
       let s : replaced_in m (stores (with_life (plugin_at m i) (replaced_life (life_at m i) v)) vs) ≡ renewed_at m i n v = replaced_at m id i e _ vs in
@@ -39,8 +37,8 @@ module _ (m : List ℕ) (d : Dense m) where
   pub replace_refines : (id v : ℕ) → Refines m (replaced_in m (replace (view m) id v)) (replace (view m) id v)
   replace_refines id v = go (find_at m id) refl
     where
-      go : (p : Place) → find_at m id ≡ p → Left (replace (view m) id v)
+      go : (p : Option ℕ) → find_at m id ≡ p → Left (replace (view m) id v)
       go None e = rw (replace_none m id v e) (left_refused Unknown (v ∷ []))
-      go (At i) e = by_test (eqb (life_at m i).revision last)
+      go (Some i) e = by_test (eqb (life_at m i).revision last)
           (λ t. rw (replace_last m id v i e t) (left_refused Exhausted (v ∷ [])))
           (λ f. rw (replace_stores m id v i e f) (left_replaced id i v e ((life_at m i).payload ∷ [])))

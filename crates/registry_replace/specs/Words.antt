@@ -1,5 +1,5 @@
 -- The words after a replacement.
-use Rattle.std.specs.Prelude.{ℕ, ◌≡◌, refl, List, length}
+use Rattle.std.specs.Prelude.{ℕ, ◌≡◌, refl, List, length, Option, Some, None}
 use Rattle.rules.specs.Holds.{Plugin}
 use Rattle.rules.specs.Outcomes.{Outcome, stores}
 use Rattle.memory.specs.View.{plugin_at}
@@ -8,12 +8,10 @@ use Rattle.memory.specs.Ways.{Way, left_by, by_storing, Sized, storing_sized}
 use Rattle.memory.specs.Frames.{with_life, renewed_only}
 use Rattle.memory.specs.Known.{at_id}
 use Rattle.memory.specs.declared.Life.{Life}
-use Rattle.memory.specs.declared.Place.{Place}
-use Rattle.memory.specs.declared.Place.TheVariants.{At, None}
 
 -- the revision and the payload of a place, and no other word
-abbrev pub renewed_to : List ℕ → Place → Plugin → List ℕ
-renewed_to m (At i) q = renewed_at m i q.revision q.payload
+abbrev pub renewed_to : List ℕ → Option ℕ → Plugin → List ℕ
+renewed_to m (Some i) q = renewed_at m i q.revision q.payload
 renewed_to m None q = m
 
 abbrev pub replacing : Way
@@ -26,11 +24,11 @@ replaced_in = left_by replacing
 pub replaced_sized : Sized replacing
 replaced_sized = storing_sized _ λ m q. at m q (find_at m q.id)
   where
-    at : (m : List ℕ) (q : Plugin) (p : Place) → length (renewed_to m p q) ≡ length m
+    at : (m : List ℕ) (q : Plugin) (p : Option ℕ) → length (renewed_to m p q) ≡ length m
     at m q None = refl
-    at m q (At i) = (renewed_only m i q.revision q.payload).size
+    at m q (Some i) = (renewed_only m i q.revision q.payload).size
 
-pub replaced_at : (m : List ℕ) (id i : ℕ) → find_at m id ≡ At i → (l : Life) (vs : List ℕ)
+pub replaced_at : (m : List ℕ) (id i : ℕ) → find_at m id ≡ Some i → (l : Life) (vs : List ℕ)
     → replaced_in m (stores (with_life (plugin_at m i) l) vs) ≡ renewed_at m i l.revision l.payload
 unfolding left_by
 replaced_at m id i e l vs = rw (at_id m id i e, e)

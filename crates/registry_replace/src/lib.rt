@@ -10,8 +10,8 @@ ghost use Rattle.registry_replace.specs.Answers.{replaced_answer};
 ghost use Rattle.registry_replace.specs.Records.{change_of, fits_behind};
 ghost use Rattle.registry_replace.specs.Words.{replaced_in};
 
-use memory::{Place, WORDS};
-use rules::{Whether, refusal};
+use memory::WORDS;
+use rules::Refusal;
 
 // What a replacement changes of a plugin.
 #[derive(Clone, Copy)]
@@ -20,18 +20,18 @@ pub struct PayloadRecord {
     pub payload: u64,
 }
 
-// The former payload; or a refusal and the offered payload.
+// A refusal hands the offered payload back.
 #[derive(Clone, Copy)]
-pub enum Replaced {
-    Former(u64),
-    Refused(u64, u64),
+pub struct Unreplaced {
+    pub why: Refusal,
+    pub payload: u64,
 }
 
-// The record afterwards, and the answer.
+// The record afterwards, and the former payload or a refusal.
 #[derive(Clone, Copy)]
 pub struct Change {
     pub next: PayloadRecord,
-    pub answer: Replaced,
+    pub answer: Result<u64, Unreplaced>,
 }
 
 // 16 at the last revision; else the new payload, an equal one too, and revision + 1.
@@ -40,23 +40,26 @@ pub fn changed(r: PayloadRecord, payload: u64) -> Change
 {
     let last = r.revision == u64::MAX;
     if last {
+        let refused = Unreplaced {
+            why: Refusal::Exhausted,
+            payload,
+        };
         return Change {
             next: r,
-            answer: Replaced::Refused(refusal::EXHAUSTED, payload),
+            answer: Err(refused),
         };
     }
-    let next = r.revision + 1;
     Change {
         next: PayloadRecord {
-            revision: next,
-            payload: payload,
+            revision: r.revision + 1,
+            payload,
         },
-        answer: Replaced::Former(r.payload),
+        answer: Ok(r.payload),
     }
 }
 
 // The record is changed where it lies.
-pub fn replace_lent(r: &mut PayloadRecord, payload: u64) -> Replaced
+pub fn replace_lent(r: &mut PayloadRecord, payload: u64) -> Result<u64, Unreplaced>
     ensures { (r.new ≡ (change_of r.old payload).next) × (result ≡ (change_of r.old payload).answer) }
 {
     let c = changed(*r, payload);
@@ -64,38 +67,23 @@ pub fn replace_lent(r: &mut PayloadRecord, payload: u64) -> Replaced
     c.answer
 }
 
-// A record is lent, and comes back with the answer.
-fn by_lending(r: PayloadRecord, payload: u64) -> Change
-    ensures { result ≡ change_of r payload }
-{
-    let mut kept = r;
-    let answer = replace_lent(&mut kept, payload);
-    Change {
-        next: kept,
-        answer: answer,
-    }
-}
-
 // 1, 16, each with the offered payload; else the former payload, in any phase, retired or not.
-pub fn replace(m: &mut [u64; WORDS], id: u64, payload: u64) -> Replaced
+pub fn replace(m: &mut [u64; WORDS], id: u64, payload: u64) -> Result<u64, Unreplaced>
     ensures { Meets replaced_in (replace (view m.old) id payload) m.old (replaced_answer result) m.new }
 {
-    let Place::At(at) = memory::find(m, id) else {
-        return Replaced::Refused(refusal::UNKNOWN, payload);
+    let unknown = Unreplaced {
+        why: Refusal::Unknown,
+        payload,
     };
+    let at = memory::find(m, id).ok_or(unknown)?;
     let life = memory_life::load(m, at);
-    let held = PayloadRecord {
+    let mut held = PayloadRecord {
         revision: life.revision,
         payload: life.payload,
     };
-    let change = by_lending(held, payload);
-    let answer = change.answer;
-    let Replaced::Former(_) = answer else {
-        return answer;
-    };
-    let next = change.next;
-    memory_life::renew(m, at, next.revision, next.payload);
-    answer
+    let former = replace_lent(&mut held, payload)?;
+    memory_life::renew(m, at, held.revision, held.payload);
+    Ok(former)
 }
 
 // Whether a count fits behind a revision, by a difference that cannot wrap.
@@ -106,15 +94,10 @@ fn fits_behind(revision: u64, count: u64) -> bool
 }
 
 // Whether a count of replacements fits: 1, else yes exactly if no revision passes the last.
-pub fn fits(m: &[u64; WORDS], id: u64, count: u64) -> Whether
+pub fn fits(m: &[u64; WORDS], id: u64, count: u64) -> Result<bool, Refusal>
     ensures { whether_answer result ≡ answer_of (fits (view m.now) id count) }
 {
-    let Place::At(at) = memory::find(m, id) else {
-        return Whether::Refused(refusal::UNKNOWN);
-    };
+    let at = memory::look_up(m, id)?;
     let life = memory_life::load(m, at);
-    if fits_behind(life.revision, count) {
-        return Whether::Yes;
-    }
-    Whether::No
+    Ok(fits_behind(life.revision, count))
 }

@@ -8,75 +8,64 @@ ghost use Rattle.memory.specs.View.{view};
 ghost use Rattle.memory.specs.Known.{stored_life};
 ghost use Rattle.registry_steps.specs.Answers.{begun_answer};
 
-use memory::{Place, WORDS};
-use registry_table::{Cell, Step};
-use rules::{Done, Generation, refusal};
-
-// A ticket: domain, id, generation, kind.
-#[derive(Clone, Copy)]
-pub enum Begun {
-    Ticket(u64, u64, u64, u64),
-    Refused(u64),
-}
+use memory::WORDS;
+use registry_table::{Step, Ticket};
+use rules::{Generation, Refusal};
 
 // 1, 2, phase, 16, 14; generation + 1, root Unissued; it answers a ticket.
-pub fn begin(m: &mut [u64; WORDS], id: u64) -> Begun
+pub fn begin(m: &mut [u64; WORDS], id: u64) -> Result<Ticket, Refusal>
     ensures { Meets stored_life (begin (view m.old) id) m.old (begun_answer result) m.new }
 {
-    let Place::At(at) = memory::find(m, id) else {
-        return Begun::Refused(refusal::UNKNOWN);
+    let Some(at) = memory::find(m, id) else {
+        return Err(Refusal::Unknown);
     };
     let life = memory_life::load(m, at);
     if life.retired {
-        return Begun::Refused(refusal::RETIRED);
+        return Err(Refusal::Retired);
     }
-    let phase = life.phase;
-    let Cell::To(next) = registry_table::next(phase, Step::Begin) else {
-        return Begun::Refused(refusal::INVALID_STATE);
-    };
-    if life.generation.0 == Generation::LAST.0 {
-        return Begun::Refused(refusal::EXHAUSTED);
+    let next = registry_table::next(life.phase, Step::Begin).ok_or(Refusal::InvalidState)?;
+    if life.generation == Generation::LAST {
+        return Err(Refusal::Exhausted);
     }
-    if registry_needs::all_available(m, memory_lists::dependency_words(m, at)) {
-        let domain = memory::domain(m);
-        let new = life.begun(next);
-        memory_life::store(m, at, new);
-        return Begun::Ticket(domain, id, new.generation.0, registry_table::SETUP);
+    if !registry_needs::all_available(m, memory_lists::dependency_words(m, at)) {
+        return Err(Refusal::Unavailable);
     }
-    Begun::Refused(refusal::UNAVAILABLE)
+    let domain = memory::domain(m);
+    let begun = life.begun(next);
+    memory_life::store(m, at, begun);
+    Ok(Ticket {
+        domain,
+        id,
+        generation: begun.generation.0,
+        kind: registry_table::SETUP,
+    })
 }
 
 // 1, phase.
-pub fn fail(m: &mut [u64; WORDS], id: u64) -> Done
+pub fn fail(m: &mut [u64; WORDS], id: u64) -> Result<(), Refusal>
     ensures { Meets stored_life (fail (view m.old) id) m.old (done_answer result) m.new }
 {
-    let Place::At(at) = memory::find(m, id) else {
-        return Done::Refused(refusal::UNKNOWN);
+    let Some(at) = memory::find(m, id) else {
+        return Err(Refusal::Unknown);
     };
     let life = memory_life::load(m, at);
-    let phase = life.phase;
-    let Cell::To(next) = registry_table::next(phase, Step::Fail) else {
-        return Done::Refused(refusal::INVALID_STATE);
-    };
+    let next = registry_table::next(life.phase, Step::Fail).ok_or(Refusal::InvalidState)?;
     memory_life::store(m, at, life.with_phase(next));
-    Done::Accepted
+    Ok(())
 }
 
 // 1, phase, 15.
-pub fn unload(m: &mut [u64; WORDS], id: u64) -> Done
+pub fn unload(m: &mut [u64; WORDS], id: u64) -> Result<(), Refusal>
     ensures { Meets stored_life (unload (view m.old) id) m.old (done_answer result) m.new }
 {
-    let Place::At(at) = memory::find(m, id) else {
-        return Done::Refused(refusal::UNKNOWN);
+    let Some(at) = memory::find(m, id) else {
+        return Err(Refusal::Unknown);
     };
     let life = memory_life::load(m, at);
-    let phase = life.phase;
-    let Cell::To(next) = registry_table::next(phase, Step::Unload) else {
-        return Done::Refused(refusal::INVALID_STATE);
-    };
+    let next = registry_table::next(life.phase, Step::Unload).ok_or(Refusal::InvalidState)?;
     if registry_needs::in_use(m, at) {
-        return Done::Refused(refusal::IN_USE);
+        return Err(Refusal::InUse);
     }
     memory_life::store(m, at, life.with_phase(next));
-    Done::Accepted
+    Ok(())
 }

@@ -1,16 +1,22 @@
--- What the questions on values answer in document 01's numbers; none is no number.
-use Rattle.std.specs.Prelude.{◌≡◌, [], ◌∷◌}
-use Rattle.rules.specs.Outcomes.{Answer, Refused, Accepted}
+-- What a reading says in document 01's numbers.
+use Rattle.std.specs.Prelude.{ℕ, ◌≡◌, List, [], ◌∷◌, Result}
+use Rattle.rules.specs.Answers.{answered, answered_exact}
+use Rattle.rules.specs.Outcomes.{Answer}
+use Rattle.rules.specs.Refusals.{Refusal}
 use Rattle.registry_values.specs.declared.Reading.{Reading}
-use Rattle.registry_values.specs.declared.Reading.TheVariants as reading
 
-abbrev pub reading_answer : Reading → Answer
-reading_answer (reading.Is v p) = Accepted (v ∷ p ∷ [])
-reading_answer (reading.Refused n) = Refused n []
+abbrev pub reading_numbers : Reading → List ℕ
+reading_numbers x = x.value ∷ x.provider ∷ []
+
+abbrev pub reading_answer : Result Reading Refusal → Answer
+reading_answer r = answered reading_numbers r
 
 -- Any two outcomes that such a promise allows are equal.
-pub reading_exact : (a b : Reading) → reading_answer a ≡ reading_answer b → a ≡ b
-reading_exact (reading.Is v p) (reading.Is w q) e = cc
-reading_exact (reading.Is v p) (reading.Refused k) e = cc
-reading_exact (reading.Refused n) (reading.Is w q) e = cc
-reading_exact (reading.Refused n) (reading.Refused k) e = cc
+reading_alone : (x y : Reading) → reading_numbers x ≡ reading_numbers y → x ≡ y
+reading_alone x y e =
+    let v : x.value ≡ y.value = cc in
+    let p : x.provider ≡ y.provider = cc in
+    λ i. record { value = v i; provider = p i }
+
+pub reading_exact : (a b : Result Reading Refusal) → reading_answer a ≡ reading_answer b → a ≡ b
+reading_exact a b e = answered_exact reading_numbers reading_alone a b e

@@ -1,8 +1,9 @@
 -- What the console says, and what an output holds of it.
-use Rattle.std.specs.Prelude.{ℕ, ◌≡◌, ◌+◌, ◌-◌, ◌^◌, ◌<◌, ◌≤◌, Bool, true, false, List, [], ◌∷◌, ◌++◌, length, take, drop, get_or, replicate, refl}
+use Rattle.std.specs.Prelude.{ℕ, ◌≡◌, ◌+◌, ◌-◌, ◌^◌, ◌<◌, ◌≤◌, Bool, true, false, List, [], ◌∷◌, ◌++◌, length, take, drop, get_or, replicate, refl, ◌⊎◌, Result, Ok, Err, IsOk, OnOk}
 use Rattle.std.proofs.Common.{subst, ap, ◌∙◌, sym, append_assoc, length-append, arith}
 use Rattle.std.specs.declared.option.Option.{Option}
-use Rattle.std.specs.Io.KnownBytes.{Consumes, IsAtEnd}
+use Rattle.std.specs.Io.KnownBytes.{Appends, Consumes, IsAtEnd}
+use Rattle.std.proofs.Math.Logic.{⊎_elim}
 use Rattle.std.proofs.KnownBytes.{Appends-nil, Appends-trans, Consumes-nil, Consumes-trans}
 use native.Mathlib.Numerals.{add-one}
 use lib.ListN.{drop_of_length-le}
@@ -11,12 +12,11 @@ use Rattle.rules.specs.Slot.{Slot, pending}
 use Rattle.memory.specs.Layout.{memory_words}
 use Rattle.demands.specs.Starts.{blank}
 use Rattle.console_words.specs.Bytes.{longest}
-use Rattle.console_answer.specs.Pages.{Page, up_to, text_room}
-use Rattle.console_load.specs.Loaded.{load_ended}
-use Rattle.replay.specs.declared.Due.{Due}
-use Rattle.replay.specs.declared.Output.{Output}
-use Rattle.replay.specs.Fed.{Kept, kept, due_of, empty_page, byte_fed, fed}
-use Rattle.replay.specs.Said.{Says, page_said, text_said, byte_said, said, buffer_room, start, FeedsSome}
+use Rattle.console_answer.specs.Pages.{text_room}
+use Rattle.replay.specs.declared.text.Due.{Due}
+use Rattle.replay.specs.declared.output.Output.{Output}
+use Rattle.replay.specs.Fed.{Kept, kept, due_of, byte_fed, fed}
+use Rattle.replay.specs.Said.{Says, byte_said, said, buffer_room, start, end_said, FeedsSome, Answers}
 
 module _ {W : Type 0} (contents : W → Option (List ℕ)) where
   pub says_none : (o : Output W) → Says contents o o []
@@ -27,17 +27,6 @@ module _ {W : Type 0} (contents : W → Option (List ℕ)) where
       let (k, q) = g h in
       let (j, p) = f k in
       (j, Appends-trans (contents a.to) (contents b.to) (contents c.to) x y p q)
-
-  module _ (a b : Output W) where
-    pub says_page : (text : List ℕ) (place : ℕ) (p : Page) → up_to text place ≡ p → Says contents a b (take place text) → Says contents a b (page_said p)
-    says_page text place p e h = subst (λ q. Says contents a b (page_said q)) e h
-
-    pub says_text : (m text : List ℕ) (d : Due) (bytes page : List ℕ) (place : ℕ) → bytes ≡ take d.came text
-        → up_to page place ≡ (load_ended empty_page m d.domain d.length bytes).page
-        → Says contents a b (take place page) → Says contents a b (text_said m text d)
-    says_text m text d bytes page place e f h =
-        subst (λ (l : List ℕ). Says contents a b (page_said (load_ended empty_page m d.domain d.length l).page)) e
-        (says_page page place (load_ended empty_page m d.domain d.length bytes).page f h)
 
 module _ (k : Kept) (part : List ℕ) (i : ℕ) where
   pub said_next : i < length part
@@ -60,11 +49,9 @@ said_both k [] y = refl
 said_both k (b ∷ x) y = ap (λ (l : List ℕ). byte_said k b ++ l) (said_both (byte_fed k b) x y)
     ∙ sym (append_assoc (byte_said k b) (said (byte_fed k b) x) (said (fed (byte_fed k b) x) y))
 
-pub begun : (m : List ℕ) (s : Slot) → m ≡ blank (replicate memory_words 0) 0 0 → s ≡ pending 0 0 0
-    → kept m (replicate buffer_room 0) s (replicate longest 0) 0 (replicate text_room 0) (due_of 0 0 0) ≡ start
-begun m s e f =
-    ap (λ (l : List ℕ). kept l (replicate buffer_room 0) s (replicate longest 0) 0 (replicate text_room 0) (due_of 0 0 0)) e
-    ∙ ap (λ (q : Slot). kept (blank (replicate memory_words 0) 0 0) (replicate buffer_room 0) q (replicate longest 0) 0 (replicate text_room 0) (due_of 0 0 0)) f
+pub begun : (m : List ℕ) (s : Slot) (d : Due) → m ≡ blank (replicate memory_words 0) 0 0 → s ≡ pending 0 0 0 → d ≡ due_of 0 0 0
+    → kept m (replicate buffer_room 0) s (replicate longest 0) 0 (replicate text_room 0) d ≡ start
+begun m s d e f g = rw (e, f, g)
 
 -- The turns of a run, before the one that is next: some bytes were read and fed, and what is said of them is written. While there
 -- is more, each turn read a byte at least.
@@ -121,3 +108,26 @@ module _ {R W : Type 0} (remaining : R → Option (List ℕ)) (contents : W → 
         omega (arith, all, one, less, length-append h.bytes f.bytes);
     none = f.none;
   }
+
+  -- At the input's end the rest is said, and all that was said is written, unless a write failed.
+  pub answers : (i i' : R) (o o' o'' : Output W) (k : Kept) (more : Bool) (turns : ℕ) → Going remaining contents i i' o o' k more turns
+      → (more ≡ false) ⊎ (turns ≡ 0) → Says contents o' o'' (end_said k)
+      → OnOk o''.written (Answers (remaining i) (remaining i') (contents o.to) (contents o''.to))
+  answers i i' o o' o'' k more turns h exit last = on_ok o''.written λ good. record {
+    bytes = h.bytes;
+    read = h.read;
+    whole = λ few. ⊎_elim h.none (λ z. at_last more refl few z) exit;
+    written = subst (λ (l : List ℕ). Appends (contents o.to) (contents o''.to) l)
+        (ap (λ (q : Kept). said start h.bytes ++ end_said q) h.keeps)
+        (says_both contents o o' o'' (said start h.bytes) (end_said k) h.says last good).1;
+  }
+    where
+      on_ok : {T E P : Type 0} (r : Result T E) → (IsOk r → P) → OnOk r P
+      on_ok (Ok x) f = f refl
+      on_ok (Err e) f = tt
+
+      at_last : (b : Bool) → more ≡ b → length h.bytes < 2 ^ 64 - 1 → turns ≡ 0 → IsAtEnd (remaining i')
+      at_last true e few z =
+          let all = h.some e in
+          absurd (omega (arith, all, few, z))
+      at_last false e few z = h.none e

@@ -1,19 +1,16 @@
 -- The input, byte by byte: what the console keeps of it.
-use Rattle.std.specs.Prelude.{ℕ, ◌+◌, Bool, List, [], ◌∷◌, eqb, ltb, take, set, replicate}
+use Rattle.std.specs.Prelude.{ℕ, ◌+◌, Bool, List, [], ◌∷◌, eqb, ltb, take, set, Option, Some, None}
 use Rattle.rules.specs.Basics.{pick}
 use Rattle.rules.specs.Slot.{Slot}
 use Rattle.console_words.specs.Bytes.{longer_bytes, longer_count}
-use Rattle.console_answer.specs.Pages.{Page, up_to, text_room, room}
+use Rattle.console_answer.specs.Pages.{empty_page, text_room}
+use Rattle.slot_child.specs.Slots.{slot_of}
 use Rattle.console_line.specs.Console.{After, line_ended}
 use Rattle.console_load.specs.declared.Awaited.{Awaited}
-use Rattle.console_load.specs.declared.Awaited.TheVariants.{Text, Nothing}
-use Rattle.console_load.specs.Awaited.{awaited}
+use Rattle.console_load.specs.Awaited.{text as text_awaited, awaited}
 use Rattle.console_load.specs.Loaded.{load_ended}
-use Rattle.replay.specs.declared.Due.{Due}
-
--- Each answer is said on an empty page.
-abbrev pub empty_page : Page
-empty_page = up_to (replicate room 0) 0
+use Rattle.replay.specs.declared.text.Due.{Due}
+use Rattle.replay.specs.declared.line.Replay.{Replay}
 
 -- The registry's words and what is due of a text.
 pub record Texted : Type 0 where
@@ -24,15 +21,15 @@ abbrev pub texted : List ℕ → Due → Texted
 texted memory due = record { memory = memory; due = due }
 
 abbrev pub due_of : (domain length came : ℕ) → Due
-due_of domain length came = record { domain = domain; length = length; came = came }
+due_of domain length came = record { awaited = text_awaited domain length; came = came }
 
 -- Bytes of the text are still to come.
 abbrev pub awaiting : Due → Bool
-awaiting d = ltb d.came d.length
+awaiting d = ltb d.came d.awaited.length
 
 -- The text is what came of it: it is loaded, and nothing is due any more.
 abbrev pub end_text : List ℕ → List ℕ → Due → Texted
-end_text m text d = texted (load_ended empty_page m d.domain d.length (take d.came text)).memory (due_of 0 0 0)
+end_text m text d = texted (load_ended empty_page m d.awaited.domain d.awaited.length (take d.came text)).memory (due_of 0 0 0)
 
 -- A text ends with its last byte,
 abbrev pub whole_text : List ℕ → List ℕ → Due → Texted
@@ -43,16 +40,16 @@ abbrev pub cut_text : List ℕ → List ℕ → Due → Texted
 cut_text m text d = pick (awaiting d) (end_text m text d) (texted m d)
 
 -- A text of no bytes is whole at once.
-abbrev pub begun_text : Awaited → List ℕ → List ℕ → Due → Texted
-begun_text (Text domain length) m text d = whole_text m text (due_of domain length 0)
-begun_text Nothing m text d = texted m d
+abbrev pub begun_text : Option Awaited → List ℕ → List ℕ → Due → Texted
+begun_text (Some a) m text d = whole_text m text (record { awaited = a; came = 0 })
+begun_text None m text d = texted m d
 
 -- One more byte of a text; there is room for 131,072.
 abbrev pub longer_text : List ℕ → ℕ → ℕ → List ℕ
 longer_text text came byte = pick (ltb came text_room) (set text came byte) text
 
 abbrev pub one_more : Due → Due
-one_more d = due_of d.domain d.length (d.came + 1)
+one_more d = record { awaited = d.awaited; came = d.came + 1 }
 
 -- The registry's words, the buffer, the slot; of the line that has not ended its bytes and how many came; and the text's bytes
 -- with what is due of it.
@@ -76,8 +73,17 @@ kept memory buffer slot line filled text due = record {
   due = due;
 }
 
+abbrev pub kept_of : Replay → Kept
+kept_of r = kept r.console.memory r.console.buffer (slot_of r.console.slot) r.line r.filled r.text r.due
+
 abbrev pub with_text : Kept → List ℕ → Texted → Kept
 with_text k text t = kept t.memory k.buffer k.slot k.line k.filled text t.due
+
+abbrev pub ended_text : Kept → Kept
+ended_text k = with_text k k.text (end_text k.memory k.text k.due)
+
+abbrev pub whole : Kept → Kept
+whole k = with_text k k.text (whole_text k.memory k.text k.due)
 
 abbrev pub left : Kept → After → Texted → Kept
 left k a t = kept t.memory a.buffer a.slot k.line 0 k.text t.due

@@ -1,21 +1,20 @@
 -- What the console says, byte by byte of its input, and when an output holds it.
-use Rattle.std.specs.Prelude.{ℕ, ◌≡◌, ◌<◌, ◌-◌, ◌^◌, Bool, true, false, List, [], ◌∷◌, ◌++◌, length, eqb, take, replicate, IsOk}
-use Rattle.std.specs.declared.option.Option.{Option}
+use Rattle.std.specs.Prelude.{ℕ, ◌≡◌, ◌<◌, ◌-◌, ◌^◌, Bool, true, false, List, [], ◌∷◌, ◌++◌, length, eqb, take, replicate, IsOk, Option, Some, None}
 use Rattle.std.specs.Io.KnownBytes.{Appends, Consumes, IsAtEnd}
 use Rattle.rules.specs.Basics.{pick}
 use Rattle.rules.specs.Slot.{pending}
 use Rattle.memory.specs.Layout.{memory_words}
 use Rattle.demands.specs.Starts.{blank}
 use Rattle.console_words.specs.Bytes.{longest}
-use Rattle.console_answer.specs.Pages.{Page, text_room}
+use Rattle.console_answer.specs.Pages.{empty_page, text_room}
+use Rattle.console_answer.specs.declared.Page.{Page}
 use Rattle.console_line.specs.Console.{line_ended}
 use Rattle.console_load.specs.declared.Awaited.{Awaited}
-use Rattle.console_load.specs.declared.Awaited.TheVariants.{Text, Nothing}
 use Rattle.console_load.specs.Awaited.{awaited}
 use Rattle.console_load.specs.Loaded.{load_ended}
-use Rattle.replay.specs.declared.Due.{Due}
-use Rattle.replay.specs.declared.Output.{Output}
-use Rattle.replay.specs.Fed.{Kept, kept, empty_page, due_of, awaiting, longer_text, one_more, end_line, byte_fed, fed}
+use Rattle.replay.specs.declared.text.Due.{Due}
+use Rattle.replay.specs.declared.output.Output.{Output}
+use Rattle.replay.specs.Fed.{Kept, kept, due_of, awaiting, longer_text, one_more, end_line, byte_fed, fed}
 
 -- Unless a write failed, these bytes are written, behind those that were.
 abbrev pub Says : {W : Type 0} → (W → Option (List ℕ)) → Output W → Output W → List ℕ → Type 0
@@ -27,7 +26,7 @@ page_said p = take p.place p.text
 
 -- The answer to a load, when its text is at its end.
 abbrev pub text_said : List ℕ → List ℕ → Due → List ℕ
-text_said m text d = page_said (load_ended empty_page m d.domain d.length (take d.came text)).page
+text_said m text d = page_said (load_ended empty_page m d.awaited.domain d.awaited.length (take d.came text)).page
 
 abbrev pub whole_said : List ℕ → List ℕ → Due → List ℕ
 whole_said m text d = pick (awaiting d) [] (text_said m text d)
@@ -35,9 +34,15 @@ whole_said m text d = pick (awaiting d) [] (text_said m text d)
 abbrev pub cut_said : List ℕ → List ℕ → Due → List ℕ
 cut_said m text d = pick (awaiting d) (text_said m text d) []
 
-abbrev pub begun_said : Awaited → List ℕ → List ℕ → Due → List ℕ
-begun_said (Text domain length) m text d = whole_said m text (due_of domain length 0)
-begun_said Nothing m text d = []
+abbrev pub begun_said : Option Awaited → List ℕ → List ℕ → Due → List ℕ
+begun_said (Some a) m text d = whole_said m text (record { awaited = a; came = 0 })
+begun_said None m text d = []
+
+abbrev pub ended_said : Kept → List ℕ
+ended_said k = text_said k.memory k.text k.due
+
+abbrev pub whole_text_said : Kept → List ℕ
+whole_text_said k = whole_said k.memory k.text k.due
 
 -- The answer to a line, when it is at its end.
 abbrev pub line_said : Kept → List ℕ
@@ -45,9 +50,12 @@ line_said k =
     let a = line_ended empty_page k.memory k.buffer k.slot k.line k.filled in
     page_said a.page ++ begun_said (awaited k.line k.filled) a.memory k.text k.due
 
+abbrev pub text_byte_said : Kept → ℕ → List ℕ
+text_byte_said k byte = whole_said k.memory (longer_text k.text k.due.came byte) (one_more k.due)
+
 abbrev pub byte_said : Kept → ℕ → List ℕ
 byte_said k byte =
-    pick (awaiting k.due) (whole_said k.memory (longer_text k.text k.due.came byte) (one_more k.due))
+    pick (awaiting k.due) (text_byte_said k byte)
     (pick (eqb byte 10) (line_said k) [])
 
 -- The answers to these bytes, one behind the other.

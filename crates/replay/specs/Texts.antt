@@ -1,7 +1,7 @@
 -- The bytes right behind the line of a load are its text, whatever they are: as many as it says, or what there is of them.
 use Prim.Native.Nat.{ℕ, suc, ◌+◌, ◌≤◌, ◌<◌}
 use native.Mathlib.Omega.{arith}
-use Rattle.std.specs.Prelude.{◌≡◌, refl, false, eqb, ltb, drop, set}
+use Rattle.std.specs.Prelude.{◌≡◌, refl, false, eqb, ltb, drop, set, Option, Some}
 use Rattle.std.proofs.Common.{sym, ◌∙◌, length-append, eqb-true, lt-ltb, le-ltb, ltb-false}
 use Rattle.std.proofs.Math.Path.{ap}
 use mathlib.Core.List.{List, [], ◌∷◌, ◌++◌, append_assoc, append-nil}
@@ -11,14 +11,13 @@ use Rattle.std.proofs.lemmas.Bool.{eqb-false}
 use Rattle.rules.specs.Basics.{pick}
 use Rattle.rules.specs.Slot.{Slot}
 use Rattle.rules_laws.specs.Laws.Tests.{by_test}
-use Rattle.console_answer.specs.Pages.{text_room}
+use Rattle.console_answer.specs.Pages.{empty_page, text_room}
 use Rattle.console_line.specs.Console.{After}
 use Rattle.console_load.specs.declared.Awaited.{Awaited}
-use Rattle.console_load.specs.declared.Awaited.TheVariants.{Text}
-use Rattle.console_load.specs.Awaited.{awaited}
+use Rattle.console_load.specs.Awaited.{text as text_awaited, awaited}
 use Rattle.console_load.specs.Loaded.{load_ended}
 use Rattle.console_load.specs.Silent.{unchanged, says_nothing}
-use Rattle.replay.specs.Fed.{empty_page, due_of, awaiting, whole_text, begun_text, longer_text}
+use Rattle.replay.specs.Fed.{due_of, awaiting, whole_text, begun_text, longer_text}
 use Rattle.replay.specs.Fed.{Kept, kept, left, end_line, byte_fed, fed, cut_off, input_ended}
 
 -- The text's room when these bytes came behind so many.
@@ -120,13 +119,13 @@ module _ (k : Kept) (domain : ℕ) (idle : awaiting k.due ≡ false) where
     due = refl;
   })
 
-  module _ (n : ℕ) (line : awaited k.line k.filled ≡ Text domain n) where
+  module _ (n : ℕ) (line : awaited k.line k.filled ≡ Some (text_awaited domain n)) where
     begins : end_line k
         ≡ left k (unchanged empty_page k.memory k.buffer k.slot) (whole_text k.memory k.text (due_of domain n 0))
     begins =
         ap (λ (a : After). left k a (begun_text (awaited k.line k.filled) a.memory k.text k.due))
         (says_nothing empty_page k.memory k.buffer k.slot domain n k.line k.filled line)
-        ∙ ap (λ (w : Awaited). left k (unchanged empty_page k.memory k.buffer k.slot)
+        ∙ ap (λ (w : Option Awaited). left k (unchanged empty_page k.memory k.buffer k.slot)
         (begun_text w k.memory k.text k.due)) line
 
     ten : byte_fed k 10 ≡ end_line k

@@ -1,7 +1,7 @@
 -- The text's form is lawful: what is written says the registry, and what says something is what is written.
+use Rattle.std.specs.Prelude.{Some}
 pub mod Values
 use Rattle.std.proofs.Common.{ℕ, ◌≡◌, refl, sym, ◌∙◌, List}
-use Rattle.std.proofs.Math.Option.{some}
 use Rattle.rules.specs.Holds.{RealmList, Plugin, Registry}
 use Rattle.rules.specs.Text.{header, with_count, realms, Lines, lines, lines_of, plugin_of, block, Said, text, said, text_of, read_text}
 use Rattle.rules.specs.Text.Values.{key_realm, edition_and_default}
@@ -60,14 +60,14 @@ text_lawful =
     (λ b. refl)
 
 -- A registry's text says that registry. Fits: every number is at most 2^64 − 1.
-pub read_written : (r : Registry) → text.Fits (said r) → read_text (text_of r) ≡ some (said r)
+pub read_written : (r : Registry) → text.Fits (said r) → read_text (text_of r) ≡ Some (said r)
 unfolding text_of read_text
 read_written r h = forms.read_written text text_lawful (said r) h
 
 -- A text that says something is the one text that says it.
-pub written_read : (t : List ℕ) (s : Said) → read_text t ≡ some s → text.Fits s × (text.write s ≡ t)
+pub written_read : (t : List ℕ) (s : Said) → read_text t ≡ Some s → text.Fits s × (text.write s ≡ t)
 unfolding read_text
 written_read t s e = forms.written_read text text_lawful t s e
 
-pub one_text : (t u : List ℕ) (s : Said) → read_text t ≡ some s → read_text u ≡ some s → t ≡ u
+pub one_text : (t u : List ℕ) (s : Said) → read_text t ≡ Some s → read_text u ≡ Some s → t ≡ u
 one_text t u s d e = sym (written_read t s d).1 ∙ (written_read u s e).1

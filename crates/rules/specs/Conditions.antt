@@ -1,6 +1,5 @@
 -- Document 02 [4]: the conditions that a text meets, in its order and words.
-use Rattle.std.specs.Prelude.{ℕ, zero, suc, ◌+◌, Bool, true, not, ◌&&◌, ◌||◌, List, [], ◌∷◌, ◌++◌, map, eqb, leb, ltb, length, take}
-use Rattle.std.proofs.Math.Option.{Option, none, some}
+use Rattle.std.specs.Prelude.{ℕ, zero, suc, ◌+◌, Bool, true, not, ◌&&◌, ◌||◌, List, [], ◌∷◌, ◌++◌, map, eqb, leb, ltb, length, take, Option, Some, None}
 use Rattle.rules.specs.Basics.{any, all, first, only, every, ◌⊃◌, is_some, is_none, or_none, twice}
 use Rattle.rules.specs.Limits.{max_plugins, max_rows, max_dependency_keys, max_provision_keys, max_realm_rows, max_dependencies}
 use Rattle.rules.specs.Holds.{Port, Realms, table_of, Provision, Plugin, provided, provides, running, sum_rows, same_port, is_idle, is_active}
@@ -72,8 +71,8 @@ given_within (suc n) z provisions anchor parents list =
     given_by z provisions anchor parents list (keys_of (take (suc n) list)) || given_within n z provisions anchor parents list
 
 abbrev pub parent_in : List Plugin → Option ℕ → Option Plugin
-parent_in ps none = none
-parent_in ps (some x) = among ps x
+parent_in ps None = None
+parent_in ps (Some x) = among ps x
 
 abbrev pub by_rule : List Plugin → Plugin → Bool
 by_rule ps p = given_within max_dependency_keys (table_of p.realms) (provided p) p.anchor (inherited_from (parent_in ps p.parent)) p.dependencies

@@ -1,7 +1,6 @@
 -- Document 02 [5]'s editions, computed: what keys resolve to, a plugin's own edition when it inherits, 26, and the text's two lines.
-use Rattle.std.specs.Prelude.{ℕ, ◌^◌, ◌-◌, ◌≡◌, refl, List, [], ◌∷◌, ◌++◌}
+use Rattle.std.specs.Prelude.{ℕ, ◌^◌, ◌-◌, ◌≡◌, refl, List, [], ◌∷◌, ◌++◌, Some, None}
 use Prim.Native.String.{String}
-use Rattle.std.proofs.Math.Option.{none, some}
 use Rattle.rules.specs.Holds.{port, Registry, lookup, count, provider, rows_in_use}
 use Rattle.rules.specs.Outcomes.{Answer, Refused, Accepted, after, lent_after, checked, found}
 use Rattle.rules.specs.Ports.{bad_realms, resolve, realm_list, bad_edition, resolve_key}
@@ -32,13 +31,13 @@ resolved realms = answers_to (Ask (ResolveKey realms 2) ∷ Ask (ResolveKey real
 
 -- refused by a lookup, and by a registration with too many keys
 abbrev refused_by : List ℕ → List Answer
-refused_by realms = answers_to (Ask (ResolveKey realms 2) ∷ registers_by realms none (port 100 0) (keys 17 1) [] ∷ [])
+refused_by realms = answers_to (Ask (ResolveKey realms 2) ∷ registers_by realms None (port 100 0) (keys 17 1) [] ∷ [])
 
 -- a parent (1) of default 7 with dependencies (2,5), (3,7), and its child of this list with dependency key 4
 abbrev family : List ℕ → List Op
 family realms =
-    registers_by (in_second 7 rows) none (port 100 0) (2 ∷ 3 ∷ []) []
-    ∷ registers_by realms (some 1) (port 101 0) (4 ∷ []) []
+    registers_by (in_second 7 rows) None (port 100 0) (2 ∷ 3 ∷ []) []
+    ∷ registers_by realms (Some 1) (port 101 0) (4 ∷ []) []
     ∷ []
 
 abbrev ten : List ℕ
@@ -46,7 +45,7 @@ ten = 0 ∷ 0 ∷ 0 ∷ 0 ∷ 0 ∷ 0 ∷ 0 ∷ 0 ∷ 0 ∷ 0 ∷ []
 
 -- [1]'s example by this list
 abbrev example : List ℕ → Registry
-example realms = built 0 (registers_by realms none (port 9 0) [] (2 ∷ 4 ∷ []) ∷ [])
+example realms = built 0 (registers_by realms None (port 9 0) [] (2 ∷ 4 ∷ []) ∷ [])
 
 abbrev text : String → String → List ℕ
 text edition provisions =
@@ -81,10 +80,10 @@ pub record Editions : Type 0 where
   -- the text's two lines, there and back
   pub first_text : text_of (example (1 ∷ 7 ∷ rows)) ≡ text "edition=1 default=0" "prov=2,5,none prov=4,0,none"
   pub second_text : text_of (example (2 ∷ 7 ∷ rows)) ≡ text "edition=2 default=7" "prov=2,5,none prov=4,7,none"
-  pub second_back : read_text (text "edition=2 default=7" "prov=2,5,none prov=4,7,none") ≡ some (said (example (2 ∷ 7 ∷ rows)))
-  pub without_lines : read_text older ≡ none
-  pub default_in_first : read_text (text "edition=1 default=7" "prov=2,5,none prov=4,0,none") ≡ none
-  pub third : read_text (text "edition=3 default=7" "prov=2,5,none prov=4,0,none") ≡ none
+  pub second_back : read_text (text "edition=2 default=7" "prov=2,5,none prov=4,7,none") ≡ Some (said (example (2 ∷ 7 ∷ rows)))
+  pub without_lines : read_text older ≡ None
+  pub default_in_first : read_text (text "edition=1 default=7" "prov=2,5,none prov=4,0,none") ≡ None
+  pub third : read_text (text "edition=3 default=7" "prov=2,5,none prov=4,0,none") ≡ None
   -- a text's plugin is read by its own edition
   pub loads : load_answer (load 8 (text "edition=2 default=7" "prov=2,5,none prov=4,7,none")) ≡ Accepted []
   pub default_of_another : load_answer (load 8 (text "edition=2 default=7" "prov=2,5,none prov=4,0,none")) ≡ Refused 24 []

@@ -1,6 +1,5 @@
 -- Document 01, "Numbered examples": E1 to E10, E4 as document 02 [3] amends it, each computed from the rules.
-use Rattle.std.specs.Prelude.{ℕ, ◌^◌, ◌-◌, ◌≡◌, refl, false, List, [], ◌∷◌}
-use Rattle.std.proofs.Math.Option.{Option, none, some}
+use Rattle.std.specs.Prelude.{ℕ, ◌^◌, ◌-◌, ◌≡◌, refl, false, List, [], ◌∷◌, Option, Some, None}
 use Rattle.rules.specs.Holds.{Port, port, First, Plugin, Registry, Phase, Idle, Unissued, opened, free_places, lookup, count, provider, rows_in_use}
 use Rattle.rules.specs.Outcomes.{Answer, Refused, Accepted, after, lent_after, checked, found, handing_back}
 use Rattle.rules.specs.Ports.{bad_realms, resolve, realm_list, bad_edition, resolve_key}
@@ -58,30 +57,30 @@ E1-realms = 2 ∷ 5 ∷ 9 ∷ 1 ∷ []
 -- a parent (1) with dependencies (2,0), (3,0), and its child
 abbrev pub E2-plugins : List Op
 E2-plugins =
-    registers none (port 100 0) [] (2 ∷ 3 ∷ []) []
-    ∷ registers (some 1) (port 101 0) E1-realms (9 ∷ []) (3 ∷ [])
+    registers None (port 100 0) [] (2 ∷ 3 ∷ []) []
+    ∷ registers (Some 1) (port 101 0) E1-realms (9 ∷ []) (3 ∷ [])
     ∷ []
 
 -- a parent (1) with dependency (2,5), and its child
 abbrev pub E3-plugins : List Op
 E3-plugins =
-    registers none (port 100 0) (2 ∷ 5 ∷ []) (2 ∷ []) []
-    ∷ registers (some 1) (port 101 0) E1-realms (2 ∷ []) []
+    registers None (port 100 0) (2 ∷ 5 ∷ []) (2 ∷ []) []
+    ∷ registers (Some 1) (port 101 0) E1-realms (2 ∷ []) []
     ∷ []
 
 -- a parent (1) with dependency (4,0), its child with that anchor and these dependency keys, and a grandchild
 abbrev pub E4-plugins : List ℕ → List Op
 E4-plugins keys =
-    registers none (port 100 0) [] (4 ∷ []) []
-    ∷ registers (some 1) (port 4 0) [] keys []
-    ∷ registers (some 2) (port 101 0) [] [] []
+    registers None (port 100 0) [] (4 ∷ []) []
+    ∷ registers (Some 1) (port 4 0) [] keys []
+    ∷ registers (Some 2) (port 101 0) [] [] []
     ∷ []
 
 -- the same parent, and a child with anchor (4,6), which its key 4 resolves to
 abbrev pub E4-again_plugins : List Op
 E4-again_plugins =
-    registers none (port 100 0) [] (4 ∷ []) []
-    ∷ registers (some 1) (port 4 6) (4 ∷ 6 ∷ []) [] []
+    registers None (port 100 0) [] (4 ∷ []) []
+    ∷ registers (Some 1) (port 4 6) (4 ∷ 6 ∷ []) [] []
     ∷ []
 
 -- how many dependencies the child and the grandchild have, and the answers to their begin
@@ -93,16 +92,16 @@ E4-answers keys =
 -- a grandparent (1) with (2,0), a parent (2) that so gets (2,0), (2,7), and its child
 abbrev pub E5-plugins : List Op
 E5-plugins =
-    registers none (port 100 0) [] (2 ∷ []) []
-    ∷ registers (some 1) (port 101 0) (2 ∷ 7 ∷ []) [] []
-    ∷ registers (some 2) (port 102 0) (2 ∷ 5 ∷ []) [] []
+    registers None (port 100 0) [] (2 ∷ []) []
+    ∷ registers (Some 1) (port 101 0) (2 ∷ 7 ∷ []) [] []
+    ∷ registers (Some 2) (port 102 0) (2 ∷ 5 ∷ []) [] []
     ∷ []
 
 -- an Idle plugin of id 1, with this revision, generation and dependencies
 abbrev pub worn : ℕ → ℕ → List Port → Phase → Plugin
 worn revision generation dependencies phase = record {
   id = 1;
-  parent = none;
+  parent = None;
   anchor = port 100 0;
   realms = record { edition = First; rows = [] };
   dependencies = dependencies;
@@ -116,14 +115,14 @@ worn revision generation dependencies phase = record {
 }
 
 abbrev pub holding : Plugin → Registry
-holding p = record { domain = 7; first = 1; next = 2; places = some p ∷ free_places 31 }
+holding p = record { domain = 7; first = 1; next = 2; places = Some p ∷ free_places 31 }
 
 abbrev pub E6-registry : Registry
 E6-registry = holding (worn (2 ^ 64 - 4) 0 [] Idle)
 
 -- no parent, no dependency or provision keys
 abbrev pub plain : Op
-plain = registers none (port 100 0) [] [] []
+plain = registers None (port 100 0) [] [] []
 
 -- a Setup ticket of domain 7, and an invocation
 abbrev pub ticket : ℕ → ℕ → Ticket
@@ -155,7 +154,7 @@ pub record Examples : Type 0 where
       : answers_to (plain ∷ Write (Listed Dependencies 1 0) [] ∷ Ask (AskRegistry RowsInUse) ∷ [])
       ≡ Accepted (1 ∷ []) ∷ Accepted (0 ∷ []) ∷ Accepted (1 ∷ []) ∷ []
   pub E8
-      : answers_to (registers none (port 100 0) (2 ∷ 5 ∷ 2 ∷ 1 ∷ []) [] [] ∷ registers none (port 100 0) (9 ∷ 1 ∷ 2 ∷ 5 ∷ []) [] [] ∷ [])
+      : answers_to (registers None (port 100 0) (2 ∷ 5 ∷ 2 ∷ 1 ∷ []) [] [] ∷ registers None (port 100 0) (9 ∷ 1 ∷ 2 ∷ 5 ∷ []) [] [] ∷ [])
       ≡ Refused 4 [] ∷ Refused 4 [] ∷ []
   pub E9
       : answers_to (plain ∷ Begin 1 ∷ Admit (ticket 1 1) 24 ∷ Replace 1 40 ∷ Call (invocation 1 1 0 24) ∷ [])

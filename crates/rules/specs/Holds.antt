@@ -1,6 +1,5 @@
 -- Document 01, "What the registry holds".
-use Rattle.std.specs.Prelude.{ℕ, zero, suc, ◌+◌, Bool, true, false, ◌&&◌, ◌||◌, List, [], ◌∷◌, map, eqb, length}
-use Rattle.std.proofs.Math.Option.{Option, none, some}
+use Rattle.std.specs.Prelude.{ℕ, zero, suc, ◌+◌, Bool, true, false, ◌&&◌, ◌||◌, List, [], ◌∷◌, map, eqb, length, Option, Some, None}
 pub use Rattle.rules_types.specs.declared.Port.{Port}
 pub use Rattle.rules_types.specs.declared.Phase.{Phase}
 pub use Rattle.rules_types.specs.declared.Phase.TheVariants.{Idle, Loading, Active, Unloading}
@@ -94,7 +93,7 @@ pub record Registry : Type 0 where
 
 abbrev pub free_places : ℕ → Places
 free_places zero = []
-free_places (suc n) = none ∷ free_places n
+free_places (suc n) = None ∷ free_places n
 
 -- Open: domain, first id and next id are all from its opening (next = first).
 abbrev pub opened : ℕ → ℕ → Registry
@@ -103,8 +102,8 @@ opened d f = record { domain = d; first = f; next = f; places = free_places max_
 -- The registered plugins, in the order of their places.
 abbrev pub held : Places → List Plugin
 held [] = []
-held (none ∷ ps) = held ps
-held (some p ∷ ps) = p ∷ held ps
+held (None ∷ ps) = held ps
+held (Some p ∷ ps) = p ∷ held ps
 
 abbrev pub plugins : Registry → List Plugin
 plugins r = held r.places

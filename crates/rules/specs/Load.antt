@@ -1,6 +1,5 @@
 -- Document 02 [4]: "Read the text back."
-use Rattle.std.specs.Prelude.{ℕ, zero, suc, not, List, [], ◌∷◌, map, eqb}
-use Rattle.std.proofs.Math.Option.{Option, none, some}
+use Rattle.std.specs.Prelude.{ℕ, zero, suc, not, List, [], ◌∷◌, map, eqb, Option, Some, None}
 use Rattle.rules.specs.Basics.{pick}
 use Rattle.rules.specs.Limits.{max_plugins}
 use Rattle.rules.specs.Holds.{Plugin, Places, Registry, with_root, Root, Unissued, Queued, Spent}
@@ -25,8 +24,8 @@ moved_to d s = record { domain = d; first = s.first; next = s.next; plugins = ma
 -- "plugins taking places from the lowest by rising id."
 abbrev pub placed : ℕ → List Plugin → Places
 placed zero ps = []
-placed (suc n) [] = none ∷ placed n []
-placed (suc n) (p ∷ ps) = some p ∷ placed n ps
+placed (suc n) [] = None ∷ placed n []
+placed (suc n) (p ∷ ps) = Some p ∷ placed n ps
 
 abbrev pub in_places : Said → Registry
 in_places s = record { domain = s.domain; first = s.first; next = s.next; places = placed max_plugins s.plugins }
@@ -41,8 +40,8 @@ pub data Opening : Type 0 where
 
 -- 24, before 25
 abbrev pub opening : ℕ → Option Said → Opening
-opening d none = refused BadText
-opening d (some s) = pick (not (loadable s)) (refused BadText) (pick (eqb s.domain d) (refused SameDomain) (opens (loaded d s)))
+opening d None = refused BadText
+opening d (Some s) = pick (not (loadable s)) (refused BadText) (pick (eqb s.domain d) (refused SameDomain) (opens (loaded d s)))
 
 unfoldable pub load : ℕ → (text : List ℕ) → Opening
 load d text = opening d (read_text text)

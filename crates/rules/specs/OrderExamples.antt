@@ -1,6 +1,5 @@
 -- Document 02 [6]'s orders, computed: what passes, what is planned, and what the planner leaves in the buffer.
-use Rattle.std.specs.Prelude.{ℕ, ◌+◌, ◌≡◌, refl, true, false, List, [], ◌∷◌, map}
-use Rattle.std.proofs.Math.Option.{none, some}
+use Rattle.std.specs.Prelude.{ℕ, ◌+◌, ◌≡◌, refl, true, false, List, [], ◌∷◌, map, Some, None}
 use Rattle.rules.specs.Holds.{port, First, Plugin, Registry, Phase, Idle, Loading, Active, Unissued, lookup, provider}
 use Rattle.rules.specs.Registration.{unoffered}
 use Rattle.rules.specs.Outcomes.{Refused, Accepted, checked, answer_of, lent_after}
@@ -10,7 +9,7 @@ use Rattle.rules.specs.Orders.{supplied, passes, plan_behind, plan, lower_first,
 abbrev driver : ℕ → Phase → List ℕ → List ℕ → Plugin
 driver id phase needs gives = record {
   id = id;
-  parent = none;
+  parent = None;
   anchor = port (1000 + id) 0;
   realms = record { edition = First; rows = [] };
   dependencies = map (λ k. port k 0) needs;
@@ -30,7 +29,7 @@ night = record {
   domain = 7;
   first = 0;
   next = 100;
-  places = map (λ (p : Plugin). some p)
+  places = map (λ (p : Plugin). Some p)
       (driver 10 Idle [] (11 ∷ [])
       ∷ driver 5 Idle (11 ∷ []) []
       ∷ driver 3 Active [] (31 ∷ [])
@@ -51,14 +50,14 @@ buffer = 1 ∷ 2 ∷ 3 ∷ []
 
 pub record Orders : Type 0 where
   -- at each place the lowest that can come, whatever the set's own order
-  pub lowest_first : plan night three ≡ some (7 ∷ 10 ∷ 5 ∷ [])
-  pub set_shuffled : plan night (10 ∷ 5 ∷ 7 ∷ []) ≡ some (7 ∷ 10 ∷ 5 ∷ [])
-  pub empty : plan night [] ≡ some []
+  pub lowest_first : plan night three ≡ Some (7 ∷ 10 ∷ 5 ∷ [])
+  pub set_shuffled : plan night (10 ∷ 5 ∷ 7 ∷ []) ≡ Some (7 ∷ 10 ∷ 5 ∷ [])
+  pub empty : plan night [] ≡ Some []
   -- no provider in the set, one that is Loading, a circle, the own anchor
-  pub provider_left_out : plan night (5 ∷ 7 ∷ []) ≡ none
-  pub provider_loading : plan night (7 ∷ 9 ∷ []) ≡ none
-  pub circle : plan night (20 ∷ 21 ∷ []) ≡ none
-  pub own_anchor : plan night (30 ∷ []) ≡ none
+  pub provider_left_out : plan night (5 ∷ 7 ∷ []) ≡ None
+  pub provider_loading : plan night (7 ∷ 9 ∷ []) ≡ None
+  pub circle : plan night (20 ∷ 21 ∷ []) ≡ None
+  pub own_anchor : plan night (30 ∷ []) ≡ None
   -- what passes, and which is the lower of two
   pub planned : passes night three (7 ∷ 10 ∷ 5 ∷ []) ≡ true
   pub another : passes night three (10 ∷ 5 ∷ 7 ∷ []) ≡ true

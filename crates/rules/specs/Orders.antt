@@ -1,6 +1,5 @@
 -- Document 02 [6]: a start order for a pier, planned and checked. Neither changes the registry.
-use Rattle.std.specs.Prelude.{ℕ, zero, suc, Bool, true, false, not, ◌&&◌, ◌||◌, List, [], ◌∷◌, ◌++◌, eqb, ltb, length}
-use Rattle.std.proofs.Math.Option.{Option, none, some}
+use Rattle.std.specs.Prelude.{ℕ, zero, suc, Bool, true, false, not, ◌&&◌, ◌||◌, List, [], ◌∷◌, ◌++◌, eqb, ltb, length, Option, Some, None}
 use Rattle.rules.specs.Basics.{pick, any, all, is_none, holds, twice, yes_no, last}
 use Rattle.rules.specs.Holds.{Port, Plugin, Registry, lookup, provider, is_idle, is_active}
 use Rattle.rules.specs.Refusals.{Repeated, Unknown, Retired, InvalidState, Exhausted, ShortBuffer}
@@ -51,19 +50,19 @@ passes r set order = each_once set order && each_supplied r [] order
 -- "the passing order that has the lowest id at the first place where two differ": at each place the lowest id that can come next, and
 -- none where none can. That it is this order, and none exactly if no order passes, is proved (crates/rules_orders: Planned).
 abbrev pub lowest : (ℕ → Bool) → List ℕ → Option ℕ
-lowest f [] = none
+lowest f [] = None
 lowest f (x ∷ ids) = pick (f x) (lower x (lowest f ids)) (lowest f ids)
 
 abbrev pub can_come : Registry → (before : List ℕ) → ℕ → Bool
 can_come r before x = not (named x before) && supplied r before x
 
 abbrev pub and_then : Option ℕ → (ℕ → Option (List ℕ)) → Option (List ℕ)
-and_then none f = none
-and_then (some x) f = f x
+and_then None f = None
+and_then (Some x) f = f x
 
 -- so many more places
 unfoldable pub plan_behind : Registry → (set : List ℕ) → ℕ → (before : List ℕ) → Option (List ℕ)
-plan_behind r set zero before = some before
+plan_behind r set zero before = Some before
 plan_behind r set (suc n) before = and_then (lowest (can_come r before) set) (λ x. plan_behind r set n (before ++ x ∷ []))
 
 abbrev pub plan : Registry → (set : List ℕ) → Option (List ℕ)
@@ -80,8 +79,8 @@ unfoldable pub check_order : Registry → (set order : List ℕ) → Outcome
 check_order r set order = checked (set_checks r set) (answers (yes_no (passes r set order) ∷ []))
 
 abbrev pub planned : Option (List ℕ) → Outcome
-planned none = answers []
-planned (some order) = writes 0 order (length order ∷ [])
+planned None = answers []
+planned (Some order) = writes 0 order (length order ∷ [])
 
 -- The planner: the set's refusals, then 23 for too few places; else the order to the front of the buffer, with its length for an
 -- answer, or none.

@@ -1,6 +1,5 @@
 -- Document 01, "Refusal numbers": what an operation comes to. A refusal answers its number and changes nothing.
-use Rattle.std.specs.Prelude.{ℕ, ◌+◌, ◌≡◌, Bool, List, [], ◌∷◌, ◌++◌, map, eqb, length, take, drop}
-use Rattle.std.proofs.Math.Option.{Option, none, some}
+use Rattle.std.specs.Prelude.{ℕ, ◌+◌, ◌≡◌, Bool, List, [], ◌∷◌, ◌++◌, map, eqb, length, take, drop, Option, Some, None}
 use Rattle.rules.specs.Basics.{pick}
 use Rattle.rules.specs.Holds.{Plugin, Places, Registry, lookup}
 use Rattle.rules.specs.Refusals.{Refusal, number, Unknown}
@@ -55,8 +54,8 @@ first_number (c ∷ cs) = pick c.test (number c.refusal) (first_number cs)
 
 -- The id is looked up once; 1 if it names no registered plugin.
 unfoldable pub found : Option Plugin → (Plugin → Outcome) → Outcome
-found none f = refuses Unknown []
-found (some p) f = f p
+found None f = refuses Unknown []
+found (Some p) f = f p
 
 abbrev pub known : Registry → ℕ → (Plugin → Outcome) → Outcome
 known r id f = found (lookup r id) f
@@ -88,17 +87,17 @@ answer_of o = numbered (reply_of o)
 
 -- The registry afterwards.
 abbrev pub stored_at : Plugin → Option Plugin → Option Plugin
-stored_at p none = none
-stored_at p (some q) = some (pick (eqb q.id p.id) p q)
+stored_at p None = None
+stored_at p (Some q) = Some (pick (eqb q.id p.id) p q)
 
 abbrev pub freed_at : ℕ → Option Plugin → Option Plugin
-freed_at id none = none
-freed_at id (some q) = pick (eqb q.id id) none (some q)
+freed_at id None = None
+freed_at id (Some q) = pick (eqb q.id id) None (Some q)
 
 abbrev pub at_lowest_free : Plugin → Places → Places
 at_lowest_free p [] = []
-at_lowest_free p (none ∷ ps) = some p ∷ ps
-at_lowest_free p (some q ∷ ps) = some q ∷ at_lowest_free p ps
+at_lowest_free p (None ∷ ps) = Some p ∷ ps
+at_lowest_free p (Some q ∷ ps) = Some q ∷ at_lowest_free p ps
 
 abbrev pub with_places : Registry → ℕ → Places → Registry
 with_places r n ps = record { domain = r.domain; first = r.first; next = n; places = ps }

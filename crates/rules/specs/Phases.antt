@@ -1,6 +1,5 @@
 -- Document 01, "Phases".
-use Rattle.std.specs.Prelude.{ℕ, ◌+◌, Bool, true, false, not, ◌&&◌, List, [], ◌∷◌, map, eqb, get_or}
-use Rattle.std.proofs.Math.Option.{Option, none, some}
+use Rattle.std.specs.Prelude.{ℕ, ◌+◌, Bool, true, false, not, ◌&&◌, List, [], ◌∷◌, map, eqb, get_or, Option, Some, None}
 use Rattle.rules.specs.Basics.{any, all, is_none, holds, or_else, last}
 use Rattle.rules.specs.Holds.{Port, Provision, Plugin, Registry, plugins, provider, provides, running}
 use Rattle.rules.specs.Holds.{Phase, Idle, Loading, Active, Unloading, is_active, Root, Unissued, Queued, Spent}
@@ -21,13 +20,13 @@ column Finish = 4
 -- This table of phases and steps is the whole rule; an empty cell is refusal 3.
 abbrev pub row : Phase → List (Option Phase)
 -- begin ∷ ready ∷ fail ∷ unload ∷ finish
-row Idle = some Loading ∷ none ∷ none ∷ none ∷ none ∷ []
-row Loading = none ∷ some Active ∷ some Unloading ∷ none ∷ none ∷ []
-row Active = none ∷ none ∷ none ∷ some Unloading ∷ none ∷ []
-row Unloading = none ∷ none ∷ none ∷ none ∷ some Idle ∷ []
+row Idle = Some Loading ∷ None ∷ None ∷ None ∷ None ∷ []
+row Loading = None ∷ Some Active ∷ Some Unloading ∷ None ∷ None ∷ []
+row Active = None ∷ None ∷ None ∷ Some Unloading ∷ None ∷ []
+row Unloading = None ∷ None ∷ None ∷ None ∷ Some Idle ∷ []
 
 abbrev pub cell : Phase → Step → Option Phase
-cell ph s = get_or (row ph) (column s) none
+cell ph s = get_or (row ph) (column s) None
 
 -- the cell is empty
 abbrev pub stuck : Step → Plugin → Bool
@@ -85,7 +84,7 @@ unfoldable pub unload : Registry → ℕ → Outcome
 unload r id = known r id λ p. checked ((stuck Unload p ⇒ InvalidState) ∷ (in_use r p ⇒ InUse) ∷ []) (stores (moved Unload p) [])
 
 abbrev pub dropped : Provision → Provision
-dropped v = record { port = v.port; value = none }
+dropped v = record { port = v.port; value = None }
 
 -- Finish: 1, phase; values are dropped and root is Unissued.
 unfoldable pub finish : Registry → ℕ → Outcome

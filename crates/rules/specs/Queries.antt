@@ -1,6 +1,5 @@
 -- What can be asked of a plugin and of the registry. R's getters are queries by id, answering 1 if it isn't registered.
-use Rattle.std.specs.Prelude.{ℕ, List, [], ◌∷◌, ltb, leb}
-use Rattle.std.proofs.Math.Option.{Option, none, some}
+use Rattle.std.specs.Prelude.{ℕ, List, [], ◌∷◌, ltb, leb, Option, Some, None}
 pub use Rattle.rules_types.specs.Kinds.{phase_number}
 use Rattle.rules.specs.Basics.{pick, yes_no, one}
 use Rattle.rules.specs.Holds.{Plugin, Registry, plugins, count, rows_in_use}
@@ -47,11 +46,11 @@ ask_registry r t = answers (total_of t r ∷ [])
 
 -- the lowest id at or above a number, or none
 abbrev pub lower : ℕ → Option ℕ → Option ℕ
-lower x none = some x
-lower x (some y) = some (pick (ltb x y) x y)
+lower x None = Some x
+lower x (Some y) = Some (pick (ltb x y) x y)
 
 abbrev pub lowest_from : ℕ → List Plugin → Option ℕ
-lowest_from n [] = none
+lowest_from n [] = None
 lowest_from n (p ∷ ps) = pick (leb n p.id) (lower p.id (lowest_from n ps)) (lowest_from n ps)
 
 -- The lowest registered id from a number on: asked from 0 and then from the id after, it goes through the plugins by rising id.

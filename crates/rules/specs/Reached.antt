@@ -6,8 +6,7 @@ pub mod Transcripts
 pub mod Registrations
 pub mod Lives
 pub mod Orders
-use Rattle.std.specs.Prelude.{ℕ, ◌+◌, ◌^◌, ◌-◌, ◌≡◌, refl, Bool, true, false, ◌&&◌, List, [], ◌∷◌, ◌++◌, eqb}
-use Rattle.std.proofs.Math.Option.{some}
+use Rattle.std.specs.Prelude.{ℕ, ◌+◌, ◌^◌, ◌-◌, ◌≡◌, refl, Bool, true, false, ◌&&◌, List, [], ◌∷◌, ◌++◌, eqb, Some}
 use Rattle.rules.specs.Basics.{any, all}
 use Rattle.rules.specs.Holds.{port, Phase, Idle, Loading, Registry, free_places, opened, lookup, count, provider, rows_in_use}
 use Rattle.rules.specs.Outcomes.{Answer, Refused, Accepted, after, lent_after, checked, found, handing_back}
@@ -75,7 +74,7 @@ abbrev pub worn_out : Phase → Registry
 worn_out phase = holding (worn (2 ^ 64 - 1) (2 ^ 64 - 1) (port 5 0 ∷ port 100 0 ∷ []) phase)
 
 abbrev pub smuggled : Registry
-smuggled = record { domain = 7; first = 2; next = 2; places = some (worn 0 0 [] Idle) ∷ free_places 31 }
+smuggled = record { domain = 7; first = 2; next = 2; places = Some (worn 0 0 [] Idle) ∷ free_places 31 }
 
 pub record Reached : Type 0 where
   pub registrations : Holds fresh registrations

@@ -1,6 +1,5 @@
 -- Document 01, "Registration".
-use Rattle.std.specs.Prelude.{ℕ, ◌+◌, Bool, false, ◌&&◌, ◌||◌, List, [], ◌∷◌, ◌++◌, map, eqb, ltb, leb, length}
-use Rattle.std.proofs.Math.Option.{Option, none, some}
+use Rattle.std.specs.Prelude.{ℕ, ◌+◌, Bool, false, ◌&&◌, ◌||◌, List, [], ◌∷◌, ◌++◌, map, eqb, ltb, leb, length, Option, Some, None}
 use Rattle.rules.specs.Basics.{any, is_some, is_none, holds, last}
 use Rattle.rules.specs.Holds.{Port, Provision, Plugin, Registry, lookup, provider, count, rows_in_use, rows_of, is_in, never_begun}
 use Rattle.rules.specs.Holds.{Idle, is_unloading, Unissued}
@@ -21,12 +20,12 @@ pub record Definition : Type 0 where
   pub payload : ℕ
 
 abbrev pub parent_of : Registry → Option ℕ → Option Plugin
-parent_of r none = none
-parent_of r (some id) = lookup r id
+parent_of r None = None
+parent_of r (Some id) = lookup r id
 
 abbrev pub inherited_from : Option Plugin → List Port
-inherited_from none = []
-inherited_from (some p) = p.dependencies
+inherited_from None = []
+inherited_from (Some p) = p.dependencies
 
 -- the ports of declared keys
 abbrev pub resolved : Definition → List ℕ → List Port
@@ -49,7 +48,7 @@ unfoldable pub dependencies_of : Registry → Definition → List Port
 dependencies_of r d = dependencies_under (inherited_from (parent_of r d.parent)) d
 
 abbrev pub unoffered : Port → Provision
-unoffered q = record { port = q; value = none }
+unoffered q = record { port = q; value = None }
 
 -- No values, phase Idle, generation 0, revision 0, root Unissued, not retired.
 unfoldable pub new_plugin : Registry → Definition → Plugin

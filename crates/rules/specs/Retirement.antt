@@ -1,6 +1,5 @@
 -- Document 01, "Retirement".
-use Rattle.std.specs.Prelude.{ℕ, ◌≡◌, Bool, true, false, not, ◌&&◌, ◌||◌, List, [], ◌∷◌, eqb, ltb, leb}
-use Rattle.std.proofs.Math.Option.{Option, none, some}
+use Rattle.std.specs.Prelude.{ℕ, ◌≡◌, Bool, true, false, not, ◌&&◌, ◌||◌, List, [], ◌∷◌, eqb, ltb, leb, Option, Some, None}
 use Rattle.rules.specs.Basics.{any, holds}
 use Rattle.rules.specs.Holds.{Plugin, Registry, lookup, plugins, is_idle, with_retired}
 use Rattle.rules.specs.Refusals.{Unknown, Retired, InvalidState, HasChildren}
@@ -15,7 +14,7 @@ unfolding checked
 passed mark u h = rw h
 
 -- A registered plugin that is not retired retires.
-pub retires : (r : Registry) (id : ℕ) (p : Plugin) → lookup r id ≡ some p → p.retired ≡ false → retire r id ≡ stores (with_retired true p) []
+pub retires : (r : Registry) (id : ℕ) (p : Plugin) → lookup r id ≡ Some p → p.retired ≡ false → retire r id ≡ stores (with_retired true p) []
 unfolding retire found
 retires r id p e h = rw e (passed p.retired _ h)
 
@@ -30,8 +29,8 @@ is_child_of parent p = holds (eqb parent) p.parent
 
 -- Not registered: accepted, nothing changes; parent differs or none: 3; then 2; else the mark.
 abbrev pub retire_found : ℕ → Option Plugin → Outcome
-retire_found parent none = answers []
-retire_found parent (some p) =
+retire_found parent None = answers []
+retire_found parent (Some p) =
     checked ((not (is_child_of parent p) ⇒ InvalidState) ∷ (p.retired ⇒ Retired) ∷ []) (stores (with_retired true p) [])
 
 -- By child identity: domain 3; id below first id or not below next id: 1.
@@ -44,8 +43,8 @@ retire_child r c =
     (retire_found c.parent (lookup r c.id))
 
 abbrev pub identity : ℕ → ℕ → Option ℕ → List ℕ
-identity d id none = []
-identity d id (some parent) = d ∷ parent ∷ id ∷ []
+identity d id None = []
+identity d id (Some parent) = d ∷ parent ∷ id ∷ []
 
 -- Asking a plugin's child identity: 1, else the identity, or none without a parent.
 unfoldable pub child_identity : Registry → ℕ → Outcome

@@ -1,6 +1,5 @@
 -- Document 01, "Child slot": a plain value that goes in and comes back. No registry holds it.
-use Rattle.std.specs.Prelude.{ℕ, ◌≡◌, Bool, true, false, ◌&&◌, [], eqb}
-use Rattle.std.proofs.Math.Option.{Option, none, some}
+use Rattle.std.specs.Prelude.{ℕ, ◌≡◌, Bool, true, false, ◌&&◌, [], eqb, Option, Some, None}
 use Rattle.rules.specs.Basics.{pick}
 use Rattle.rules.specs.Refusals.{number, InvalidState}
 use Rattle.rules.specs.Outcomes.{Answer, Refused, Accepted}
@@ -21,11 +20,11 @@ pub record Slot : Type 0 where
 
 -- Made Pending from a domain, parent and generation.
 abbrev pub pending : ℕ → ℕ → ℕ → Slot
-pending d p g = record { domain = d; parent = p; generation = some g; decision = Pending }
+pending d p g = record { domain = d; parent = p; generation = Some g; decision = Pending }
 
 -- Made Assigned from an identity, with that identity's domain and parent and no generation.
 abbrev pub assigned : Identity → Slot
-assigned c = record { domain = c.domain; parent = c.parent; generation = none; decision = Assigned c }
+assigned c = record { domain = c.domain; parent = c.parent; generation = None; decision = Assigned c }
 
 abbrev pub is_pending : Decision → Bool
 is_pending Pending = true

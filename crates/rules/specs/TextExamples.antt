@@ -1,7 +1,6 @@
 -- Document 02 [1]'s example and others of its kind: registries that operations build, their texts, and what is no text, each computed.
-use Rattle.std.specs.Prelude.{ℕ, ◌^◌, ◌-◌, ◌≡◌, List, [], ◌∷◌, eqb}
+use Rattle.std.specs.Prelude.{ℕ, ◌^◌, ◌-◌, ◌≡◌, List, [], ◌∷◌, eqb, Some, None}
 use Prim.Native.String.{String}
-use Rattle.std.proofs.Math.Option.{none, some}
 use Rattle.rules.specs.Basics.{pick}
 use Rattle.rules.specs.Holds.{port, Registry, opened}
 use Rattle.rules.specs.Steps.{Op, Begin, Ready, Admit, Call, Retire, Remove, Offer, run}
@@ -23,7 +22,7 @@ built first ops = (run (opened 7 first) ops).registry
 
 -- no parent, realms 2→5, no dependencies, provision key 2, anchor (9,0), payload 40
 abbrev pub provides : Op
-provides = registers none (port 9 0) (2 ∷ 5 ∷ []) [] (2 ∷ [])
+provides = registers None (port 9 0) (2 ∷ 5 ∷ []) [] (2 ∷ [])
 
 abbrev pub example : Registry
 example = built 0 (provides ∷ [])
@@ -32,11 +31,11 @@ example = built 0 (provides ∷ [])
 abbrev pub family : Registry
 family =
     built 1
-    (registers none (port 100 0) [] [] []
-    ∷ registers none (port 101 0) [] (2 ∷ 3 ∷ []) []
+    (registers None (port 100 0) [] [] []
+    ∷ registers None (port 101 0) [] (2 ∷ 3 ∷ []) []
     ∷ Retire 1
     ∷ Remove 1
-    ∷ registers (some 2) (port 102 0) (2 ∷ 5 ∷ 9 ∷ 1 ∷ []) (9 ∷ []) (3 ∷ [])
+    ∷ registers (Some 2) (port 102 0) (2 ∷ 5 ∷ 9 ∷ 1 ∷ []) (9 ∷ []) (3 ∷ [])
     ∷ [])
 
 abbrev pub queued : Registry
@@ -47,7 +46,7 @@ abbrev pub served : Registry
 served = built 1 (provides ∷ Begin 1 ∷ Admit (ticket 1 1) 24 ∷ Call (invocation 1 1 0 24) ∷ Offer 1 (port 2 5) 77 ∷ Ready 1 ∷ Retire 1 ∷ [])
 
 abbrev pub last_id : Registry
-last_id = built (2 ^ 64 - 2) (registers none (port 0 (2 ^ 64 - 1)) [] [] [] ∷ [])
+last_id = built (2 ^ 64 - 2) (registers None (port 0 (2 ^ 64 - 1)) [] [] [] ∷ [])
 
 abbrev pub example_text : String
 example_text =
@@ -58,7 +57,7 @@ last_id_text = "domain=7 first=18446744073709551614 next=18446744073709551615 pl
 
 pub record Texts : Type 0 where
   pub example_text_lem : text_of example ≡ shown example_text
-  pub example_back : read_text (shown example_text) ≡ some (said example)
+  pub example_back : read_text (shown example_text) ≡ Some (said example)
   pub empty : text_of (built 0 []) ≡ shown "domain=7 first=0 next=0 plugins=0"
   pub by_rising_id
       : text_of family
@@ -71,9 +70,9 @@ pub record Texts : Type 0 where
       ≡ shown "domain=7 first=1 next=2 plugins=1 id=1 parent=none phase=2 retired=1 generation=1 revision=0 payload=40 root=2 queued=none anchor=9,0 edition=1 default=0 realms=1 realm=2,5 deps=0 provs=1 prov=2,5,77"
   pub last_id_lem : text_of last_id ≡ shown last_id_text
   -- no texts: a leading zero, 2^64, a count too high or too low, a line that does not end or is not there
-  pub leading_zero : read_text (shown "domain=07 first=0 next=0 plugins=0") ≡ none
-  pub too_high : read_text (shown "domain=18446744073709551616 first=0 next=0 plugins=0") ≡ none
-  pub one_too_few : read_text (shown "domain=7 first=0 next=0 plugins=1") ≡ none
-  pub one_too_many : read_text (shown "domain=7 first=0 next=0 plugins=0 id=0") ≡ none
-  pub unended : read_text (bytes "domain=7\nfirst=0\nnext=0\nplugins=0") ≡ none
-  pub nothing : read_text [] ≡ none
+  pub leading_zero : read_text (shown "domain=07 first=0 next=0 plugins=0") ≡ None
+  pub too_high : read_text (shown "domain=18446744073709551616 first=0 next=0 plugins=0") ≡ None
+  pub one_too_few : read_text (shown "domain=7 first=0 next=0 plugins=1") ≡ None
+  pub one_too_many : read_text (shown "domain=7 first=0 next=0 plugins=0 id=0") ≡ None
+  pub unended : read_text (bytes "domain=7\nfirst=0\nnext=0\nplugins=0") ≡ None
+  pub nothing : read_text [] ≡ None

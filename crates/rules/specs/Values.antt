@@ -1,6 +1,5 @@
 -- Document 01, "Values".
-use Rattle.std.specs.Prelude.{ℕ, Bool, true, false, not, ◌&&◌, ◌||◌, List, [], ◌∷◌, map}
-use Rattle.std.proofs.Math.Option.{Option, none, some}
+use Rattle.std.specs.Prelude.{ℕ, Bool, true, false, not, ◌&&◌, ◌||◌, List, [], ◌∷◌, map, Option, Some, None}
 use Rattle.rules.specs.Basics.{pick, is_some, is_none, yes_no, one}
 use Rattle.rules.specs.Holds.{Port, Provision, Plugin, Registry, provider, provided, same_port, is_in, is_loading, is_active, running, with_provisions}
 use Rattle.rules.specs.Refusals.{Closed, Undeclared, Duplicate, Missing}
@@ -9,11 +8,11 @@ use Rattle.rules.specs.Ports.{pairs, odd_length, flat, same_ports}
 
 -- the value of a port among provisions, or none
 abbrev pub value_in : Port → List Provision → Option ℕ
-value_in q [] = none
+value_in q [] = None
 value_in q (v ∷ vs) = pick (same_port q v.port) v.value (value_in q vs)
 
 abbrev pub offered : Port → ℕ → Provision → Provision
-offered q n v = record { port = v.port; value = pick (same_port q v.port) (some n) v.value }
+offered q n v = record { port = v.port; value = pick (same_port q v.port) (Some n) v.value }
 
 -- Offer (id, port, value): 1, 19 unless Loading and not retired, 20 if not in provisions, 21.
 unfoldable pub offer : Registry → ℕ → Port → ℕ → Outcome
@@ -27,12 +26,12 @@ offer r id q n = known r id λ p.
 
 -- value and provider id
 abbrev pub given : Plugin → Option ℕ → List ℕ
-given p none = []
-given p (some n) = n ∷ p.id ∷ []
+given p None = []
+given p (Some n) = n ∷ p.id ∷ []
 
 abbrev pub served : Port → Option Plugin → List ℕ
-served q none = []
-served q (some p) = given p (value_in q p.provisions)
+served q None = []
+served q (Some p) = given p (value_in q p.provisions)
 
 abbrev pub is_empty : List ℕ → Bool
 is_empty [] = true
@@ -50,8 +49,8 @@ read r id q = known r id λ p.
 
 -- the Active provider's value, or none
 abbrev pub seen : Port → Option Plugin → List ℕ
-seen q none = []
-seen q (some p) = pick (is_active p.phase) (one (value_in q p.provisions)) []
+seen q None = []
+seen q (Some p) = pick (is_active p.phase) (one (value_in q p.provisions)) []
 
 -- Visible (port).
 unfoldable pub visible : Registry → Port → Outcome

@@ -1,6 +1,5 @@
 -- Tests and lists, as the rules use them. Nothing here is of document 01.
-use Rattle.std.specs.Prelude.{ℕ, ◌+◌, Bool, true, false, ◌&&◌, ◌||◌, List, [], ◌∷◌, eqb}
-use Rattle.std.proofs.Math.Option.{Option, none, some}
+use Rattle.std.specs.Prelude.{ℕ, ◌+◌, Bool, true, false, ◌&&◌, ◌||◌, List, [], ◌∷◌, eqb, Option, Some, None}
 
 abbrev pub pick : {A : Type 0} → Bool → A → A → A
 pick true a b = a
@@ -16,16 +15,16 @@ all f (x ∷ xs) = f x && all f xs
 
 -- the first element that passes
 abbrev pub first : {A : Type 0} → (A → Bool) → List A → Option A
-first f [] = none
-first f (x ∷ xs) = pick (f x) (some x) (first f xs)
+first f [] = None
+first f (x ∷ xs) = pick (f x) (Some x) (first f xs)
 
 abbrev pub is_some : {A : Type 0} → Option A → Bool
-is_some none = false
-is_some (some a) = true
+is_some None = false
+is_some (Some a) = true
 
 abbrev pub is_none : {A : Type 0} → Option A → Bool
-is_none none = true
-is_none (some a) = false
+is_none None = true
+is_none (Some a) = false
 
 infixr 25 ◌⊃◌
 -- if .. then ..
@@ -44,17 +43,17 @@ only f (x ∷ xs) = pick (f x) (x ∷ only f xs) (only f xs)
 
 -- whether there is one, and it passes
 abbrev pub holds : {A : Type 0} → (A → Bool) → Option A → Bool
-holds f none = false
-holds f (some a) = f a
+holds f None = false
+holds f (Some a) = f a
 
 -- none, or one that passes
 abbrev pub or_none : {A : Type 0} → (A → Bool) → Option A → Bool
-or_none f none = true
-or_none f (some a) = f a
+or_none f None = true
+or_none f (Some a) = f a
 
 abbrev pub or_else : {A : Type 0} → Option A → A → A
-or_else none b = b
-or_else (some a) b = a
+or_else None b = b
+or_else (Some a) b = a
 
 abbrev pub same_numbers : List ℕ → List ℕ → Bool
 same_numbers [] [] = true
@@ -78,8 +77,8 @@ yes_no false = 0
 
 -- a number or none, as an answer's numbers
 abbrev pub one : Option ℕ → List ℕ
-one none = []
-one (some n) = n ∷ []
+one None = []
+one (Some n) = n ∷ []
 
 -- 2^64 − 1, the last number
 abbrev pub last : ℕ

@@ -1,9 +1,8 @@
 -- Demand 3, for every sequence of operations from a start; a fresh registry is one.
 pub mod Kept
-use Rattle.std.specs.Prelude.{ℕ, ◌≡◌, refl, true, false, not, List, [], ◌∷◌, ◌++◌, ◌≢◌, eqb}
+use Rattle.std.specs.Prelude.{ℕ, ◌≡◌, refl, true, false, not, List, [], ◌∷◌, ◌++◌, ◌≢◌, eqb, Option, Some, None}
 use Rattle.std.proofs.Common.{arith, sym, ap, ◌∙◌, subst, true≢false, eqb-true}
 use Rattle.std.proofs.Math.Path.{subst⁻¹}
-use Rattle.std.proofs.Math.Option.{Option, none, some}
 use Rattle.std.proofs.lemmas.Bool.{eqb-false, not-true}
 use Rattle.rules.specs.Basics.{all, same_numbers}
 use Rattle.rules_types.specs.declared.Root.TheVariants.{Queued, Spent}
@@ -21,10 +20,10 @@ use Rattle.rules_laws.proofs.Demand3.Kept.{kept}
 use Rattle.rules_laws.specs.Demand3.{Start, fresh_start}
 
 -- The link holds at the start, and so after every sequence.
-start_agrees : (d : ℕ) (t : Invocation) (u : Option Plugin) → ((p : Plugin) → u ≡ some p → (v a : ℕ) → p.root ≢ Queued v a)
+start_agrees : (d : ℕ) (t : Invocation) (u : Option Plugin) → ((p : Plugin) → u ≡ Some p → (v a : ℕ) → p.root ≢ Queued v a)
     → Agrees d t (told_at_start u) u
-start_agrees d t none n = record { once = tt; gone = refl; dead = refl }
-start_agrees d t (some p) n =
+start_agrees d t None n = record { once = tt; gone = refl; dead = refl }
+start_agrees d t (Some p) n =
     let dead = not_callable d p t (λ f. n p refl t.revision t.argument f.queued) in
     by_test p.retired
     (λ y. record {
@@ -91,13 +90,13 @@ once_tail (admitted vs) h o = o
 once_tail (called vs) h o = o
 
 open_live : (t : Invocation) (l m : List Told) → Once (l ++ admitted (five t) ∷ m) → all (λ k. not (ends t k)) l ≡ true
-    → live t (l ++ admitted (five t) ∷ m) ≡ some (stored m)
+    → live t (l ++ admitted (five t) ∷ m) ≡ Some (stored m)
 open_live t [] m o e = rw (same_refl (five t))
 open_live t (k ∷ l) m o e =
     let b = both (not (ends t k)) (all (λ k. not (ends t k)) l) e in
     let o' = once_tail k (l ++ admitted (five t) ∷ m) o in
     by_test (is_admission t k)
-    (λ y. rw y (ap some (stored_quiet t l m o' b.1)))
+    (λ y. rw y (ap Some (stored_quiet t l m o' b.1)))
     (λ n. rw (n, not-true (ends t k) b.0) (open_live t l m o' b.1))
 
 is_admission_lem : (t : Invocation) (k : Told) → is_admission t k ≡ true → k ≡ admitted (five t)
@@ -118,7 +117,7 @@ deeper t k h v m o = record {
   payload = o.payload;
 }
 
-live_open : (t : Invocation) (h : List Told) (v : ℕ) → live t h ≡ some v → Open t h v
+live_open : (t : Invocation) (h : List Told) (v : ℕ) → live t h ≡ Some v → Open t h v
 live_open t [] v e = let z : ◌≡◌ {A = ℕ} 0 1 = cc in absurd (omega arith)
 live_open t (k ∷ h) v e =
     by_test (is_admission t k)
@@ -127,16 +126,16 @@ live_open t (k ∷ h) v e =
       before = h;
       answered = ap (λ k. k ∷ h) (is_admission_lem t k y);
       quiet = refl;
-      payload = let i : some (stored h) ≡ some v = rw y at e in cc;
+      payload = let i : Some (stored h) ≡ Some v = rw y at e in cc;
     })
     (λ n. by_test (ends t k)
-    (λ y. let i : none ≡ some v = rw (n, y) at e in let z : ◌≡◌ {A = ℕ} 0 1 = cc in absurd (omega arith))
+    (λ y. let i : None ≡ Some v = rw (n, y) at e in let z : ◌≡◌ {A = ℕ} 0 1 = cc in absurd (omega arith))
     (λ m. deeper t k h v m (live_open t h v (rw (n, m) at e))))
 
 -- What a call answers, by the story.
 abbrev verdict : ℕ → Invocation → List Told → Option ℕ → Answer
-verdict d t h none = Refused (refusal_for d t h) []
-verdict d t h (some v) = Accepted (receipt t v)
+verdict d t h None = Refused (refusal_for d t h) []
+verdict d t h (Some v) = Accepted (receipt t v)
 
 -- the rule of the call, over the domain and what is found
 abbrev call_rule : ℕ → Option Plugin → Invocation → Outcome
@@ -147,10 +146,10 @@ call_rule d u t =
 
 call_verdict : (d : ℕ) (t : Invocation) (h : List Told) (u : Option Plugin) → Agrees d t h u → answer_of (call_rule d u t) ≡ verdict d t h (live t h)
 unfolding checked found
-call_verdict d t h none a = by_test (eqb t.domain d)
+call_verdict d t h None a = by_test (eqb t.domain d)
     (λ y. rw (a.dead, y, a.gone))
     (λ n. rw (a.dead, n))
-call_verdict d t h (some p) a = by_test (eqb t.domain d)
+call_verdict d t h (Some p) a = by_test (eqb t.domain d)
     (λ y. by_test p.retired
     (λ m. let dead = silent d t h p a (not_callable d p t (λ f. absurd (true≢false (sym m ∙ f.retired)))) in
     rw (dead, y, m, a.there, a.mark ∙ m))
@@ -161,23 +160,23 @@ call_verdict d t h (some p) a = by_test (eqb t.domain d)
     (λ n. let dead = silent d t h p a (not_callable d p t (λ f. eqb-false _ _ n f.domain)) in rw (dead, n))
 
 once_of : (d : ℕ) (t : Invocation) (h : List Told) (u : Option Plugin) → Agrees d t h u → Once h
-once_of d t h none a = a.once
-once_of d t h (some p) a = a.once
+once_of d t h None a = a.once
+once_of d t h (Some p) a = a.once
 
 -- The computed verdict is what is demanded.
 said : (d : ℕ) (t : Invocation) (h : List Told) (a : Answer) → Once h → a ≡ verdict d t h (live t h) → Demand3 d t h a
 said d t h a o e = go (live t h) refl
   where
-    opened_live : (v : ℕ) → Open t h v → live t h ≡ some v
-    opened_live v w = ap (live t) w.answered ∙ open_live t w.since w.before (subst (λ l. Once l) w.answered o) w.quiet ∙ ap some w.payload
+    opened_live : (v : ℕ) → Open t h v → live t h ≡ Some v
+    opened_live v w = ap (live t) w.answered ∙ open_live t w.since w.before (subst (λ l. Once l) w.answered o) w.quiet ∙ ap Some w.payload
 
     go : (u : Option ℕ) → live t h ≡ u → Demand3 d t h a
-    go none i = record {
+    go None i = record {
       accepted = λ v w. let j = opened_live v w in cc;
       exactly = λ vs j. let z : ◌≡◌ {A = ℕ} 0 1 = cc in absurd (omega arith);
       refused = λ n. cc;
     }
-    go (some v) i = record {
+    go (Some v) i = record {
       accepted = λ w q. let j = opened_live w q in cc;
       exactly = λ vs j. (v, live_open t h v i, (cc));
       refused = λ n. absurd (n v (live_open t h v i));

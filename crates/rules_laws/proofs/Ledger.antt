@@ -1,10 +1,9 @@
 -- Rows in use equal the sum, over accepted registrations not yet removed, of dependencies + provisions + 1: over histories, that is
 -- operations, answers, and what the start held.
-use Rattle.std.specs.Prelude.{ℕ, ◌+◌, ◌≤◌, ◌≡◌, refl, true, false, List, [], ◌∷◌, map, eqb}
+use Rattle.std.specs.Prelude.{ℕ, ◌+◌, ◌≤◌, ◌≡◌, refl, true, false, List, [], ◌∷◌, map, eqb, Option, Some, None}
 use Rattle.std.proofs.Common.{arith, ap, ◌∙◌, eqb-true, eq-eqb}
 use Rattle.std.proofs.Math.Path.{sym}
 use Rattle.std.proofs.lemmas.Simd.{map-map}
-use Rattle.std.proofs.Math.Option.{Option, none, some}
 use Rattle.std.proofs.Math.ListN.{length-map}
 use Rattle.rules.specs.Basics.{first, twice, sum, last}
 use Rattle.rules.specs.Holds.{Plugin, Registry, plugins, lookup, opened, rows_of, sum_rows, rows_in_use}
@@ -25,8 +24,8 @@ use Rattle.rules_laws.specs.Ledger.{Entry, entered, entry_in, entry_rows, handed
 
 -- The ledger is the registry's: the same entries by id, each once, with the same rows in all.
 abbrev entry_of : Option Plugin → Option Entry
-entry_of none = none
-entry_of (some p) = some (held_entry p)
+entry_of None = None
+entry_of (Some p) = Some (held_entry p)
 
 pub record Booked (l : List Entry) (r : Registry) : Type 0 where
   pub finds : (x : ℕ) → entry_in x l ≡ entry_of (lookup r x)
@@ -59,12 +58,12 @@ module _ (r r' : Registry) (id : ℕ) (u u' : Option Plugin) (o : Only r r' id u
 
 module _ (r : Registry) (b : Built r) (l : List Entry) (h : Booked l r) where
   inherits : (u : Option ℕ) → handed_down (parent_in u l) ≡ inherited_from (parent_of r u)
-  inherits none = refl
-  inherits (some x) = ap handed_down (h.finds x) ∙ go (lookup r x)
+  inherits None = refl
+  inherits (Some x) = ap handed_down (h.finds x) ∙ go (lookup r x)
     where
       go : (u : Option Plugin) → handed_down (entry_of u) ≡ inherited_from u
-      go none = refl
-      go (some p) = refl
+      go None = refl
+      go (Some p) = refl
 
   -- what is entered is what the new plugin has
   new_entry_lem : (d : Definition) → new_entry d r.next l ≡ held_entry (new_plugin r d)
@@ -79,7 +78,7 @@ module _ (r : Registry) (b : Built r) (l : List Entry) (h : Booked l r) where
         provisions = sym (m ∙ n) i;
       }
 
-  turned : (a : Act) (vs : List ℕ) (p q : Plugin) → Dated a p q → lookup r q.id ≡ some p → Turn r p q
+  turned : (a : Act) (vs : List ℕ) (p q : Plugin) → Dated a p q → lookup r q.id ≡ Some p → Turn r p q
       → Booked (entered (Accepted vs) a l) (after r (stores q vs))
   turned a vs p q d e t = go a d
     where
@@ -92,8 +91,8 @@ module _ (r : Registry) (b : Built r) (l : List Entry) (h : Booked l r) where
 
       kept : Booked l (after r (stores q vs))
       kept = record {
-        finds = finds_after r (after r (stores q vs)) q.id (some p) (some q) (only_stored r vs p q e) l l h
-            (h.finds q.id ∙ ap entry_of e ∙ ap some same) (λ x n. refl);
+        finds = finds_after r (after r (stores q vs)) q.id (Some p) (Some q) (only_stored r vs p q e) l l h
+            (h.finds q.id ∙ ap entry_of e ∙ ap Some same) (λ x n. refl);
         once = h.once;
         rows = h.rows ∙ sym (turn_rows r b p q e t vs);
       }
@@ -108,9 +107,9 @@ module _ (r : Registry) (b : Built r) (l : List Entry) (h : Booked l r) where
       → Booked (new_entry d r.next l ∷ l) (after r (adds q vs))
   joined d vs q i j =
       let e : new_entry d r.next l ≡ held_entry q = new_entry_lem d ∙ sym (ap held_entry i) in
-      let none_yet : entry_in q.id l ≡ none = h.finds q.id ∙ ap entry_of (moves.fresh r b q.id (omega (arith, j.id))) in
+      let none_yet : entry_in q.id l ≡ None = h.finds q.id ∙ ap entry_of (moves.fresh r b q.id (omega (arith, j.id))) in
       rw e record {
-        finds = finds_after r (after r (adds q vs)) q.id none (some q) (join_only r b q j vs) l (held_entry q ∷ l) h
+        finds = finds_after r (after r (adds q vs)) q.id None (Some q) (join_only r b q j vs) l (held_entry q ∷ l) h
             (rw (same_id q.id)) (λ x n. rw n);
         once = rw (absent (λ (e : Entry). e.id) q.id l none_yet, h.once);
         rows = let k = h.rows in let m = join_rows r b q j vs in omega arith;
@@ -119,11 +118,11 @@ module _ (r : Registry) (b : Built r) (l : List Entry) (h : Booked l r) where
       same_id : (n : ℕ) → eqb n n ≡ true
       same_id n = eq-eqb n n refl
 
-  left : (vs : List ℕ) (id : ℕ) (p : Plugin) → lookup r id ≡ some p → Leave r id p
+  left : (vs : List ℕ) (id : ℕ) (p : Plugin) → lookup r id ≡ Some p → Leave r id p
       → Booked (without (λ (e : Entry). e.id) id l) (after r (removes id vs))
   left vs id p e v =
       record {
-        finds = finds_after r (after r (removes id vs)) id (some p) none (only_freed r vs id p e) l (without (λ (e : Entry). e.id) id l) h
+        finds = finds_after r (after r (removes id vs)) id (Some p) None (only_freed r vs id p e) l (without (λ (e : Entry). e.id) id l) h
             (without_same (λ (e : Entry). e.id) id l) (λ x n. without_other (λ (e : Entry). e.id) id x l n);
         once = once_without (λ (e : Entry). e.id) id l h.once;
         rows =

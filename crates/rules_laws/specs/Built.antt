@@ -1,6 +1,5 @@
 -- What every run keeps, from an opening or a load on: no more than document 02 [4]'s conditions, so that a load can start a run.
-use Rattle.std.specs.Prelude.{ℕ, ◌≤◌, ◌<◌, ◌≡◌, true, false, List, ◌∷◌, map, length}
-use Rattle.std.proofs.Math.Option.{some}
+use Rattle.std.specs.Prelude.{ℕ, ◌≤◌, ◌<◌, ◌≡◌, true, false, List, ◌∷◌, map, length, Some}
 use Rattle.rules.specs.Basics.{all, any, is_none, is_some, twice, last}
 use Rattle.rules_types.specs.declared.Port.{Port}
 use Rattle.rules.specs.Holds.{Provision, Plugin, Registry, plugins, provided, provides, running, lookup, rows_in_use, table_of}
@@ -48,7 +47,7 @@ pub record Lively (p : Plugin) : Type 0 where
 pub record Served (r : Registry) (k : Port) : Type 0 where
   pub id : ℕ
   pub plugin : Plugin
-  pub registered : lookup r id ≡ some plugin
+  pub registered : lookup r id ≡ Some plugin
   pub active : plugin.phase ≡ Active
   pub gives : provides plugin k ≡ true
 
@@ -56,7 +55,7 @@ pub record Served (r : Registry) (k : Port) : Type 0 where
 pub record Wanted (r : Registry) (k : Port) : Type 0 where
   pub id : ℕ
   pub plugin : Plugin
-  pub registered : lookup r id ≡ some plugin
+  pub registered : lookup r id ≡ Some plugin
   pub runs : running plugin ≡ true
   pub depends : In k plugin.dependencies
 
@@ -65,7 +64,7 @@ pub record Wired (r : Registry) : Type 0 where
   -- each dependency of a Loading or Active plugin has an Active provider
   pub served : (k : Port) → Wanted r k → Served r k
   -- two providers of a port are one
-  pub sole : (x y : ℕ) (p q : Plugin) (k : Port) → lookup r x ≡ some p → lookup r y ≡ some q → provides p k ≡ true → provides q k ≡ true → x ≡ y
+  pub sole : (x y : ℕ) (p q : Plugin) (k : Port) → lookup r x ≡ Some p → lookup r y ≡ Some q → provides p k ≡ true → provides q k ≡ true → x ≡ y
 
 -- No cycles: a rank falls from each plugin that runs to each one that runs and that it needs.
 pub record Ranked (ps : List Plugin) : Type 0 where
@@ -76,8 +75,8 @@ pub record Ranked (ps : List Plugin) : Type 0 where
 pub record Member (r : Registry) (a : Plugin) : Type 0 where
   pub issued : r.first ≤ a.id
   pub below : a.id < r.next
-  pub older : (x : ℕ) → a.parent ≡ some x → x < a.id
-  pub parent : (x : ℕ) → a.parent ≡ some x → is_some (lookup r x) ≡ true
+  pub older : (x : ℕ) → a.parent ≡ Some x → x < a.id
+  pub parent : (x : ℕ) → a.parent ≡ Some x → is_some (lookup r x) ≡ true
   pub shaped : Shaped a
   pub lively : Lively a
 

@@ -1,6 +1,5 @@
 -- Demand 3, over histories alone: operations, answers, and what the start held. Nothing here looks at a root, a queue or a phase.
-use Rattle.std.specs.Prelude.{ℕ, ◌≡◌, Bool, true, false, not, List, [], ◌∷◌, ◌++◌, eqb, get_or}
-use Rattle.std.proofs.Math.Option.{Option, none, some}
+use Rattle.std.specs.Prelude.{ℕ, ◌≡◌, Bool, true, false, not, List, [], ◌∷◌, ◌++◌, eqb, get_or, Option, Some, None}
 use Rattle.rules.specs.Basics.{pick, all, same_numbers}
 use Rattle.rules.specs.Holds.{Plugin, Registry, lookup}
 use Rattle.rules.specs.Outcomes.{Answer, Refused, Accepted}
@@ -24,7 +23,7 @@ pub record Note : Type 0 where
   pub told : Told
 
 abbrev pub of : ℕ → Told → Option Note
-of id k = some (record { id = id; told = k })
+of id k = Some (record { id = id; told = k })
 
 -- an accepted operation, with the numbers that it answered
 abbrev pub told : Op → List ℕ → Option Note
@@ -37,26 +36,26 @@ told (Retire id) vs = of id retired
 told (RetireChild c) vs = of c.id retired
 told (Admit t a) vs = of (get_or vs 1 0) (admitted vs)
 told (Call t) vs = of t.id (called (five t))
-told (Begin id) vs = none
-told (Unload id) vs = none
-told (Finish id) vs = none
-told (Offer id q v) vs = none
-told (Ask q) vs = none
-told (Write w l) vs = none
+told (Begin id) vs = None
+told (Unload id) vs = None
+told (Finish id) vs = None
+told (Offer id q v) vs = None
+told (Ask q) vs = None
+told (Write w l) vs = None
 
 -- A refused operation tells nothing.
 abbrev pub noted : Op → Answer → Option Note
-noted o (Refused n vs) = none
+noted o (Refused n vs) = None
 noted o (Accepted vs) = told o vs
 
 abbrev pub add_to : ℕ → Option Note → List Told → List Told
-add_to x none h = h
-add_to x (some n) h = pick (eqb n.id x) (n.told ∷ h) h
+add_to x None h = h
+add_to x (Some n) h = pick (eqb n.id x) (n.told ∷ h) h
 
 -- What a start tells of a plugin that it holds; a fresh registry holds none.
 abbrev pub told_at_start : Option Plugin → List Told
-told_at_start none = []
-told_at_start (some p) = pick p.retired (retired ∷ registered p.payload ∷ []) (registered p.payload ∷ [])
+told_at_start None = []
+told_at_start (Some p) = pick p.retired (retired ∷ registered p.payload ∷ []) (registered p.payload ∷ [])
 
 -- The story of plugin x since a start: what the accepted operations told of it, the latest first.
 unfoldable pub story : Registry → ℕ → List Event → List Told

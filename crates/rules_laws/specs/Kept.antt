@@ -12,9 +12,8 @@ pub mod New
 pub mod Ids
 pub mod Reach
 pub mod Operations
-use Rattle.std.specs.Prelude.{ℕ, ◌≤◌, ◌≡◌, refl, true, List, [], ◌∷◌, ◌++◌, ◌≢◌}
+use Rattle.std.specs.Prelude.{ℕ, ◌≤◌, ◌≡◌, refl, true, List, [], ◌∷◌, ◌++◌, ◌≢◌, Some}
 use Rattle.std.proofs.Common.{arith, le_refl, ap}
-use Rattle.std.proofs.Math.Option.{some}
 use Rattle.rules.specs.Basics.{last}
 use Rattle.rules_types.specs.declared.Port.{Port}
 use Rattle.rules_types.specs.declared.Root.TheVariants.{Queued}
@@ -69,13 +68,13 @@ fresh_built d f l ops = run_built (opened d f) (opened_built d f l) ops
 
 -- Every dependency of a Loading or Active plugin has exactly one provider, and that one is Active.
 pub one_provider : (r : Registry) → Built r → (k : Port) → Wanted r k
-    → (v : Served r k) × ((y : ℕ) (b : Plugin) → lookup r y ≡ some b → provides b k ≡ true → y ≡ v.id)
+    → (v : Served r k) × ((y : ℕ) (b : Plugin) → lookup r y ≡ Some b → provides b k ≡ true → y ≡ v.id)
 one_provider r b k want =
     let v = b.wired.served k want in
     (v, λ y a e g. b.wired.sole y v.id a v.plugin k e v.registered g v.gives)
 
 -- A Built registry in which no root is Queued can start a run.
-pub built_start : (r : Registry) → Built r → ((x : ℕ) (p : Plugin) → lookup r x ≡ some p → (v a : ℕ) → p.root ≢ Queued v a) → Start r
+pub built_start : (r : Registry) → Built r → ((x : ℕ) (p : Plugin) → lookup r x ≡ Some p → (v a : ℕ) → p.root ≢ Queued v a) → Start r
 built_start r b n = record { room = b.room; fresh = fresh r b; unqueued = n }
 
 -- Ids rise and are never given twice, in any run.

@@ -1,7 +1,6 @@
 -- The ledger: one entry for each accepted registration not yet removed, of dependencies + provisions + 1 rows. It is read off a history,
 -- that is off operations, answers, and what the start held.
-use Rattle.std.specs.Prelude.{ℕ, ◌+◌, ◌≡◌, refl, List, [], ◌∷◌, ◌++◌, map, eqb, length, get_or}
-use Rattle.std.proofs.Math.Option.{Option, none, some}
+use Rattle.std.specs.Prelude.{ℕ, ◌+◌, ◌≡◌, refl, List, [], ◌∷◌, ◌++◌, map, eqb, length, get_or, Option, Some, None}
 use Rattle.rules.specs.Basics.{first, sum}
 use Rattle.rules_types.specs.declared.Port.{Port}
 use Rattle.rules.specs.Holds.{Plugin, Registry, plugins, lookup, count, provider, rows_in_use}
@@ -26,12 +25,12 @@ entry_in x l = first (λ (e : Entry). eqb e.id x) l
 
 -- the list that a parent hands down, by its entry
 abbrev pub handed_down : Option Entry → List Port
-handed_down none = []
-handed_down (some e) = e.dependencies
+handed_down None = []
+handed_down (Some e) = e.dependencies
 
 abbrev pub parent_in : Option ℕ → List Entry → Option Entry
-parent_in none l = none
-parent_in (some x) l = entry_in x l
+parent_in None l = None
+parent_in (Some x) l = entry_in x l
 
 abbrev pub new_entry : Definition → ℕ → List Entry → Entry
 new_entry d id l = record {

@@ -1,8 +1,7 @@
 -- No operation changes the domain or the first id, and only begin changes a generation: in one step and in any run.
-use Rattle.std.specs.Prelude.{ℕ, ◌+◌, ◌≤◌, refl, true, false, List, [], ◌∷◌, eqb}
+use Rattle.std.specs.Prelude.{ℕ, ◌+◌, ◌≤◌, refl, true, false, List, [], ◌∷◌, eqb, Option, Some, None}
 use Rattle.std.proofs.Common.{arith, ◌∙◌}
 use Rattle.std.proofs.Math.Path.{◌≡◌, sym, ap}
-use Rattle.std.proofs.Math.Option.{Option, none, some}
 use borrow.Author.Tests.{eqb-true, ne_eqb}
 use Rattle.rules.specs.Basics.{yes_no, last}
 use Rattle.rules.specs.Holds.{Plugin, Registry, lookup, opened, never_begun}
@@ -59,25 +58,25 @@ times_begun x (e ∷ es) = begun_by x e.answer (act e.op) + times_begun x es
 
 -- the generation under an id; that of a plugin not yet registered is the one that it will begin with
 abbrev pub generation_in : Option Plugin → ℕ
-generation_in none = never_begun
-generation_in (some p) = p.generation
+generation_in None = never_begun
+generation_in (Some p) = p.generation
 
 -- The generation under x was g, and x was begun n times since.
 pub record Begun (x g n : ℕ) (r : Registry) : Type 0 where
   pub unborn : r.next ≤ x → g + n ≡ never_begun
-  pub counts : (q : Plugin) → lookup r x ≡ some q → q.generation ≡ g + n
+  pub counts : (q : Plugin) → lookup r x ≡ Some q → q.generation ≡ g + n
 
 module _ (r : Registry) (b : Built r) (x g n : ℕ) (h : Begun x g n r) where
   -- a registered id is not from next on
-  older : (id : ℕ) (p : Plugin) → lookup r id ≡ some p → r.next ≤ x → eqb id x ≡ false
+  older : (id : ℕ) (p : Plugin) → lookup r id ≡ Some p → r.next ≤ x → eqb id x ≡ false
   older id p e l = ne_eqb id x λ i.
-      let f : lookup r x ≡ some p = ap (lookup r) (sym i) ∙ e in
+      let f : lookup r x ≡ Some p = ap (lookup r) (sym i) ∙ e in
       let k = fresh r b x l in
       let z : ◌≡◌ {A = ℕ} 0 1 = cc in
       omega arith
 
   -- where plugin p turns into q
-  turns : (vs : List ℕ) (p q : Plugin) → lookup r q.id ≡ some p → (m : ℕ)
+  turns : (vs : List ℕ) (p q : Plugin) → lookup r q.id ≡ Some p → (m : ℕ)
       → (eqb q.id x ≡ true → q.generation ≡ p.generation + m) → (eqb q.id x ≡ false → m ≡ 0) → Begun x g (m + n) (after r (stores q vs))
   unfolding after
   turns vs p q e m same other =
@@ -94,10 +93,10 @@ module _ (r : Registry) (b : Built r) (x g n : ℕ) (h : Begun x g n r) where
             (λ d. let k = h.counts s (sym (o.other x d) ∙ f) in let i = other d in omega arith);
       }
     where
-      some_is : {a c : Plugin} → some a ≡ some c → a ≡ c
+      some_is : {a c : Plugin} → Some a ≡ Some c → a ≡ c
       some_is i = cc
 
-  turned : (a : Act) (vs : List ℕ) (p q : Plugin) → lookup r q.id ≡ some p → Dated a p q → Begun x g (begun_by x (Accepted vs) a + n) (after r (stores q vs))
+  turned : (a : Act) (vs : List ℕ) (p q : Plugin) → lookup r q.id ≡ Some p → Dated a p q → Begun x g (begun_by x (Accepted vs) a + n) (after r (stores q vs))
   turned (joins _) vs p q e h = elim h [ ]
   turned (leaves id) vs p q e h = elim h [ ]
   turned (begins id) vs p q e d = turns vs p q e (yes_no (eqb id x))
@@ -113,21 +112,21 @@ module _ (r : Registry) (b : Built r) (x g n : ℕ) (h : Begun x g n r) where
         unborn = λ l. h.unborn (omega arith);
         counts = λ s f. by_test (eqb q.id x)
             (λ y. let e = eqb-true q.id x y in
-            let v : some q ≡ some s = sym o.now ∙ ap (lookup (after r (adds q vs))) e ∙ f in
+            let v : Some q ≡ Some s = sym o.now ∙ ap (lookup (after r (adds q vs))) e ∙ f in
             let w : q.generation ≡ s.generation = cc in
             let u = h.unborn (omega (arith, j.id)) in
             omega arith)
             (λ d. h.counts s (sym (o.other x d) ∙ f));
       }
 
-  left : (vs : List ℕ) (id : ℕ) (p : Plugin) → lookup r id ≡ some p → Begun x g n (after r (removes id vs))
+  left : (vs : List ℕ) (id : ℕ) (p : Plugin) → lookup r id ≡ Some p → Begun x g n (after r (removes id vs))
   unfolding after
   left vs id p e =
       let o = only_freed r vs id p e in
       record {
         unborn = h.unborn;
         counts = λ s f. by_test (eqb id x)
-            (λ y. let v : none ≡ some s = sym o.now ∙ ap (lookup (after r (removes id vs))) (eqb-true id x y) ∙ f in
+            (λ y. let v : None ≡ Some s = sym o.now ∙ ap (lookup (after r (removes id vs))) (eqb-true id x y) ∙ f in
             let z : ◌≡◌ {A = ℕ} 0 1 = cc in
             omega arith)
             (λ d. h.counts s (sym (o.other x d) ∙ f));
@@ -161,7 +160,7 @@ on_begun x g s b [] h = h
 on_begun x g s b (o ∷ os) h = on_begun x g (go_on s o) (step_built s.registry b o) os (step_begun s.registry b x g _ h o)
 
 -- Only its accepted begin changes a plugin's generation, and makes it one more.
-pub generation_stays : (r : Registry) → Built r → (o : Op) (x : ℕ) (p q : Plugin) → lookup r x ≡ some p → lookup (after_step r o) x ≡ some q
+pub generation_stays : (r : Registry) → Built r → (o : Op) (x : ℕ) (p q : Plugin) → lookup r x ≡ Some p → lookup (after_step r o) x ≡ Some q
     → q.generation ≡ p.generation + begun_by x (answer_to r o) (act o)
 generation_stays r b o x p q e f =
     let k = (step_begun r b x (generation_in (lookup r x)) 0 (start_begun r b x) o).counts q f in
@@ -169,12 +168,12 @@ generation_stays r b o x p q e f =
     omega arith
 
 -- In any run it is what it was at the start and the accepted begins since; from an opening, the accepted begins.
-pub run_generation : (r : Registry) → Built r → (ops : List Op) (x : ℕ) (q : Plugin) → lookup (run r ops).registry x ≡ some q
+pub run_generation : (r : Registry) → Built r → (ops : List Op) (x : ℕ) (q : Plugin) → lookup (run r ops).registry x ≡ Some q
     → q.generation ≡ generation_in (lookup r x) + times_begun x (run r ops).events
 run_generation r b ops x q e =
     (on_begun x (generation_in (lookup r x)) (record { registry = r; events = [] }) b ops (start_begun r b x)).counts q e
 
-pub fresh_generation : (d f : ℕ) → f ≤ last → (ops : List Op) (x : ℕ) (q : Plugin) → lookup (run_fresh d f ops).registry x ≡ some q
+pub fresh_generation : (d f : ℕ) → f ≤ last → (ops : List Op) (x : ℕ) (q : Plugin) → lookup (run_fresh d f ops).registry x ≡ Some q
     → q.generation ≡ times_begun x (run_fresh d f ops).events
 unfolding lookup
 fresh_generation d f l ops x q e = let k = run_generation (opened d f) (opened_built d f l) ops x q e in omega arith

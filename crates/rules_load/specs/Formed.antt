@@ -1,7 +1,6 @@
 -- What the form of a text gives that runs rely on and the conditions do not say: numbers that fit.
-use Rattle.std.specs.Prelude.{ℕ, ◌≤◌, ◌≡◌, List, ◌∷◌}
+use Rattle.std.specs.Prelude.{ℕ, ◌≤◌, ◌≡◌, List, ◌∷◌, Some}
 use Rattle.std.proofs.Common.{subst, inl, inr}
-use Rattle.std.proofs.Math.Option.{some}
 use Rattle.rules.specs.Basics.{last}
 use Rattle.rules.specs.Holds.{Plugin}
 use Rattle.rules.specs.Text.{Said, block, text, read_text}
@@ -30,5 +29,5 @@ fits_formed s h = record {
     fits = each_fits block s.plugins h.1.1
 
 -- Whatever a text says is of the form.
-pub text_formed : (t : List ℕ) (s : Said) → read_text t ≡ some s → Formed s
+pub text_formed : (t : List ℕ) (s : Said) → read_text t ≡ Some s → Formed s
 text_formed t s e = fits_formed s (written_read t s e).0

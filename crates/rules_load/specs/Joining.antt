@@ -1,6 +1,5 @@
 -- Document 02 [4]'s conditions as a reader asks them: of each plugin of a text, where those before it stand in a registry; then of all.
-use Rattle.std.specs.Prelude.{ℕ, ◌+◌, Bool, true, ◌&&◌, List, [], ◌∷◌, ◌++◌, leb, length}
-use Rattle.std.proofs.Math.Option.{Option}
+use Rattle.std.specs.Prelude.{ℕ, ◌+◌, Bool, true, ◌&&◌, List, [], ◌∷◌, ◌++◌, leb, length, Option}
 use Rattle.rules.specs.Basics.{all, is_some, or_none}
 use Rattle.rules_types.specs.declared.Port.{Port}
 use Rattle.rules.specs.Limits.{max_plugins, max_rows, max_dependency_keys}

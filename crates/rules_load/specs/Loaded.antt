@@ -1,8 +1,7 @@
 -- What a load gives: the loaded registry says what the text said, and exactly the loadable texts open one.
-use Rattle.std.specs.Prelude.{ℕ, ◌≤◌, true, false, List, map, ◌≢◌, eqb, leb, length}
+use Rattle.std.specs.Prelude.{ℕ, ◌≤◌, true, false, List, map, ◌≢◌, eqb, leb, length, Option, Some, None}
 use Rattle.std.proofs.Common.{arith, ◌∙◌}
 use Rattle.std.proofs.Math.Path.{◌≡◌, refl, ap}
-use Rattle.std.proofs.Math.Option.{Option, none, some}
 use borrow.Author.Tests.{eq-eqb, ne_eqb, leb-true}
 use Rattle.rules.specs.Basics.{twice, last}
 use Rattle.rules.specs.Limits.{max_plugins, max_rows}
@@ -46,7 +45,7 @@ module _ (d : ℕ) (s : Said) (e : loadable s ≡ true) where
 
 -- Exactly the texts that say something loadable open a registry, under another domain than theirs: 24 and then 25 refuse the others.
 module _ (d : ℕ) (t : List ℕ) where
-  module _ (s : Said) (i : read_text t ≡ some s) where
+  module _ (s : Said) (i : read_text t ≡ Some s) where
     pub load_unfit : loadable s ≡ false → load d t ≡ refused BadText
     unfolding load
     load_unfit e = rw (i, e)
@@ -59,13 +58,13 @@ module _ (d : ℕ) (t : List ℕ) where
     unfolding load
     load_fits e n = rw (i, e, ne_eqb s.domain d n)
 
-  pub load_opens : (r : Registry) → load d t ≡ opens r → (s : Said) × (read_text t ≡ some s) × (loadable s ≡ true) × (r ≡ loaded d s)
+  pub load_opens : (r : Registry) → load d t ≡ opens r → (s : Said) × (read_text t ≡ Some s) × (loadable s ≡ true) × (r ≡ loaded d s)
   unfolding load
   load_opens r e = go (read_text t) refl e
     where
-      go : (u : Option Said) → read_text t ≡ u → opening d u ≡ opens r → (s : Said) × (read_text t ≡ some s) × (loadable s ≡ true) × (r ≡ loaded d s)
-      go none i h = let z : ◌≡◌ {A = ℕ} 0 1 = cc in absurd (omega arith)
-      go (some s) i h = by_test (loadable s)
+      go : (u : Option Said) → read_text t ≡ u → opening d u ≡ opens r → (s : Said) × (read_text t ≡ Some s) × (loadable s ≡ true) × (r ≡ loaded d s)
+      go None i h = let z : ◌≡◌ {A = ℕ} 0 1 = cc in absurd (omega arith)
+      go (Some s) i h = by_test (loadable s)
           (λ y. by_test (eqb s.domain d)
           (λ a. let k : refused SameDomain ≡ opens r = rw (y, a) at h in let z : ◌≡◌ {A = ℕ} 0 1 = cc in absurd (omega arith))
           (λ n. let k : opens (loaded d s) ≡ opens r = rw (y, n) at h in let j : r ≡ loaded d s = cc in (s, i, y, j)))

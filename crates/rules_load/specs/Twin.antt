@@ -1,8 +1,7 @@
 -- The conditions on a text, and what every run keeps: each says the other.
-use Rattle.std.specs.Prelude.{ℕ, ◌≤◌, ◌≡◌, refl, Bool, true, false, ◌&&◌, List, leb, ltb, length}
+use Rattle.std.specs.Prelude.{ℕ, ◌≤◌, ◌≡◌, refl, Bool, true, false, ◌&&◌, List, leb, ltb, length, Option, Some, None}
 use Rattle.std.proofs.Common.{arith, sym, ap, ◌∙◌, subst, lt-ltb, ltb-true, le-leb, leb-true}
 use Rattle.std.proofs.Math.Path.{subst⁻¹}
-use Rattle.std.proofs.Math.Option.{Option, none, some}
 use Rattle.std.proofs.lemmas.Bool.{not-true}
 use Rattle.rules_types.specs.declared.Port.{Port}
 use Rattle.rules.specs.Basics.{all, or_none, is_some, twice}
@@ -36,8 +35,8 @@ saying r ps = record { domain = r.domain; first = r.first; next = r.next; plugin
 -- All of a registry's plugins, in some order.
 module _ (r : Registry) (ps : List Plugin) (l : Lists r ps) where
   list_of_parent : (v : Option ℕ) → inherited_from (parent_in ps v) ≡ inherited_from (parent_of r v)
-  list_of_parent none = refl
-  list_of_parent (some x) = rw (l.finds x)
+  list_of_parent None = refl
+  list_of_parent (Some x) = rw (l.finds x)
 
   module _ (b : Built r) where
     member : (a : Plugin) → In a ps → Member r a
@@ -50,8 +49,8 @@ module _ (r : Registry) (ps : List Plugin) (l : Lists r ps) where
     lower a m = go a.parent refl
       where
         go : (v : Option ℕ) → a.parent ≡ v → or_none (λ x. ltb x a.id && is_some (among ps x)) v ≡ true
-        go none e = refl
-        go (some x) e = rw (lt-ltb x a.id (m.older x e), l.finds x) (m.parent x e)
+        go None e = refl
+        go (Some x) e = rw (lt-ltb x a.id (m.older x e), l.finds x) (m.parent x e)
 
     serves : (a : Plugin) → In a ps → dependencies_served ps a ≡ true
     serves a m = by_test (running a)
@@ -101,7 +100,7 @@ module _ (r : Registry) (ps : List Plugin) (l : Lists r ps) where
     told : (f : Plugin → Bool) → all f ps ≡ true → (a : Plugin) → In a (plugins r) → f a ≡ true
     told t e a m = all_true t ps a e (l.there a m)
 
-    parent_told : (a : Plugin) → In a (plugins r) → (x : ℕ) → a.parent ≡ some x → (ltb x a.id ≡ true) × (is_some (among ps x) ≡ true)
+    parent_told : (a : Plugin) → In a (plugins r) → (x : ℕ) → a.parent ≡ Some x → (ltb x a.id ≡ true) × (is_some (among ps x) ≡ true)
     parent_told a m x e = both (ltb x a.id) (is_some (among ps x)) (rw e at (told (parent_lower ps) c.parents a m))
 
     apart : repeats (claims_of ps) ≡ false
@@ -135,7 +134,7 @@ module _ (r : Registry) (ps : List Plugin) (l : Lists r ps) where
           gives = w.1;
         }
 
-    back_sole : (x y : ℕ) (p q : Plugin) (k : Port) → lookup r x ≡ some p → lookup r y ≡ some q → provides p k ≡ true → provides q k ≡ true → x ≡ y
+    back_sole : (x y : ℕ) (p q : Plugin) (k : Port) → lookup r x ≡ Some p → lookup r y ≡ Some q → provides p k ≡ true → provides q k ≡ true → x ≡ y
     back_sole x y p q k i j g h =
         let e = one_claims ps apart p q k (l.there p (lookup_in r x p i)) (l.there q (lookup_in r y q j)) g h in
         sym (lookup_id r x p i) ∙ ap (λ (v : Plugin). v.id) e ∙ lookup_id r y q j

@@ -1,8 +1,7 @@
 -- Whether a plugin is Active, read off the history of accepted operations: each step makes it so, or not, as the history says.
-use Rattle.std.specs.Prelude.{ℕ, ◌≡◌, Bool, false, List, []}
+use Rattle.std.specs.Prelude.{ℕ, ◌≡◌, Bool, false, List, [], Option, Some, None}
 use Rattle.std.proofs.Math.Path.{refl, sym, ap}
 use Rattle.std.proofs.Common.{◌∙◌}
-use Rattle.std.proofs.Math.Option.{Option, none, some}
 use Rattle.std.proofs.Math.Dec.{eqb}
 use borrow.Author.Tests.{eqb-true, eq-eqb, not-false}
 use Rattle.rules.specs.Holds.{Plugin, Registry, lookup, is_loading, is_active}
@@ -66,19 +65,19 @@ module _ (r : Registry) (x : ℕ) where
   handing o v (adds p vs) g = g
   handing o v (removes id vs) g = g
 
-  knows : (o : Op) (id : ℕ) (f : Plugin → Outcome) → ((p : Plugin) → lookup r id ≡ some p → Goes o (f p)) → Goes o (known r id f)
+  knows : (o : Op) (id : ℕ) (f : Plugin → Outcome) → ((p : Plugin) → lookup r id ≡ Some p → Goes o (f p)) → Goes o (known r id f)
   knows o id f g = found_elim (Goes o) (lookup r id) f (refused o Unknown []) g
 
   checks : (o : Op) (cs : List Check) (u : Outcome) → (Passed cs → Goes o u) → Goes o (checked cs u)
   checks o cs u g = checked_elim (Goes o) cs u (λ n. refused o n []) g
 
   -- the plugin p, found under id, becomes q
-  turns : (o : Op) (vs : List ℕ) (id : ℕ) (p q : Plugin) → lookup r id ≡ some p → q.id ≡ p.id → is_active q.phase ≡ up_by id o (is_active p.phase)
+  turns : (o : Op) (vs : List ℕ) (id : ℕ) (p q : Plugin) → lookup r id ≡ Some p → q.id ≡ p.id → is_active q.phase ≡ up_by id o (is_active p.phase)
       → (eqb id x ≡ false → (b : Bool) → up_by x o b ≡ b) → Goes o (stores q vs)
   unfolding Goes
   turns o vs id p q e i h k =
       let j : q.id ≡ id = i ∙ lookup_id r id p e in
-      only_goes (after r (stores q vs)) q.id (some p) (some q) (only_stored r vs p q (ap (lookup r) j ∙ e)) (λ y. up_by y o)
+      only_goes (after r (stores q vs)) q.id (Some p) (Some q) (only_stored r vs p q (ap (lookup r) j ∙ e)) (λ y. up_by y o)
       (h ∙ ap (λ y. up_by y o (is_active p.phase)) (sym j)) (λ n. k (ap (λ y. eqb y x) (sym j) ∙ n))
 
   -- one comes that does not run, or goes that is Idle
@@ -86,11 +85,11 @@ module _ (r : Registry) (x : ℕ) where
   unfolding Goes
   joins b d vs q j =
       let n = (neither (is_loading q.phase) (is_active q.phase) j.rests).1 in
-      only_goes _ _ none (some q) (join_only r b q j vs) (λ y. up_by y (Register d)) n (λ n b. refl)
+      only_goes _ _ None (Some q) (join_only r b q j vs) (λ y. up_by y (Register d)) n (λ n b. refl)
 
-  leaves : (id : ℕ) (vs : List ℕ) (p : Plugin) → lookup r id ≡ some p → is_active p.phase ≡ false → Goes (Remove id) (removes id vs)
+  leaves : (id : ℕ) (vs : List ℕ) (p : Plugin) → lookup r id ≡ Some p → is_active p.phase ≡ false → Goes (Remove id) (removes id vs)
   unfolding Goes
-  leaves id vs p e n = only_goes _ id (some p) none (only_freed r vs id p e) (λ y. up_by y (Remove id)) (sym n) (λ n b. refl)
+  leaves id vs p e n = only_goes _ id (Some p) None (only_freed r vs id p e) (λ y. up_by y (Remove id)) (sym n) (λ n b. refl)
 
   pub goes : Built r → (o : Op) → Goes o (step r o)
   unfolding begin ready fail unload finish replace admit call retire retire_child offer remove register
@@ -107,8 +106,8 @@ module _ (r : Registry) (x : ℕ) where
   goes b (RetireChild c) = checks _ _ _ λ f. go (lookup r c.id) refl
     where
       go : (u : Option Plugin) → lookup r c.id ≡ u → Goes (RetireChild c) (retire_found c.parent u)
-      go none e = told _ _ (λ b. refl)
-      go (some p) e = checks _ _ _ λ f. turns _ _ c.id p _ e refl refl (λ n b. refl)
+      go None e = told _ _ (λ b. refl)
+      go (Some p) e = checks _ _ _ λ f. turns _ _ c.id p _ e refl refl (λ n b. refl)
   goes b (Remove id) = knows _ _ _ λ p e. checks _ _ _ λ c.
       let i = is_idle_lem p.phase (both _ _ (not-false _ c.0)).0 in
       leaves id _ p e (rw i)

@@ -1,8 +1,7 @@
 -- The start of one plugin: begun, admitted, called, given its values and made ready, where its dependencies are available.
-use Rattle.std.specs.Prelude.{ℕ, ◌+◌, ◌≡◌, refl, true, false, List, [], ◌∷◌, ◌++◌, map, eqb}
+use Rattle.std.specs.Prelude.{ℕ, ◌+◌, ◌≡◌, refl, true, false, List, [], ◌∷◌, ◌++◌, map, eqb, Some, None}
 use Rattle.std.proofs.Common.{sym, ap, ◌∙◌, subst, append-nil, append_assoc, eq-eqb}
 use Rattle.std.proofs.lemmas.Simd.{map-map}
-use Rattle.std.proofs.Math.Option.{none, some}
 use Rattle.rules.specs.Basics.{any, all, is_none, last}
 use Rattle.rules_types.specs.declared.Port.{Port}
 use Rattle.rules_types.specs.declared.Phase.{Phase}
@@ -34,28 +33,28 @@ same : (n : ℕ) → eqb n n ≡ true
 same n = eq-eqb n n refl
 
 module _ (r : Registry) (x : ℕ) (p : Plugin) (i : p.retired ≡ false) where
-  begin_stores : lookup r x ≡ some p → p.phase ≡ Idle → eqb p.generation last ≡ false → all (available r) p.dependencies ≡ true
+  begin_stores : lookup r x ≡ Some p → p.phase ≡ Idle → eqb p.generation last ≡ false → all (available r) p.dependencies ≡ true
       → begin r x ≡ stores (stage p p.provisions Loading Unissued) (r.domain ∷ x ∷ (p.generation + 1) ∷ setup ∷ [])
   unfolding begin found checked
   begin_stores e h g d = rw (e, i, h, g, d)
 
-  admit_stores : (d a : ℕ) (vs : List Provision) → d ≡ r.domain → lookup r x ≡ some (stage p vs Loading Unissued)
+  admit_stores : (d a : ℕ) (vs : List Provision) → d ≡ r.domain → lookup r x ≡ Some (stage p vs Loading Unissued)
       → admit r (ticket_of d x p) a ≡ stores (stage p vs Loading (Queued p.revision a)) (r.domain ∷ p.id ∷ (p.generation + 1) ∷ p.revision ∷ a ∷ [])
   unfolding admit found checked
   admit_stores d a vs j e = rw (eq-eqb d r.domain j, e, i, same (p.generation + 1))
 
-  call_stores : (d a : ℕ) (vs : List Provision) → d ≡ r.domain → lookup r x ≡ some (stage p vs Loading (Queued p.revision a))
+  call_stores : (d a : ℕ) (vs : List Provision) → d ≡ r.domain → lookup r x ≡ Some (stage p vs Loading (Queued p.revision a))
       → call r (invocation_of d a x p) ≡ stores (stage p vs Loading Spent) (receipt (invocation_of d a x p) p.payload)
   unfolding call found checked is_live
   call_stores d a vs j e = rw (eq-eqb d r.domain j, e, i, same p.revision, same a, same (p.generation + 1))
 
-  offer_stores : (k : Port) (n : ℕ) (vs : List Provision) → is_in k (map (λ (u : Provision). u.port) vs) ≡ true → value_in k vs ≡ none
-      → lookup r x ≡ some (stage p vs Loading Spent) → offer r x k n ≡ stores (stage p (map (offered k n) vs) Loading Spent) []
+  offer_stores : (k : Port) (n : ℕ) (vs : List Provision) → is_in k (map (λ (u : Provision). u.port) vs) ≡ true → value_in k vs ≡ None
+      → lookup r x ≡ Some (stage p vs Loading Spent) → offer r x k n ≡ stores (stage p (map (offered k n) vs) Loading Spent) []
   unfolding offer found checked
   offer_stores k n vs h w e = rw (e, i, h, w)
 
   ready_stores : (vs : List Provision) → any (λ (u : Provision). is_none u.value) vs ≡ false
-      → lookup r x ≡ some (stage p vs Loading Spent) → ready r x ≡ stores (stage p vs Active Spent) []
+      → lookup r x ≡ Some (stage p vs Loading Spent) → ready r x ≡ stores (stage p vs Active Spent) []
   unfolding ready found checked
   ready_stores vs h e = rw (e, i, h)
 
@@ -63,7 +62,7 @@ module _ (r : Registry) (x : ℕ) (p : Plugin) (i : p.retired ≡ false) where
 pub record During (s : Registry) (m : Run) (x : ℕ) (n : Run) (q : Plugin) : Type 0 where
   pub accepted : smooth n.events ≡ true
   pub since : Since s n
-  pub here : lookup n.registry x ≡ some q
+  pub here : lookup n.registry x ≡ Some q
   pub other : (y : ℕ) → eqb x y ≡ false → lookup n.registry y ≡ lookup m.registry y
 
 module _ (s : Registry) (b : Built s) (m : Run) (x : ℕ) where
@@ -98,7 +97,7 @@ module _ (s : Registry) (b : Built s) (m : Run) (x : ℕ) where
         (offers_go done rest (a ∙ e) (go_on n (Offer x k (v k))) next)
 
     -- and the whole start
-    pub one_starts : (a : ℕ) → smooth m.events ≡ true → Since s m → lookup m.registry x ≡ some p → p.phase ≡ Idle → eqb p.generation last ≡ false
+    pub one_starts : (a : ℕ) → smooth m.events ≡ true → Since s m → lookup m.registry x ≡ Some p → p.phase ≡ Idle → eqb p.generation last ≡ false
         → all (λ (u : Provision). is_none u.value) p.provisions ≡ true → all (available m.registry) p.dependencies ≡ true
         → During s m x (go_on_with m (start_one s.domain a v x p)) (stage p (map (filled v (provided p)) p.provisions) Active Spent)
     one_starts a t f e idle g bare d =

@@ -1,10 +1,9 @@
 -- What an order that passes is for: when each before an id has been made ready, and whoever was Active still is, its begin is not
 -- refused for want of a provider, over any operations since the order was checked.
-use Rattle.std.specs.Prelude.{ℕ, ◌≤◌, Bool, false, ◌||◌, List, [], ◌∷◌, ◌++◌, ◌≢◌, eqb}
+use Rattle.std.specs.Prelude.{ℕ, ◌≤◌, Bool, false, ◌||◌, List, [], ◌∷◌, ◌++◌, ◌≢◌, eqb, Option, Some, None}
 use Rattle.std.proofs.Common.{arith, le_refl, sym, ◌∙◌, true≢false, eqb-true}
 use Rattle.std.proofs.Math.Path.{◌≡◌, refl, ap, subst}
 use Rattle.std.proofs.Math.Bool.{true}
-use Rattle.std.proofs.Math.Option.{Option, none, some}
 use Rattle.rules.specs.Basics.{all, holds, is_some}
 use Rattle.rules_types.specs.declared.Port.{Port}
 use Rattle.rules.specs.Holds.{Plugin, Registry, plugins, lookup, provider, provides, is_active}
@@ -35,11 +34,11 @@ Like p q = (q.dependencies ≡ p.dependencies) × ((k : Port) → provides q k �
 -- What a run from s keeps: ids are never given twice, so what stands under an id of s has the ports that it had.
 pub record Kept (s r : Registry) : Type 0 where
   pub next : s.next ≤ r.next
-  pub like : (x : ℕ) (p q : Plugin) → lookup s x ≡ some p → lookup r x ≡ some q → Like p q
+  pub like : (x : ℕ) (p q : Plugin) → lookup s x ≡ Some p → lookup r x ≡ Some q → Like p q
 
 module _ (s : Registry) (b : Built s) (r : Registry) (c : Built r) (k : Kept s r) where
   only_kept : (r' : Registry) (id : ℕ) (u u' : Option Plugin) → Only r r' id u u' → r.next ≤ r'.next
-      → ((p q : Plugin) → lookup s id ≡ some p → u' ≡ some q → Like p q) → Kept s r'
+      → ((p q : Plugin) → lookup s id ≡ Some p → u' ≡ Some q → Like p q) → Kept s r'
   only_kept r' id u u' o l h = record {
     next = let n = k.next in omega arith;
     like = λ x p q e f. by_test (eqb id x)
@@ -51,14 +50,14 @@ module _ (s : Registry) (b : Built s) (r : Registry) (c : Built r) (k : Kept s r
   unfolding Lawful after
   outcome_kept o (tells a) w = k
   outcome_kept o (writes place l vs) w = k
-  outcome_kept o (stores q vs) w = only_kept _ _ _ (some q) (only_stored r vs w.0 q w.2) (le_refl _)
+  outcome_kept o (stores q vs) w = only_kept _ _ _ (Some q) (only_stored r vs w.0 q w.2) (le_refl _)
       (λ p t e i. let l = k.like q.id p w.0 e w.2 in
       let a = w.3.alike in
       let j : q ≡ t = cc in
       subst (Like p) j (a.dependencies ∙ l.0, λ k. alike_provides w.0 q a k ∙ l.1 k))
-  outcome_kept o (adds q vs) w = only_kept _ _ _ (some q) (join_only r c q w.4 vs) (omega arith)
+  outcome_kept o (adds q vs) w = only_kept _ _ _ (Some q) (join_only r c q w.4 vs) (omega arith)
       (λ p t e i. let f = fresh s b q.id (omega (arith, w.4.id, k.next)) in let z : ◌≡◌ {A = ℕ} 0 1 = cc in absurd (omega arith))
-  outcome_kept o (removes id vs) w = only_kept _ _ _ none (only_freed r vs id w.0 w.2) (le_refl _)
+  outcome_kept o (removes id vs) w = only_kept _ _ _ None (only_freed r vs id w.0 w.2) (le_refl _)
       (λ p t e i. let z : ◌≡◌ {A = ℕ} 0 1 = cc in absurd (omega arith))
 
 -- What is known of a run since its start at s.
@@ -105,8 +104,8 @@ unfolding provider
 served_available r b q v = go (provider r q) refl
   where
     go : (u : Option Plugin) → provider r q ≡ u → active u ≡ true
-    go none i = absurd (unprovided r q (ap is_some i) v.id v.plugin v.registered v.gives)
-    go (some a) i =
+    go None i = absurd (unprovided r q (ap is_some i) v.id v.plugin v.registered v.gives)
+    go (Some a) i =
         let m = first_in_lem (λ (p : Plugin). provides p q) (plugins r) a i in
         let e = distinct r b.once a m.0 in
         let j = b.wired.sole a.id v.id a v.plugin q e v.registered m.1 v.gives in
@@ -121,10 +120,10 @@ module _ (s : Registry) (b : Built s) (n : Run) (k : Since s n) (before : List �
   unfolding provider
   in_time_served q h = go (provider s q) refl h
     where
-      now : (a : Plugin) → lookup s a.id ≡ some a → provides a q ≡ true
+      now : (a : Plugin) → lookup s a.id ≡ Some a → provides a q ≡ true
           → (u : Option Plugin) → lookup n.registry a.id ≡ u → active u ≡ true → Served n.registry q
-      now a e g none f t = absurd (true≢false (sym t))
-      now a e g (some d) f t = record {
+      now a e g None f t = absurd (true≢false (sym t))
+      now a e g (Some d) f t = record {
         id = a.id;
         plugin = d;
         registered = f;
@@ -134,8 +133,8 @@ module _ (s : Registry) (b : Built s) (n : Run) (k : Since s n) (before : List �
 
       go : (u : Option Plugin) → provider s q ≡ u → holds (λ (p : Plugin). is_active p.phase || named p.id before) u ≡ true
           → Served n.registry q
-      go none i t = absurd (true≢false (sym t))
-      go (some a) i t =
+      go None i t = absurd (true≢false (sym t))
+      go (Some a) i t =
           let m = first_in_lem (λ (p : Plugin). provides p q) (plugins s) a i in
           let e = distinct s b.once a m.0 in
           let up = by_test (is_active a.phase) (λ y. still a.id (ap active e ∙ y)) (λ n. made a.id (rw n at t)) in
@@ -148,14 +147,14 @@ module _ (s : Registry) (b : Built s) (n : Run) (k : Since s n) (before : List �
       rw (served_available n.registry k.built q (in_time_served q t.0), all_available_lem qs t.1)
 
   pub supplied_available : (x : ℕ) → supplied s before x ≡ true
-      → (q : Plugin) → lookup n.registry x ≡ some q → all (available n.registry) q.dependencies ≡ true
+      → (q : Plugin) → lookup n.registry x ≡ Some q → all (available n.registry) q.dependencies ≡ true
   unfolding supplied
   supplied_available x h q f = go (lookup s x) refl h
     where
       go : (u : Option Plugin) → lookup s x ≡ u → holds (λ (p : Plugin). all (in_time s before) p.dependencies) u ≡ true
           → all (available n.registry) q.dependencies ≡ true
-      go none e t = absurd (true≢false (sym t))
-      go (some p) e t = rw (k.kept.like x p q e f).0 (all_available_lem p.dependencies t)
+      go None e t = absurd (true≢false (sym t))
+      go (Some p) e t = rw (k.kept.like x p q e f).0 (all_available_lem p.dependencies t)
 
 -- begin with its dependencies available
 not_14 : (a b c : Bool) (q : Plugin) (vs : List ℕ)
@@ -166,7 +165,7 @@ not_14 false true c q vs e = let z : ◌≡◌ {A = ℕ} 3 14 = cc in omega arit
 not_14 false false true q vs e = let z : ◌≡◌ {A = ℕ} 16 14 = cc in omega arith
 not_14 false false false q vs e = let z : ◌≡◌ {A = ℕ} 0 1 = cc in omega arith
 
-begin_not_14 : (r : Registry) (x : ℕ) → ((p : Plugin) → lookup r x ≡ some p → all (available r) p.dependencies ≡ true)
+begin_not_14 : (r : Registry) (x : ℕ) → ((p : Plugin) → lookup r x ≡ Some p → all (available r) p.dependencies ≡ true)
     → answer_to r (Begin x) ≢ Refused (number Unavailable) []
 unfolding begin
 begin_not_14 r x h = found_elim (λ u. answer_of u ≢ Refused (number Unavailable) []) (lookup r x) _

@@ -1,9 +1,8 @@
 -- The checker's answer read back: what its yes says, that the planner's order is answered yes, and that where the planner answers none
 -- every order is answered no.
-use Rattle.std.specs.Prelude.{ℕ, refl, true, List, [], ◌∷◌}
+use Rattle.std.specs.Prelude.{ℕ, refl, true, List, [], ◌∷◌, Option, Some, None}
 use Rattle.std.proofs.Common.{arith, ◌∙◌}
 use Rattle.std.proofs.Math.Path.{◌≡◌}
-use Rattle.std.proofs.Math.Option.{Option, none, some}
 use Rattle.rules.specs.Basics.{yes_no}
 use Rattle.rules.specs.Holds.{Registry}
 use Rattle.rules.specs.Refusals.{Refusal}
@@ -37,7 +36,7 @@ module _ (r : Registry) (set : List ℕ) where
       ))
 
   -- What is planned for a set that passes its checks is answered yes.
-  pub planned_yes : (order : List ℕ) → plan r set ≡ some order → Passed (set_checks r set) → answer_of (check_order r set order) ≡ Accepted (1 ∷ [])
+  pub planned_yes : (order : List ℕ) → plan r set ≡ Some order → Passed (set_checks r set) → answer_of (check_order r set order) ≡ Accepted (1 ∷ [])
   planned_yes order p c = told order c ∙ rw (plan_passes r set order p)
 
   -- an outcome of the planner that is no refusal
@@ -56,8 +55,8 @@ module _ (r : Registry) (set : List ℕ) where
     where
       go : (u : Option (List ℕ)) → plan r set ≡ u → Passed (set_checks r set) → planned u ≡ writes place order vs
           → answer_of (check_order r set order) ≡ Accepted (1 ∷ [])
-      go none p c i = let z : ◌≡◌ {A = ℕ} 0 1 = cc in absurd (omega arith)
-      go (some l) p c i = let j : l ≡ order = cc in planned_yes order (rw j at p) c
+      go None p c i = let z : ◌≡◌ {A = ℕ} 0 1 = cc in absurd (omega arith)
+      go (Some l) p c i = let j : l ≡ order = cc in planned_yes order (rw j at p) c
 
   -- Where it answers none, every order is answered no.
   pub planned_none : (buffer : List ℕ) → plan_order r set buffer ≡ answers [] → (order : List ℕ) → answer_of (check_order r set order) ≡ Accepted (0 ∷ [])
@@ -67,5 +66,5 @@ module _ (r : Registry) (set : List ℕ) where
     where
       go : (u : Option (List ℕ)) → plan r set ≡ u → Passed (set_checks r set) → planned u ≡ answers []
           → answer_of (check_order r set order) ≡ Accepted (0 ∷ [])
-      go none p c i = told order c ∙ rw ((plan_none r set).0 p order)
-      go (some l) p c i = let z : ◌≡◌ {A = ℕ} 0 1 = cc in absurd (omega arith)
+      go None p c i = told order c ∙ rw ((plan_none r set).0 p order)
+      go (Some l) p c i = let z : ◌≡◌ {A = ℕ} 0 1 = cc in absurd (omega arith)

@@ -1,9 +1,8 @@
 -- An order that passes, id by id: each is the set's, is not named yet, and is supplied by those before it.
-use Rattle.std.specs.Prelude.{ℕ, ◌≡◌, refl, Bool, false, ◌&&◌, ◌||◌, ◌⊎◌, eqb, length}
+use Rattle.std.specs.Prelude.{ℕ, ◌≡◌, refl, Bool, false, ◌&&◌, ◌||◌, ◌⊎◌, eqb, length, Option, Some, None}
 use Rattle.std.proofs.Common.{arith, sym, ap, ◌∙◌, true≢false, ⊎_elim}
 use Rattle.std.proofs.Math.Bool.{true, not}
 use mathlib.Core.List.{List, [], ◌∷◌, ◌++◌, append-nil, append_assoc}
-use Rattle.std.proofs.Math.Option.{Option, none, some}
 use borrow.Author.Tests.{eqb-true, eq-eqb, ne_eqb, not-true}
 use Rattle.rules.specs.Basics.{all, holds, twice}
 use Rattle.rules_types.specs.declared.Port.{Port}
@@ -19,8 +18,8 @@ module _ (r : Registry) where
     where
       go : (u : Option Plugin) → holds (λ (p : Plugin). is_active p.phase || named p.id b) u ≡ true
           → holds (λ (p : Plugin). is_active p.phase || named p.id c) u ≡ true
-      go none t = t
-      go (some p) t = by_test (is_active p.phase) (λ y. rw y) (λ n. rw n (w p.id (rw n at t)))
+      go None t = t
+      go (Some p) t = by_test (is_active p.phase) (λ y. rw y) (λ n. rw n (w p.id (rw n at t)))
 
   all_grow : (b c : List ℕ) → Within b c → (qs : List Port) → all (in_time r b) qs ≡ true → all (in_time r c) qs ≡ true
   all_grow b c w [] h = refl
@@ -34,8 +33,8 @@ module _ (r : Registry) where
     where
       go : (u : Option Plugin) → holds (λ (p : Plugin). all (in_time r b) p.dependencies) u ≡ true
           → holds (λ (p : Plugin). all (in_time r c) p.dependencies) u ≡ true
-      go none t = t
-      go (some p) t = all_grow b c w p.dependencies t
+      go None t = t
+      go (Some p) t = all_grow b c w p.dependencies t
 
   module _ (set : List ℕ) where
     -- each of the ids is the set's, and can come after those before it

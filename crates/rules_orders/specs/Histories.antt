@@ -1,6 +1,5 @@
 -- Whether a plugin is Active, read off the history of accepted operations: each step makes it so, or not, as the history says.
-use Rattle.std.specs.Prelude.{ℕ, Bool, true, false, List, [], ◌∷◌}
-use Rattle.std.proofs.Math.Option.{Option}
+use Rattle.std.specs.Prelude.{ℕ, Bool, true, false, List, [], ◌∷◌, Option}
 use Rattle.std.proofs.Math.Dec.{eqb}
 use Rattle.rules.specs.Basics.{pick, holds}
 use Rattle.rules.specs.Holds.{Plugin, Registry, lookup, is_active}

@@ -1,8 +1,7 @@
 -- Lists of ids: which are in them, how many can be different, and the lowest that passes a test.
-use Rattle.std.specs.Prelude.{ℕ, suc, ◌≤◌, ◌<◌, ◌≡◌, refl, Bool, true, false, List, [], ◌∷◌, ◌++◌, ◌⊎◌, eqb, ltb, length}
+use Rattle.std.specs.Prelude.{ℕ, suc, ◌≤◌, ◌<◌, ◌≡◌, refl, Bool, true, false, List, [], ◌∷◌, ◌++◌, ◌⊎◌, eqb, ltb, length, Option, Some, None}
 use Rattle.std.proofs.Common.{arith, sym, ap, ◌∙◌, true≢false, inl, inr, ⊎_elim, eqb-true, eq-eqb, ne_eqb, ltb-true, ltb-false, subst}
 use Rattle.std.proofs.Math.Bool.{or-true}
-use Rattle.std.proofs.Math.Option.{Option, none, some}
 use Rattle.rules.specs.Basics.{pick, all, twice}
 use Rattle.rules.specs.Queries.{lower}
 use Rattle.rules_laws.specs.Laws.Tests.{by_test, both, neither}
@@ -88,31 +87,31 @@ no_more (x ∷ l) k o w =
 
 -- What the lowest is: it is there and passes, and none below it does; where there is none, none passes.
 abbrev pub Lowest : (ℕ → Bool) → List ℕ → Option ℕ → Type 0
-Lowest f l none = (y : ℕ) → named y l ≡ true → f y ≡ false
-Lowest f l (some x) = (named x l ≡ true) × (f x ≡ true) × ((y : ℕ) → named y l ≡ true → f y ≡ true → x ≤ y)
+Lowest f l None = (y : ℕ) → named y l ≡ true → f y ≡ false
+Lowest f l (Some x) = (named x l ≡ true) × (f x ≡ true) × ((y : ℕ) → named y l ≡ true → f y ≡ true → x ≤ y)
 
 module _ (f : ℕ → Bool) (x : ℕ) (l : List ℕ) where
   passed_over : (u : Option ℕ) → f x ≡ false → Lowest f l u → Lowest f (x ∷ l) u
-  passed_over none n w = λ y h. go y (named_cases y x l h)
+  passed_over None n w = λ y h. go y (named_cases y x l h)
     where
       go : (y : ℕ) → (y ≡ x) ⊎ (named y l ≡ true) → f y ≡ false
       go y (inl e) = rw e n
       go y (inr h) = w y h
-  passed_over (some z) n w = (named_tail z x l w.0, w.1, λ y h t. go y t (named_cases y x l h))
+  passed_over (Some z) n w = (named_tail z x l w.0, w.1, λ y h t. go y t (named_cases y x l h))
     where
       go : (y : ℕ) → f y ≡ true → (y ≡ x) ⊎ (named y l ≡ true) → z ≤ y
       go y t (inl e) = absurd (true≢false (sym t ∙ ap f e ∙ n))
       go y t (inr h) = w.2 y h t
 
   taken : (u : Option ℕ) → f x ≡ true → Lowest f l u → Lowest f (x ∷ l) (lower x u)
-  taken none t w = (named_head x l, t, λ y h p. go y p (named_cases y x l h))
+  taken None t w = (named_head x l, t, λ y h p. go y p (named_cases y x l h))
     where
       go : (y : ℕ) → f y ≡ true → (y ≡ x) ⊎ (named y l ≡ true) → x ≤ y
       go y p (inl e) = omega arith
       go y p (inr h) = absurd (true≢false (sym p ∙ w y h))
-  taken (some z) t w = by_test (ltb x z)
-      (λ b. subst (λ (v : Bool). Lowest f (x ∷ l) (some (pick v x z))) (sym b) (named_head x l, t, λ y h p. below y p (ltb-true x z b) (named_cases y x l h)))
-      (λ b. subst (λ (v : Bool). Lowest f (x ∷ l) (some (pick v x z))) (sym b) (named_tail z x l w.0, w.1, λ y h p. above y p (ltb-false x z b) (named_cases y x l h)))
+  taken (Some z) t w = by_test (ltb x z)
+      (λ b. subst (λ (v : Bool). Lowest f (x ∷ l) (Some (pick v x z))) (sym b) (named_head x l, t, λ y h p. below y p (ltb-true x z b) (named_cases y x l h)))
+      (λ b. subst (λ (v : Bool). Lowest f (x ∷ l) (Some (pick v x z))) (sym b) (named_tail z x l w.0, w.1, λ y h p. above y p (ltb-false x z b) (named_cases y x l h)))
     where
       below : (y : ℕ) → f y ≡ true → x < z → (y ≡ x) ⊎ (named y l ≡ true) → x ≤ y
       below y p b (inl e) = omega arith

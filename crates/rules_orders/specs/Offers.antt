@@ -1,8 +1,7 @@
 -- The values that a start offers, one for each of a plugin's provisions: which are filled while some ports have theirs.
-use Rattle.std.specs.Prelude.{ℕ, ◌≡◌, refl, true, false, List, [], ◌∷◌, ◌++◌, map}
+use Rattle.std.specs.Prelude.{ℕ, ◌≡◌, refl, true, false, List, [], ◌∷◌, ◌++◌, map, Option, Some, None}
 use Rattle.std.proofs.Common.{sym, ap, ◌∙◌, true≢false, append_assoc}
 use Rattle.std.proofs.Math.Bool.{or-true, or-false}
-use Rattle.std.proofs.Math.Option.{Option, none, some}
 use Rattle.rules.specs.Basics.{pick, any, all, is_none}
 use Rattle.rules_types.specs.declared.Port.{Port}
 use Rattle.rules.specs.Holds.{Provision, same_port, is_in}
@@ -26,7 +25,7 @@ first_time (u ∷ front) k rest h =
 -- The provisions once those of some ports have their values.
 module _ (v : Port → ℕ) where
   abbrev pub filled : List Port → Provision → Provision
-  filled done u = record { port = u.port; value = pick (is_in u.port done) (some (v u.port)) none }
+  filled done u = record { port = u.port; value = pick (is_in u.port done) (Some (v u.port)) None }
 
   pub filled_none : (ps : List Provision) → all (λ (u : Provision). is_none u.value) ps ≡ true → map (filled []) ps ≡ ps
   filled_none [] h = refl
@@ -34,21 +33,21 @@ module _ (v : Port → ℕ) where
       let t = both (is_none u.value) (all (λ (u : Provision). is_none u.value) ps) h in
       ap (λ l. filled [] u ∷ l) (filled_none ps t.1) ∙ ap (λ w. w ∷ ps) (bare u.value t.0)
     where
-      bare : (w : Option ℕ) → is_none w ≡ true → ◌≡◌ {A = Provision} (record { port = u.port; value = none }) (record { port = u.port; value = w })
-      bare none e = refl
-      bare (some n) e = absurd (true≢false (sym e))
+      bare : (w : Option ℕ) → is_none w ≡ true → ◌≡◌ {A = Provision} (record { port = u.port; value = None }) (record { port = u.port; value = w })
+      bare None e = refl
+      bare (Some n) e = absurd (true≢false (sym e))
 
   valued : (done : List Port) (k u : Port)
-      → pick (same_port k u) (some (v k)) (pick (is_in u done) (some (v u)) none) ≡ pick (is_in u (done ++ k ∷ [])) (some (v u)) none
+      → pick (same_port k u) (Some (v k)) (pick (is_in u done) (Some (v u)) None) ≡ pick (is_in u (done ++ k ∷ [])) (Some (v u)) None
   valued done k u = by_test (same_port k u)
-      (λ t. rw (in_behind u k done, same_swap u k, t, or-true) (ap (λ z. some (v z)) (sym (same_port_lem k u t))))
+      (λ t. rw (in_behind u k done, same_swap u k, t, or-true) (ap (λ z. Some (v z)) (sym (same_port_lem k u t))))
       (λ f. rw (in_behind u k done, same_swap u k, f, or-false))
 
   pub filled_more : (done : List Port) (k : Port) (ps : List Provision) → map (offered k (v k)) (map (filled done) ps) ≡ map (filled (done ++ k ∷ [])) ps
   filled_more done k [] = refl
   filled_more done k (u ∷ ps) = rw (filled_more done k ps, valued done k u.port)
 
-  pub unfilled : (done : List Port) (k : Port) → is_in k done ≡ false → (ps : List Provision) → value_in k (map (filled done) ps) ≡ none
+  pub unfilled : (done : List Port) (k : Port) → is_in k done ≡ false → (ps : List Provision) → value_in k (map (filled done) ps) ≡ None
   unfilled done k h [] = refl
   unfilled done k h (u ∷ ps) = by_test (same_port k u.port)
       (λ t. rw (t, same_port_lem k u.port t, h))

@@ -1,8 +1,7 @@
 -- A set whose ids pass the checks: they are different, and each names a plugin that begin would take up; so they are no more than there
 -- are plugins.
-use Rattle.std.specs.Prelude.{ℕ, ◌≤◌, ◌≡◌, refl, true, false, not, List, [], ◌∷◌, ◌++◌, eqb, length}
+use Rattle.std.specs.Prelude.{ℕ, ◌≤◌, ◌≡◌, refl, true, false, not, List, [], ◌∷◌, ◌++◌, eqb, length, Option, Some, None}
 use Rattle.std.proofs.Common.{arith, sym, ap, ◌∙◌, true≢false, ⊎_elim, eqb-true, eq-eqb, ne_eqb}
-use Rattle.std.proofs.Math.Option.{Option, none, some}
 use Rattle.std.proofs.Math.ListN.{length-map}
 use Rattle.std.proofs.lemmas.Bool.{not-false}
 use Rattle.rules.specs.Basics.{first, holds, is_none, twice, last}
@@ -17,7 +16,7 @@ pub passed_split : (cs ds : List Check) → Passed (cs ++ ds) → Passed cs × P
 passed_split [] ds h = (tt, h)
 passed_split (c ∷ cs) ds h = let s = passed_split cs ds h.1 in ((h.0, s.0), s.1)
 
-registered_named : (ps : List Plugin) (id : ℕ) (p : Plugin) → first (λ (q : Plugin). eqb q.id id) ps ≡ some p → named id (ids_of ps) ≡ true
+registered_named : (ps : List Plugin) (id : ℕ) (p : Plugin) → first (λ (q : Plugin). eqb q.id id) ps ≡ Some p → named id (ids_of ps) ≡ true
 registered_named [] id p e = let z : ◌≡◌ {A = ℕ} 0 1 = cc in absurd (omega arith)
 registered_named (q ∷ ps) id p e =
     let f = registered_named ps id p in
@@ -43,7 +42,7 @@ module _ (r : Registry) where
   -- what passed of each id of the set
   pub record Startable (id : ℕ) : Type 0 where
     pub plugin : Plugin
-    pub registered : lookup r id ≡ some plugin
+    pub registered : lookup r id ≡ Some plugin
     pub unretired : plugin.retired ≡ false
     pub idle : is_idle plugin.phase ≡ true
     pub further : eqb plugin.generation last ≡ false
@@ -53,8 +52,8 @@ module _ (r : Registry) where
     where
       go : (u : Option Plugin) → lookup r id ≡ u → is_none u ≡ false → holds (λ (p : Plugin). p.retired) u ≡ false
           → holds (λ (p : Plugin). not (is_idle p.phase)) u ≡ false → holds (λ (p : Plugin). eqb p.generation last) u ≡ false → Startable id
-      go none e a b c d = absurd (true≢false a)
-      go (some p) e a b c d = record { plugin = p; registered = e; unretired = b; idle = not-false _ c; further = d }
+      go None e a b c d = absurd (true≢false a)
+      go (Some p) e a b c d = record { plugin = p; registered = e; unretired = b; idle = not-false _ c; further = d }
 
   checks_startable : (earlier set : List ℕ) → Passed (checks_behind r earlier set) → (y : ℕ) → named y set ≡ true → Startable y
   checks_startable earlier [] h y m = absurd (true≢false (sym m))

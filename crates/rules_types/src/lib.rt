@@ -5,7 +5,11 @@ ghost use Rattle.std.specs.Prelude.{◌≡◌};
 ghost use Rattle.rules_types.specs.Kinds.{port, default_realm, edition_number, default_of, phase_number};
 ghost use Rattle.rules_types.specs.Generations.{generation_of, next_generation};
 
-#[derive(Clone, Copy)]
+mod refusal;
+
+pub use refusal::Refusal;
+
+#[derive(Clone, Copy, PartialEq, Eq)]
 pub struct Port {
     pub key: u64,
     pub realm: u64,
@@ -17,10 +21,7 @@ impl Port {
     pub fn new(key: u64, realm: u64) -> Port
         ensures { result ≡ port key realm }
     {
-        Port {
-            key: key,
-            realm: realm,
-        }
+        Port { key, realm }
     }
 
     pub fn in_default_realm(key: u64) -> Port
@@ -31,7 +32,7 @@ impl Port {
 }
 
 // Document 02 [5]: in edition 1 absent keys get realm 0, in edition 2 a default realm that comes with the list.
-#[derive(Clone, Copy)]
+#[derive(Clone, Copy, PartialEq, Eq)]
 pub enum Edition {
     First,
     Second(u64),
@@ -68,7 +69,7 @@ impl Edition {
     }
 }
 
-#[derive(Clone, Copy)]
+#[derive(Clone, Copy, PartialEq, Eq)]
 pub struct Generation(pub u64);
 
 impl Generation {
@@ -86,43 +87,14 @@ impl Generation {
     pub fn next(self) -> Generation
         ensures { result ≡ next_generation self }
     {
-        if self.0 == Generation::LAST.0 {
+        if self == Generation::LAST {
             return self;
         }
         Generation(self.0 + 1)
     }
 }
 
-// What an operation without a value answers.
-#[derive(Clone, Copy)]
-pub enum Done {
-    Accepted,
-    Refused(u64),
-}
-
-// What a yes or no question answers.
-#[derive(Clone, Copy)]
-pub enum Whether {
-    Yes,
-    No,
-    Refused(u64),
-}
-
-// What an operation with one number answers.
-#[derive(Clone, Copy)]
-pub enum Number {
-    Is(u64),
-    Refused(u64),
-}
-
-// A number or none.
-#[derive(Clone, Copy)]
-pub enum Optional {
-    Is(u64),
-    None,
-}
-
-#[derive(Clone, Copy)]
+#[derive(Clone, Copy, PartialEq, Eq)]
 pub enum Phase {
     Idle,
     Loading,
@@ -134,17 +106,12 @@ impl Phase {
     pub fn number(self) -> u64
         ensures { result ≡ phase_number self }
     {
-        match self {
-            Phase::Idle => 0,
-            Phase::Loading => 1,
-            Phase::Active => 2,
-            Phase::Unloading => 3,
-        }
+        self as u64
     }
 }
 
 // Queued holds the revision and the argument.
-#[derive(Clone, Copy)]
+#[derive(Clone, Copy, PartialEq, Eq)]
 pub enum Root {
     Unissued,
     Queued(u64, u64),

@@ -1,8 +1,7 @@
 -- What upstream says of every operation: exactly when it is accepted, and what it then does to one plugin.
-use Rattle.std.specs.Prelude.{ℕ, ◌≤◌, ◌≡◌, refl, Bool, true, false, not, ◌&&◌, ◌||◌, List, [], ◌∷◌, map, eqb, ltb}
+use Rattle.std.specs.Prelude.{ℕ, ◌≤◌, ◌≡◌, refl, Bool, true, false, not, ◌&&◌, ◌||◌, List, [], ◌∷◌, map, eqb, ltb, Option, Some, None}
 use Rattle.std.proofs.Common.{arith, sym, ap, ◌∙◌, subst, true≢false, inl, inr, eqb-true, lt-ltb, le-ltb}
 use Rattle.std.proofs.Math.Bool.{and-true, and_assoc, not-not}
-use Rattle.std.proofs.Math.Option.{Option, none, some}
 use Rattle.std.proofs.lemmas.Bool.{eqb-false}
 use Rattle.rules.specs.Basics.{holds}
 use Rattle.rules.specs.Holds.{Plugin, Registry, lookup}
@@ -30,8 +29,8 @@ checked_accepted (c ∷ cs) u = by_test c.test (λ y. rw y) (λ n. rw n (checked
 
 pub found_accepted : (u : Option Plugin) (f : Plugin → Outcome) → accepted (found u f) ≡ holds (λ p. accepted (f p)) u
 unfolding found
-found_accepted none f = refl
-found_accepted (some p) f = refl
+found_accepted None f = refl
+found_accepted (Some p) f = refl
 
 pub neither_of : (a b : Bool) → not (not a || not b) ≡ (a && b)
 neither_of true b = not-not b
@@ -55,9 +54,9 @@ refused_among (c ∷ cs) u n vs a e = by_test c.test
     (λ z. inr (refused_among cs u n vs a (rw z at e)))
 
 -- a test that holds of what there may be holds of what there is
-pub held_by : {A : Type 0} (f : A → Bool) (u : Option A) → holds f u ≡ true → (a : A) × (u ≡ some a) × (f a ≡ true)
-held_by f none e = absurd (true≢false (sym e))
-held_by f (some a) e = (a, refl, e)
+pub held_by : {A : Type 0} (f : A → Bool) (u : Option A) → holds f u ≡ true → (a : A) × (u ≡ Some a) × (f a ≡ true)
+held_by f None e = absurd (true≢false (sym e))
+held_by f (Some a) e = (a, refl, e)
 
 -- a number up to the last is not the last exactly if it is below
 pub below : (n m : ℕ) → n ≤ m → not (eqb n m) ≡ ltb n m
@@ -69,7 +68,7 @@ below n m l = by_test (eqb n m)
 -- Nothing else changes.
 pub record Turns (r : Registry) (id : ℕ) (was stands : Plugin) (vs : List ℕ) (u : Outcome) : Type 0 where
   pub answer : answer_of u ≡ Accepted vs
-  pub only : Only r (after r u) id (some was) (some stands)
+  pub only : Only r (after r u) id (Some was) (Some stands)
   pub domain : (after r u).domain ≡ r.domain
   pub next : (after r u).next ≡ r.next
   pub identity : Alike was stands
@@ -89,18 +88,18 @@ when_passed P cs u h = checked_elim (When P) cs u (λ x t. absurd (true≢false 
 
 module _ (r : Registry) where
   -- .. and its id is found
-  pub when_known : (P : Outcome → Type 0) (id : ℕ) (f : Plugin → Outcome) → ((p : Plugin) → lookup r id ≡ some p → When P (f p)) → When P (known r id f)
+  pub when_known : (P : Outcome → Type 0) (id : ℕ) (f : Plugin → Outcome) → ((p : Plugin) → lookup r id ≡ Some p → When P (f p)) → When P (known r id f)
   when_known P id f h = found_elim (When P) (lookup r id) f (λ t. absurd (true≢false (sym t))) h
 
-  pub stored_under : (id : ℕ) (p q : Plugin) (vs : List ℕ) → lookup r id ≡ some p → q.id ≡ p.id → Only r (after r (stores q vs)) id (some p) (some q)
+  pub stored_under : (id : ℕ) (p q : Plugin) (vs : List ℕ) → lookup r id ≡ Some p → q.id ≡ p.id → Only r (after r (stores q vs)) id (Some p) (Some q)
   stored_under id p q vs e h =
       let i = h ∙ lookup_id r id p e in
-      subst (λ x. Only r (after r (stores q vs)) x (some p) (some q)) i (only_stored r vs p q (rw i e))
+      subst (λ x. Only r (after r (stores q vs)) x (Some p) (Some q)) i (only_stored r vs p q (rw i e))
 
-  pub turned : (id : ℕ) (p q : Plugin) (vs : List ℕ) → lookup r id ≡ some p → Alike p q → Turns r id p q vs (stores q vs)
+  pub turned : (id : ℕ) (p q : Plugin) (vs : List ℕ) → lookup r id ≡ Some p → Alike p q → Turns r id p q vs (stores q vs)
   unfolding after
   turned id p q vs e a = record { answer = refl; only = stored_under id p q vs e a.id; domain = refl; next = refl; identity = a }
 
-  pub has_effect : (id : ℕ) (vs : Plugin → List ℕ) (f : Plugin → Plugin) (p : Plugin) → lookup r id ≡ some p → Alike p (f p)
+  pub has_effect : (id : ℕ) (vs : Plugin → List ℕ) (f : Plugin → Plugin) (p : Plugin) → lookup r id ≡ Some p → Alike p (f p)
       → Effect r id vs f (stores (f p) (vs p))
   has_effect id vs f p e a = record { was = p; turns = turned id p (f p) (vs p) e a }

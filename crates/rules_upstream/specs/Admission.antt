@@ -1,7 +1,6 @@
 -- Upstream's clauses on R's admission and call.
-use Rattle.std.specs.Prelude.{ℕ, ◌≡◌, refl, Bool, true, not, ◌&&◌, [], ◌∷◌, eqb}
+use Rattle.std.specs.Prelude.{ℕ, ◌≡◌, refl, Bool, true, not, ◌&&◌, [], ◌∷◌, eqb, Some}
 use Rattle.std.proofs.Common.{sym, ◌∙◌, eqb-true}
-use Rattle.std.proofs.Math.Option.{some}
 use Rattle.std.proofs.lemmas.Bool.{not-true}
 use Rattle.rules.specs.Basics.{holds}
 use Rattle.rules.specs.Holds.{Plugin, Registry, lookup, is_loading, with_root}
@@ -35,7 +34,7 @@ module _ (r : Registry) where
 
   -- .. and only if domain, id and revision agree (and more: Facts).
   pub call_agrees : (t : Invocation) → accepted (call r t) ≡ true
-      → (p : Plugin) × (lookup r t.id ≡ some p) × (p.id ≡ t.id) × Facts r.domain p t
+      → (p : Plugin) × (lookup r t.id ≡ Some p) × (p.id ≡ t.id) × Facts r.domain p t
   call_agrees t e =
       let c = both _ _ (sym (call_exactly t) ∙ e) in
       let (p, f, l) = held_by _ _ c.1 in

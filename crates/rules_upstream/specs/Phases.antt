@@ -1,9 +1,8 @@
 -- Upstream's clauses on the phases: S's begin_native_execution (here begin), finish_native_execution (here ready) and
 -- release_native_execution (here finish).
-use Rattle.std.specs.Prelude.{ℕ, ◌+◌, ◌≡◌, true, not, ◌&&◌, eqb}
+use Rattle.std.specs.Prelude.{ℕ, ◌+◌, ◌≡◌, true, not, ◌&&◌, eqb, None}
 use Rattle.std.proofs.Math.Path.{refl}
 use mathlib.Core.List.{[], ◌∷◌, map, map-map}
-use Rattle.std.proofs.Math.Option.{none}
 use borrow.Author.Tests.{eq-eqb}
 use Rattle.rules.specs.Basics.{any, all, is_some, is_none, holds, one, last}
 use Rattle.rules_types.specs.declared.Port.{Port}
@@ -57,7 +56,7 @@ pub record Begun (r : Registry) (id : ℕ) (u : Outcome) : Type 0 where
   pub was : Plugin
   pub turns : Turns r id was (begun was) (r.domain ∷ id ∷ (was.generation + 1) ∷ setup ∷ []) u
   pub phase : (begun was).phase ≡ Loading
-  pub values : Built r → (q : Port) → value_in q (begun was).provisions ≡ none
+  pub values : Built r → (q : Port) → value_in q (begun was).provisions ≡ None
 
 -- What a begun plugin's ticket is good for.
 pub record Tickets (r : Registry) (u : Outcome) : Type 0 where
@@ -78,7 +77,7 @@ pub record Finished (r : Registry) (id : ℕ) (u : Outcome) : Type 0 where
   pub was : Plugin
   pub turns : Turns r id was (finished was) [] u
   pub phase : (finished was).phase ≡ Idle
-  pub values : (q : Port) → value_in q (finished was).provisions ≡ none
+  pub values : (q : Port) → value_in q (finished was).provisions ≡ None
 
 module _ (r : Registry) (id : ℕ) where
   -- S begin: accepted exactly so,

@@ -1,9 +1,8 @@
 -- Upstream's clauses on R's registration.
-use Rattle.std.specs.Prelude.{ℕ, ◌+◌, ◌≤◌, ◌≡◌, refl, Bool, true, not, ◌&&◌, ◌||◌, ◌⊎◌, ◌↔◌, ltb, leb, length}
+use Rattle.std.specs.Prelude.{ℕ, ◌+◌, ◌≤◌, ◌≡◌, refl, Bool, true, not, ◌&&◌, ◌||◌, ◌⊎◌, ◌↔◌, ltb, leb, length, Option, Some, None}
 use Rattle.std.proofs.Common.{arith, le_refl, sym, ◌∙◌, subst, inl, inr, ⊎_elim}
 use Rattle.std.proofs.Math.Bool.{and-true, and_assoc, or-true}
 use mathlib.Core.List.{[], ◌∷◌, map-map, map-id}
-use Rattle.std.proofs.Math.Option.{Option, none, some}
 use Rattle.rules.specs.Basics.{any, is_some, is_none, holds, last}
 use Rattle.rules_types.specs.declared.Port.{Port}
 use Rattle.rules.specs.Holds.{Provision, Plugin, Registry, lookup, provider, provided, provides, is_in, count, rows_in_use, rows_of, is_unloading}
@@ -24,7 +23,7 @@ use Rattle.rules_upstream.specs.Dependencies.{is_in_exactly}
 pub record Registered (r : Registry) (d : Definition) (u : Outcome) : Type 0 where
   pub answer : answer_of u ≡ Accepted (r.next ∷ [])
   pub plugin : Plugin
-  pub only : Only r (after r u) r.next none (some plugin)
+  pub only : Only r (after r u) r.next None (Some plugin)
   pub domain : (after r u).domain ≡ r.domain
   pub next : (after r u).next ≡ r.next + 1
   pub parent : plugin.parent ≡ d.parent
@@ -38,8 +37,8 @@ pub record Registered (r : Registry) (d : Definition) (u : Outcome) : Type 0 whe
 -- R registration_enabled: the parent, if any, is registered, not retired and not Unloading; next id is below the last number; the
 -- declared dependencies are distinct, and so are the provisions with the anchor; none of these is provided.
 abbrev pub parent_free : Registry → Option ℕ → Bool
-parent_free r none = true
-parent_free r (some x) = holds (λ p. not p.retired && not (is_unloading p.phase)) (lookup r x)
+parent_free r None = true
+parent_free r (Some x) = holds (λ p. not p.retired && not (is_unloading p.phase)) (lookup r x)
 
 abbrev pub enabled : Registry → Definition → Bool
 enabled r d =
@@ -69,13 +68,13 @@ module _ (r : Registry) (d : Definition) where
       free : (u : Option ℕ)
           → (not (is_some u && is_none (parent_of r u)) && (not (holds (λ p. p.retired) (parent_of r u)) && not (holds (λ p. is_unloading p.phase) (parent_of r u))))
           ≡ parent_free r u
-      free none = refl
-      free (some x) = go (lookup r x)
+      free None = refl
+      free (Some x) = go (lookup r x)
         where
           go : (v : Option Plugin) → (not (is_none v) && (not (holds (λ p. p.retired) v) && not (holds (λ p. is_unloading p.phase) v)))
               ≡ holds (λ p. not p.retired && not (is_unloading p.phase)) v
-          go none = refl
-          go (some p) = refl
+          go None = refl
+          go (Some p) = refl
 
   -- .. it answers next id; the new plugin stands there as R says, and nothing else changes.
   pub register_adds : Built r → When (Registered r d) (register r d)

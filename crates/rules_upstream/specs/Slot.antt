@@ -1,8 +1,7 @@
 -- Upstream's clauses on C's slot.
-use Rattle.std.specs.Prelude.{ℕ, ◌≡◌, refl, Bool, true, false, ◌&&◌, [], ◌∷◌, eqb}
+use Rattle.std.specs.Prelude.{ℕ, ◌≡◌, refl, Bool, true, false, ◌&&◌, [], ◌∷◌, eqb, Option, Some, None}
 use Rattle.std.proofs.Common.{sym, subst, eq-eqb}
 use Rattle.std.proofs.Math.Bool.{and-true}
-use Rattle.std.proofs.Math.Option.{Option, none, some}
 use Rattle.rules.specs.Basics.{pick}
 use Rattle.rules.specs.Holds.{Plugin, Registry, lookup}
 use Rattle.rules.specs.Outcomes.{Accepted, answer_of}
@@ -22,11 +21,11 @@ pub record Made (d p : ℕ) (g : Option ℕ) (v : Decision) (s : Slot) : Type 0 
   pub decision : s.decision ≡ v
 
 -- C from_work, enqueue_native_child: the domain, parent and generation handed in; and Pending.
-pub pending_made : (d p g : ℕ) → Made d p (some g) Pending (pending d p g)
+pub pending_made : (d p g : ℕ) → Made d p (Some g) Pending (pending d p g)
 pending_made d p g = record { domain = refl; parent = refl; generation = refl; decision = refl }
 
 -- C from_identity: the identity's domain and parent, no generation; and Assigned with it.
-pub assigned_made : (c : Identity) → Made c.domain c.parent none (Assigned c) (assigned c)
+pub assigned_made : (c : Identity) → Made c.domain c.parent None (Assigned c) (assigned c)
 assigned_made c = record { domain = refl; parent = refl; generation = refl; decision = refl }
 
 -- C registered_child: the slot made from the identity that a registered child answers.
@@ -34,9 +33,9 @@ pub record Registered (r : Registry) (id parent : ℕ) : Type 0 where
   pub child : Identity
   pub answer : answer_of (child_identity r id) ≡ Accepted (child.domain ∷ child.parent ∷ child.id ∷ [])
   pub names : child.id ≡ id
-  pub slot : Made r.domain parent none (Assigned child) (assigned child)
+  pub slot : Made r.domain parent None (Assigned child) (assigned child)
 
-pub registered_child : (r : Registry) (id x : ℕ) (p : Plugin) → lookup r id ≡ some p → p.parent ≡ some x → Registered r id x
+pub registered_child : (r : Registry) (id x : ℕ) (p : Plugin) → lookup r id ≡ Some p → p.parent ≡ Some x → Registered r id x
 registered_child r id x p e f =
     let c : Identity = record { domain = r.domain; parent = x; id = p.id } in
     record { child = c; answer = child_identity_tells r id x p e f; names = lookup_id r id p e; slot = assigned_made c }

@@ -1,10 +1,9 @@
 -- Upstream's clauses on S's provisions and reads.
-use Rattle.std.specs.Prelude.{ℕ, Bool, false, ◌&&◌, ◌||◌, List, [], ◌∷◌, map, ◌⊎◌, ◌↔◌, eqb}
+use Rattle.std.specs.Prelude.{ℕ, Bool, false, ◌&&◌, ◌||◌, List, [], ◌∷◌, map, ◌⊎◌, ◌↔◌, eqb, Option, Some, None}
 use Rattle.std.proofs.Common.{arith, sym, ◌∙◌, subst, true≢false, ⊎_elim}
 use Rattle.std.proofs.Math.Path.{◌≡◌, refl, ap}
 use Rattle.std.proofs.Math.Bool.{true, not, and-true, and-false, and_assoc, or-true}
 use Rattle.std.proofs.lemmas.Simd.{map-map}
-use Rattle.std.proofs.Math.Option.{Option, none, some}
 use Rattle.std.proofs.Math.Logic.{inl, inr}
 use borrow.Author.Tests.{not-false}
 use Rattle.rules.specs.Basics.{pick, any, all, is_some, is_none, holds, same_numbers, yes_no, one}
@@ -44,10 +43,10 @@ value_of (w ∷ vs) v e (inr m) =
     let n = any_false (same_port w.port) (ports vs) v.port c.0 (map_in (λ (v : Provision). v.port) vs v m) in
     rw (same_swap v.port w.port, n) (value_of vs v c.1 m)
 
-offered_in : (k q : Port) (n : ℕ) (vs : List Provision) → value_in k (map (offered q n) vs) ≡ pick (same_port k q && is_in q (ports vs)) (some n) (value_in k vs)
+offered_in : (k q : Port) (n : ℕ) (vs : List Provision) → value_in k (map (offered q n) vs) ≡ pick (same_port k q && is_in q (ports vs)) (Some n) (value_in k vs)
 offered_in k q n [] = rw and-false
 offered_in k q n (v ∷ vs) = rw (offered_in k q n vs) (by_test (same_port k q)
-    (λ y. rw (ap (λ x. same_port x v.port) (same_port_lem k q y), y) (picks (same_port k v.port) (is_in q (ports vs)) (some n) v.value (value_in k vs)))
+    (λ y. rw (ap (λ x. same_port x v.port) (same_port_lem k q y), y) (picks (same_port k v.port) (is_in q (ports vs)) (Some n) v.value (value_in k vs)))
     (λ z. rw z (by_test (same_port k v.port) (λ y. rw (ap (same_port q) (same_port_lem k v.port y) ∙ same_swap q k ∙ z)) (λ m. rw m))))
   where
     picks : (a b : Bool) (x y z : Option ℕ) → pick a (pick a x y) (pick b x z) ≡ pick (a || b) x (pick a y z)
@@ -56,7 +55,7 @@ offered_in k q n (v ∷ vs) = rw (offered_in k q n vs) (by_test (same_port k q)
 
 -- S provide: the port's value becomes the one offered, every other stays;
 pub offered_value : (k q : Port) (n : ℕ) (vs : List Provision) → is_in q (ports vs) ≡ true
-    → value_in k (map (offered q n) vs) ≡ pick (same_port k q) (some n) (value_in k vs)
+    → value_in k (map (offered q n) vs) ≡ pick (same_port k q) (Some n) (value_in k vs)
 offered_value k q n vs m = offered_in k q n vs ∙ rw (m, and-true)
 
 module _ (r : Registry) (id : ℕ) (q : Port) (n : ℕ) where
@@ -73,20 +72,20 @@ module _ (r : Registry) (id : ℕ) (q : Port) (n : ℕ) where
       has_effect r _ _ _ p e (alike p (map-map _ (offered q n) p.provisions))
 
 -- S own: the plugin's own value for the port, or none.
-pub own_value : (r : Registry) (id : ℕ) (q : Port) (p : Plugin) → lookup r id ≡ some p → answer_of (own r id q) ≡ Accepted (one (value_in q p.provisions))
+pub own_value : (r : Registry) (id : ℕ) (q : Port) (p : Plugin) → lookup r id ≡ Some p → answer_of (own r id q) ≡ Accepted (one (value_in q p.provisions))
 unfolding own found
 own_value r id q p e = rw e
 
 -- Where no provision has a value, no port has one.
-pub valueless : (vs : List Provision) → all (λ (v : Provision). is_none v.value) vs ≡ true → (q : Port) → value_in q vs ≡ none
+pub valueless : (vs : List Provision) → all (λ (v : Provision). is_none v.value) vs ≡ true → (q : Port) → value_in q vs ≡ None
 valueless [] e q = refl
 valueless (v ∷ vs) e q =
     let c = both (is_none v.value) _ e in
     by_test (same_port q v.port) (λ y. rw y (absent v.value c.0)) (λ n. rw n (valueless vs c.1 q))
   where
-    absent : (u : Option ℕ) → is_none u ≡ true → u ≡ none
-    absent none t = refl
-    absent (some x) t = absurd (true≢false (sym t))
+    absent : (u : Option ℕ) → is_none u ≡ true → u ≡ None
+    absent None t = refl
+    absent (Some x) t = absurd (true≢false (sym t))
 
 -- S missing: none exactly if no provision lacks a value (complete); otherwise the first that lacks one.
 abbrev pub lacks : Provision → Bool
@@ -110,8 +109,8 @@ complete_values (v ∷ vs) e q m =
     by_test (same_port q v.port) (λ y. rw y (some_not v.value ∙ ap not c.0)) (λ n. rw n (complete_values vs c.1 q (rw n at m)))
   where
     some_not : (u : Option ℕ) → is_some u ≡ not (is_none u)
-    some_not none = refl
-    some_not (some x) = refl
+    some_not None = refl
+    some_not (Some x) = refl
 
 pub missing_value : (vs : List Provision) (v : Provision) → repeats (ports vs) ≡ false → First lacks vs v → is_none (value_in v.port vs) ≡ true
 missing_value vs v e w = ap is_none (value_of vs v e w.member) ∙ w.passes
@@ -133,14 +132,14 @@ says_yes_lem : (b : Bool) → Accepted (yes_no b ∷ []) ≡ Accepted (1 ∷ [])
 says_yes_lem true e = refl
 says_yes_lem false e = let z : ◌≡◌ {A = ℕ} 0 1 = cc in absurd (omega arith)
 
-pub matches_provisions : (r : Registry) (id : ℕ) (l : List ℕ) (p : Plugin) → lookup r id ≡ some p
+pub matches_provisions : (r : Registry) (id : ℕ) (l : List ℕ) (p : Plugin) → lookup r id ≡ Some p
     → answer_of (matching r id l) ≡ Accepted (1 ∷ []) ↔ l ≡ flat (provided p)
 unfolding matching found
 matches_provisions r id l p e = rw (e, matching_numbers l (provided p))
     (λ a. same_true l (flat (provided p)) (says_yes_lem _ a), λ i. rw (same_of l (flat (provided p)) i))
 
 -- S declares_service: yes exactly if the port is a provision, or the plugin runs and it is a dependency.
-pub declares_service : (r : Registry) (id : ℕ) (q : Port) (p : Plugin) → lookup r id ≡ some p
+pub declares_service : (r : Registry) (id : ℕ) (q : Port) (p : Plugin) → lookup r id ≡ Some p
     → answer_of (declares r id q) ≡ Accepted (1 ∷ []) ↔ (In q (provided p) ⊎ ((running p ≡ true) × In q p.dependencies))
 unfolding declares found
 declares_service r id q p e = rw e (
@@ -151,13 +150,13 @@ declares_service r id q p e = rw e (
 )
 
 -- On a built registry a registered plugin that provides a port is its provider.
-pub provider_is : (r : Registry) → Built r → (q : Port) (p : Plugin) → In p (plugins r) → provides p q ≡ true → provider r q ≡ some p
+pub provider_is : (r : Registry) → Built r → (q : Port) (p : Plugin) → In p (plugins r) → provides p q ≡ true → provider r q ≡ Some p
 unfolding provider
 provider_is r b q p m g = go (provider r q) refl
   where
-    go : (u : Option Plugin) → provider r q ≡ u → u ≡ some p
-    go none e = absurd (true≢false (sym g ∙ first_none (λ p. provides p q) (plugins r) p e m))
-    go (some a) e =
+    go : (u : Option Plugin) → provider r q ≡ u → u ≡ Some p
+    go None e = absurd (true≢false (sym g ∙ first_none (λ p. provides p q) (plugins r) p e m))
+    go (Some a) e =
         let w = first_in_lem (λ p. provides p q) (plugins r) a e in
         let i = distinct r b.once a w.0 in
         let j = distinct r b.once p m in
@@ -170,19 +169,19 @@ pub record Sees (r : Registry) (q : Port) (n : ℕ) : Type 0 where
   pub registered : In plugin (plugins r)
   pub gives : provides plugin q ≡ true
   pub active : plugin.phase ≡ Active
-  pub value : value_in q plugin.provisions ≡ some n
+  pub value : value_in q plugin.provisions ≡ Some n
 
 pub visible_exactly : (r : Registry) → Built r → (q : Port) (n : ℕ) → answer_of (visible r q) ≡ Accepted (n ∷ []) ↔ Sees r q n
 unfolding visible provider
 visible_exactly r b q n = (go (provider r q) refl, λ w. rw (provider_is r b q w.plugin w.registered w.gives) (rw (w.active, w.value)))
   where
-    one_value : (u : Option ℕ) → Accepted (one u) ≡ Accepted (n ∷ []) → u ≡ some n
-    one_value none e = cc
-    one_value (some x) e = cc
+    one_value : (u : Option ℕ) → Accepted (one u) ≡ Accepted (n ∷ []) → u ≡ Some n
+    one_value None e = cc
+    one_value (Some x) e = cc
 
     go : (u : Option Plugin) → provider r q ≡ u → Accepted (seen q u) ≡ Accepted (n ∷ []) → Sees r q n
-    go none e a = let z : ◌≡◌ {A = ℕ} 0 1 = cc in absurd (omega arith)
-    go (some p) e a =
+    go None e a = let z : ◌≡◌ {A = ℕ} 0 1 = cc in absurd (omega arith)
+    go (Some p) e a =
         let w = first_in_lem (λ p. provides p q) (plugins r) p e in
         by_test (is_active p.phase)
         (λ y. let i = one_value (value_in q p.provisions) (rw y at a) in
@@ -192,25 +191,25 @@ visible_exactly r b q n = (go (provider r q) refl, λ w. rw (provider_is r b q w
 -- S read: what an accepted read tells.
 pub record Reads (r : Registry) (id : ℕ) (q : Port) (u : Outcome) : Type 0 where
   pub reader : Plugin
-  pub found : lookup r id ≡ some reader
+  pub found : lookup r id ≡ Some reader
   pub runs : running reader ≡ true
   pub depends : In q reader.dependencies
   pub source : Plugin
-  pub provides : provider r q ≡ some source
+  pub provides : provider r q ≡ Some source
   pub value : ℕ
-  pub has : value_in q source.provisions ≡ some value
+  pub has : value_in q source.provisions ≡ Some value
   pub answer : answer_of u ≡ Accepted (value ∷ source.id ∷ [])
   -- refusal 15 keeps the provider Active
   pub active : Built r → source.phase ≡ Active
 
 module _ (r : Registry) (id : ℕ) (q : Port) where
   valued : (u : Option Plugin) → not (is_empty (served q u)) ≡ holds (λ p. is_some (value_in q p.provisions)) u
-  valued none = refl
-  valued (some p) = go (value_in q p.provisions)
+  valued None = refl
+  valued (Some p) = go (value_in q p.provisions)
     where
       go : (u : Option ℕ) → not (is_empty (given p u)) ≡ is_some u
-      go none = refl
-      go (some n) = refl
+      go None = refl
+      go (Some n) = refl
 
   -- .. accepted exactly if it runs, depends on the port, and the provider has a value for it;
   pub read_exactly : accepted (read r id q)
@@ -219,7 +218,7 @@ module _ (r : Registry) (id : ℕ) (q : Port) where
   read_exactly = simp (exact, valued)
 
   -- .. 22 if only the value is missing;
-  pub read_missing : (p : Plugin) → lookup r id ≡ some p → running p ≡ true → is_in q p.dependencies ≡ true
+  pub read_missing : (p : Plugin) → lookup r id ≡ Some p → running p ≡ true → is_in q p.dependencies ≡ true
       → holds (λ b. is_some (value_in q b.provisions)) (provider r q) ≡ false → answer_of (read r id q) ≡ Refused 22 []
   unfolding read found checked
   read_missing p e y m n = let i = not-false (is_empty (served q (provider r q))) (valued (provider r q) ∙ n) in rw e (rw (y, m, i))
@@ -256,6 +255,6 @@ module _ (r : Registry) (id : ℕ) (q : Port) where
             ap (λ (x : Plugin). x.phase) j ∙ v.active;
       }
     where
-      some_value : (u : Option ℕ) → is_some u ≡ true → (n : ℕ) × (u ≡ some n)
-      some_value none h = absurd (true≢false (sym h))
-      some_value (some n) h = (n, refl)
+      some_value : (u : Option ℕ) → is_some u ≡ true → (n : ℕ) × (u ≡ Some n)
+      some_value None h = absurd (true≢false (sym h))
+      some_value (Some n) h = (n, refl)

@@ -1,23 +1,16 @@
 -- The source's types lose nothing of document 01's: a contract allows one outcome.
-use Rattle.std.specs.Prelude.{◌≡◌, refl, ℕ}
+use Rattle.std.specs.Prelude.{◌≡◌, refl, Result}
 use Rattle.std.proofs.Common.{sym, ap, ◌∙◌}
-use Rattle.std.proofs.Math.Option.{Option, none, some}
 use Rattle.rules.specs.Slot as rules
-use Rattle.rules_types.specs.declared.Optional.{Optional}
-use Rattle.rules_types.specs.declared.Optional.TheVariants.{Is, None}
 use Rattle.slot_child.specs.declared.Decision.{Decision}
 use Rattle.slot_child.specs.declared.Decision.TheVariants.{Pending, Assigned, Failed, Cancelled}
 use Rattle.slot_child.specs.declared.Slot.{Slot}
-use Rattle.rules_types.specs.declared.Done.{Done}
-use Rattle.rules.specs.Answers.{option_of, done_exact}
+use Rattle.rules.specs.Refusals.{Refusal}
+use Rattle.rules.specs.Answers.{done_exact}
 use Rattle.slot_child.specs.declared.Decided.{Decided}
 use Rattle.slot_child.specs.Slots.{decision_of, slot_of, decided_of}
 
 -- The way back from document 01's values.
-abbrev optional : Option ℕ → Optional
-optional (some g) = Is g
-optional none = None
-
 abbrev decision : rules.Decision → Decision
 decision rules.Pending = Pending
 decision (rules.Assigned c) = Assigned (record { domain = c.domain; parent = c.parent; id = c.id })
@@ -25,11 +18,7 @@ decision rules.Failed = Failed
 decision rules.Cancelled = Cancelled
 
 abbrev slot : rules.Slot → Slot
-slot s = record { domain = s.domain; parent = s.parent; generation = optional s.generation; decision = decision s.decision }
-
-optional_back : (e : Optional) → optional (option_of e) ≡ e
-optional_back (Is g) = refl
-optional_back None = refl
+slot s = record { domain = s.domain; parent = s.parent; generation = s.generation; decision = decision s.decision }
 
 decision_back : (d : Decision) → decision (decision_of d) ≡ d
 decision_back Pending = refl
@@ -38,7 +27,7 @@ decision_back Failed = refl
 decision_back Cancelled = refl
 
 slot_back : (s : Slot) → slot (slot_of s) ≡ s
-slot_back s = rw (optional_back, decision_back)
+slot_back s = rw decision_back
 
 pub slot_exact : (a b : Slot) → slot_of a ≡ slot_of b → a ≡ b
 slot_exact a b e = sym (slot_back a) ∙ ap slot e ∙ slot_back b
@@ -48,4 +37,4 @@ pub decided_exact : (a b : Decided) → decided_of a ≡ decided_of b → a ≡ 
 decided_exact a b e =
     let s : a.slot ≡ b.slot = slot_exact a.slot b.slot (ap (λ (d : rules.Decided). d.slot) e) in
     let v : a.verdict ≡ b.verdict = done_exact a.verdict b.verdict (ap (λ (d : rules.Decided). d.answer) e) in
-    ap (λ (x : Slot). record { slot = x; verdict = a.verdict }) s ∙ ap (λ (x : Done). record { slot = b.slot; verdict = x }) v
+    ap (λ (x : Slot). record { slot = x; verdict = a.verdict }) s ∙ ap (λ (x : Result Unit Refusal). record { slot = b.slot; verdict = x }) v

@@ -9,7 +9,7 @@ use Rattle.slot_child.specs.declared.Identity.{Identity}
 use Rattle.slot_child.specs.declared.Decision.{Decision}
 use Rattle.slot_child.specs.declared.Decision.TheVariants.{Pending, Assigned, Failed, Cancelled}
 use Rattle.slot_child.specs.declared.Slot.{Slot}
-use Rattle.rules.specs.Answers.{done_answer, option_of}
+use Rattle.rules.specs.Answers.{done_answer}
 use Rattle.slot_child.specs.declared.Decided.{Decided}
 
 abbrev pub identity_of : Identity → retirement.Identity
@@ -26,7 +26,7 @@ decision_of Failed = rules.Failed
 decision_of Cancelled = rules.Cancelled
 
 abbrev pub slot_of : Slot → rules.Slot
-slot_of s = record { domain = s.domain; parent = s.parent; generation = option_of s.generation; decision = decision_of s.decision }
+slot_of s = record { domain = s.domain; parent = s.parent; generation = s.generation; decision = decision_of s.decision }
 
 abbrev pub decided_of : Decided → rules.Decided
 decided_of d = record { slot = slot_of d.slot; answer = done_answer d.verdict }

@@ -6,7 +6,7 @@ ghost use Rattle.rules.specs.Outcomes.{Accepted};
 ghost use Rattle.rules.specs.Slot as rules;
 ghost use Rattle.slot_child.specs.Slots.{slot_of, identity_of, is_of, decision_of, decided_of, refused_of};
 
-use rules::{Done, Optional, refusal};
+use rules::Refusal;
 
 // A child identity.
 #[derive(Clone, Copy)]
@@ -40,14 +40,14 @@ pub enum Decision {
 pub struct Slot {
     pub domain: u64,
     pub parent: u64,
-    pub generation: Optional,
+    pub generation: Option<u64>,
     pub decision: Decision,
 }
 
 #[derive(Clone, Copy)]
 pub struct Decided {
     pub slot: Slot,
-    pub verdict: Done,
+    pub verdict: Result<(), Refusal>,
 }
 
 impl Slot {
@@ -57,7 +57,7 @@ impl Slot {
         Slot {
             domain: domain,
             parent: parent,
-            generation: Optional::Is(generation),
+            generation: Some(generation),
             decision: Decision::Pending,
         }
     }
@@ -68,7 +68,7 @@ impl Slot {
         Slot {
             domain: child.domain,
             parent: child.parent,
-            generation: Optional::None,
+            generation: None,
             decision: Decision::Assigned(child),
         }
     }
@@ -100,7 +100,7 @@ impl Slot {
     {
         Decided {
             slot: self,
-            verdict: Done::Refused(refusal::INVALID_STATE),
+            verdict: Err(Refusal::InvalidState),
         }
     }
 
@@ -129,7 +129,7 @@ impl Slot {
                 generation: generation,
                 decision: next,
             },
-            verdict: Done::Accepted,
+            verdict: Ok(()),
         }
     }
 }

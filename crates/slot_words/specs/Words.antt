@@ -1,9 +1,8 @@
 -- Where a child slot's eight words are, and what they say: whatever the words are, they are a slot.
-use Rattle.std.specs.Prelude.{ℕ, zero, suc, ◌≡◌, refl, true, false, ◌&&◌}
+use Rattle.std.specs.Prelude.{ℕ, zero, suc, ◌≡◌, refl, true, false, ◌&&◌, Option, Some, None}
 use Rattle.std.proofs.Common.{ap, ◌∙◌, arith}
 use Rattle.std.proofs.Math.Bool.{Bool}
 use mathlib.Core.List.{List, [], ◌∷◌}
-use Rattle.std.proofs.Math.Option.{Option, none, some}
 use Rattle.std.proofs.Math.ListN.{length}
 use Rattle.rules.specs.Basics.{pick}
 use Rattle.rules.specs.Refusals.{number, InvalidState}
@@ -11,8 +10,6 @@ use Rattle.rules.specs.Outcomes.{Answer, Refused, Accepted}
 use Rattle.rules.specs.Retirement as retirement
 use Rattle.rules.specs.Slot as rules
 use Rattle.slot_child.specs.declared.Identity.{Identity}
-use Rattle.rules_types.specs.declared.Optional.{Optional}
-use Rattle.rules_types.specs.declared.Optional.TheVariants.{Is, None}
 use Rattle.slot_child.specs.declared.Decision.{Decision}
 use Rattle.slot_child.specs.declared.Decision.TheVariants.{Pending, Assigned, Failed, Cancelled}
 use Rattle.slot_child.specs.declared.Slot.{Slot}
@@ -21,9 +18,9 @@ use Rattle.memory.specs.Layout.{word}
 use Rattle.memory.specs.Writes.{puts}
 use Rattle.memory.specs.Frames.{puts_length}
 
-abbrev pub generation_in : ℕ → ℕ → Optional
+abbrev pub generation_in : ℕ → ℕ → Option ℕ
 generation_in zero g = None
-generation_in (suc n) g = Is g
+generation_in (suc n) g = Some g
 
 abbrev pub decision_in : ℕ → Identity → Decision
 decision_in zero c = Pending
@@ -42,8 +39,8 @@ slot_at m = record {
 
 -- Only the words that say something are put; the others stay as they were.
 abbrev pub generation_words : Option ℕ → List ℕ
-generation_words none = 0 ∷ []
-generation_words (some g) = 1 ∷ g ∷ []
+generation_words None = 0 ∷ []
+generation_words (Some g) = 1 ∷ g ∷ []
 
 abbrev pub decision_words : rules.Decision → List ℕ
 decision_words rules.Pending = 0 ∷ []
@@ -109,8 +106,8 @@ origin_put s = any_words 8 (λ m. rules.with_decision (slot_of (slot_at (put_ori
     with o = record { domain = s.domain; parent = s.parent; generation = o; decision = s.decision }
 
     put : (o : Option ℕ) → AnyWords 8 (λ m. rules.with_decision (slot_of (slot_at (put_origin m (with o)))) s.decision ≡ with o)
-    put none a b c d e f g h = refl
-    put (some n) a b c d e f g h = refl
+    put None a b c d e f g h = refl
+    put (Some n) a b c d e f g h = refl
 
 module _ (m : List ℕ) (l : length m ≡ 8) where
   -- What was stored is what is loaded, whatever the words were.

@@ -3,22 +3,22 @@
 
 ghost use Rattle.std.specs.Prelude.{◌≡◌};
 ghost use Rattle.rules.specs.Slot as rules;
-ghost use Rattle.rules.specs.Answers.{done_answer, option_of};
+ghost use Rattle.rules.specs.Answers.{done_answer};
 ghost use Rattle.slot_child.specs.Slots.{identity_of, decision_of, slot_of, decided_of};
 ghost use Rattle.slot_words.specs.Words.{generation_in, decision_in, slot_at, put_generation, put_decision, put_slot, Decides};
 
-use rules::{Done, Optional, refusal};
+use rules::Refusal;
 use slot_child::{Decided, Decision, Identity, Slot};
 
 // Domain, parent, whether there is a generation, generation, decision, and the assigned identity's three.
 pub const SLOT: usize = 8;
 
-fn generation_of(has: u64, generation: u64) -> Optional
+fn generation_of(has: u64, generation: u64) -> Option<u64>
     ensures { result ≡ generation_in has generation }
 {
     match has {
-        0 => Optional::None,
-        _ => Optional::Is(generation),
+        0 => None,
+        _ => Some(generation),
     }
 }
 
@@ -35,15 +35,15 @@ fn decision_of(w: u64, child: Identity) -> Decision
 }
 
 // Whether there is a generation, and the generation if there is one.
-fn put_generation(s: &mut [u64; SLOT], generation: Optional)
-    ensures { s.new ≡ put_generation s.old (option_of generation) }
+fn put_generation(s: &mut [u64; SLOT], generation: Option<u64>)
+    ensures { s.new ≡ put_generation s.old generation }
 {
     match generation {
-        Optional::Is(number) => {
+        Some(number) => {
             s[2] = 1;
             s[3] = number;
         }
-        Optional::None => {
+        None => {
             s[2] = 0;
         }
     }
@@ -80,64 +80,50 @@ pub fn load(s: &[u64; SLOT]) -> Slot
         parent: s[6],
         id: s[7],
     };
-    let generation = generation_of(s[2], s[3]);
-    let decision = decision_of(s[4], child);
     Slot {
         domain: s[0],
         parent: s[1],
-        generation: generation,
-        decision: decision,
+        generation: generation_of(s[2], s[3]),
+        decision: decision_of(s[4], child),
     }
 }
 
 pub fn store(s: &mut [u64; SLOT], slot: Slot)
     ensures { s.new ≡ put_slot s.old (slot_of slot) }
 {
-    let generation = slot.generation;
-    let decision = slot.decision;
     s[0] = slot.domain;
     s[1] = slot.parent;
-    put_generation(s, generation);
-    put_decision(s, decision);
+    put_generation(s, slot.generation);
+    put_decision(s, slot.decision);
 }
 
 // A decision that was taken is stored; a refused one stores nothing.
-fn decided(s: &mut [u64; SLOT], d: Decided) -> Done
+fn decided(s: &mut [u64; SLOT], d: Decided) -> Result<(), Refusal>
     ensures { Decides (decided_of d) s.old (done_answer result) s.new }
 {
-    let verdict = d.verdict;
-    match verdict {
-        Done::Accepted => {
-            let slot = d.slot;
-            let decision = slot.decision;
-            put_decision(s, decision);
-            Done::Accepted
-        }
-        Done::Refused(why) => Done::Refused(why),
-    }
+    d.verdict?;
+    put_decision(s, d.slot.decision);
+    Ok(())
 }
 
-pub fn assign(s: &mut [u64; SLOT], child: Identity) -> Done
+pub fn assign(s: &mut [u64; SLOT], child: Identity) -> Result<(), Refusal>
     ensures { Decides (rules.assign (slot_of (slot_at s.old)) (identity_of child)) s.old (done_answer result) s.new }
 {
     // A foreign child is refused before the decision is read.
     if !child.is_of(s[0], s[1]) {
-        return Done::Refused(refusal::INVALID_STATE);
+        return Err(Refusal::InvalidState);
     }
-    let held = load(s);
-    decided(s, held.assign(child))
+    decided(s, load(s).assign(child))
 }
 
-pub fn reject(s: &mut [u64; SLOT]) -> Done
+pub fn reject(s: &mut [u64; SLOT]) -> Result<(), Refusal>
     ensures { Decides (rules.reject (slot_of (slot_at s.old))) s.old (done_answer result) s.new }
 {
-    let held = load(s);
-    decided(s, held.reject())
+    decided(s, load(s).reject())
 }
 
-pub fn cancel(s: &mut [u64; SLOT]) -> Done
+pub fn cancel(s: &mut [u64; SLOT]) -> Result<(), Refusal>
     ensures { Decides (rules.cancel (slot_of (slot_at s.old))) s.old (done_answer result) s.new }
 {
-    let held = load(s);
-    decided(s, held.cancel())
+    decided(s, load(s).cancel())
 }

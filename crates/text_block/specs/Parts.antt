@@ -1,7 +1,6 @@
 -- A plugin's block in the parts that are written one behind the other.
-use Rattle.std.specs.Prelude.{ℕ, ◌+◌, ◌≡◌, refl, Bool, List, [], ◌∷◌, ◌++◌, length}
+use Rattle.std.specs.Prelude.{ℕ, ◌≡◌, refl, Bool, List, [], ◌∷◌, ◌++◌, length, Option, Some, None}
 use Rattle.std.proofs.Common.{◌∙◌, subst, append_assoc}
-use Rattle.std.proofs.Math.Option.{Option, none, some}
 use Rattle.rules_types.specs.declared.Port.{Port}
 use Rattle.rules_types.specs.declared.Phase.{Phase}
 use Rattle.rules_types.specs.declared.Root.{Root}
@@ -65,8 +64,8 @@ provisions_lines vs = (line "provs" number).write (length vs) ++ provision_lines
 
 -- The lines by their bytes are the lines of the text's form.
 pub or_none_lem : (o : Option ℕ) → number_or_none.write o ≡ or_none o
-or_none_lem (some n) = refl
-or_none_lem none = refl
+or_none_lem (Some n) = refl
+or_none_lem None = refl
 
 pub root_lines_lem : (r : Root) → root_and_queued.write r ≡ root_lines r
 root_lines_lem Unissued = refl

@@ -4,7 +4,6 @@
 
 ghost use Rattle.std.specs.Prelude.{◌≡◌, ◌%◌};
 ghost use Rattle.memory.specs.Layout.{places};
-ghost use Rattle.rules.specs.Answers.{option_of};
 ghost use Rattle.rules.specs.Ports.{pairs, realm_list};
 ghost use Rattle.memory.specs.View.{plugin_at};
 ghost use Rattle.memory_values.specs.Values.{value_below};
@@ -13,25 +12,15 @@ ghost use Rattle.text_lines.specs.Laid.{Laid};
 ghost use Rattle.text_block.specs.Parts.{name_lines, phase_line, retired_line, life_lines, ports_lines, realm_lines, list_lines, provision_line};
 ghost use Rattle.text_block.specs.Parts.{provisions_lines};
 
-use memory::{Life, Parent, WORDS};
-use rules::{Optional, Phase};
-
-fn parent(m: &[u64; WORDS], place: usize) -> Optional
-    ensures { option_of result ≡ (plugin_at m.now (place % places)).parent }
-{
-    let parent = memory::parent_of(m, place);
-    match parent {
-        Parent::Of(id) => Optional::Is(id),
-        Parent::None => Optional::None,
-    }
-}
+use memory::{Life, WORDS};
+use rules::Phase;
 
 // id and parent
 fn name_lines(m: &[u64; WORDS], place: usize, text: &mut [u8], at: usize) -> usize
     ensures { Laid (name_lines (plugin_at m.now (place % places))) at text.old text.new result }
 {
     let behind = text_lines::number_line(text, at, b"id=", memory::id(m, place));
-    text_lines::optional_line(text, behind, b"parent=", parent(m, place))
+    text_lines::optional_line(text, behind, b"parent=", memory::parent_of(m, place))
 }
 
 // 0 to 3 in table order
@@ -61,14 +50,12 @@ fn retired_line(text: &mut [u8], at: usize, retired: bool) -> usize
 fn life_lines(text: &mut [u8], at: usize, life: Life) -> usize
     ensures { Laid (life_lines life) at text.old text.new result }
 {
-    let phase = life.phase;
-    let root = life.root;
-    let retired = phase_line(text, at, phase);
+    let retired = phase_line(text, at, life.phase);
     let generation = retired_line(text, retired, life.retired);
     let revision = text_lines::number_line(text, generation, b"generation=", life.generation.0);
     let payload = text_lines::number_line(text, revision, b"revision=", life.revision);
     let queue = text_lines::number_line(text, payload, b"payload=", life.payload);
-    text_lines::root_lines(text, queue, root)
+    text_lines::root_lines(text, queue, life.root)
 }
 
 // A count, and a line for each port.
@@ -138,10 +125,8 @@ fn provision_lines(m: &[u64; WORDS], place: usize, text: &mut [u8], at: usize) -
 {
     let words = memory_lists::provision_words(m, place);
     let mut behind = text_lines::number_line(text, at, b"provs=", (words.len() / 2) as u64);
-    let mut j: usize = 0;
-    while j < words.len() / 2 {
+    for j in 0..words.len() / 2 {
         behind = provision_line(m, place, text, behind, j, words[j * 2], words[j * 2 + 1]);
-        j += 1;
     }
     behind
 }

@@ -4,14 +4,6 @@
 ghost use Rattle.std.specs.Prelude.{◌≡◌, ◌≤◌, length};
 ghost use Rattle.text_form.specs.Digits.{decimal_of, over, shown, Written};
 ghost use Rattle.text_form.specs.Words.{value_from, number_of};
-ghost use Rattle.text_decimal.specs.Numbers.{read_of};
-
-// The number that a word is, if it is one.
-#[derive(Clone, Copy)]
-pub enum Decimal {
-    Is(u64),
-    None,
-}
 
 // How many digits a number has: four for each time that it is divided by 10,000, and those of what is left.
 pub fn digit_count(n: u64) -> usize
@@ -84,41 +76,35 @@ pub fn write_decimal<'a>(n: u64, scratch: &'a mut [u8]) -> &'a mut [u8]
 }
 
 // The number that these bytes are, each a digit; leading zeros count for nothing.
-fn read_digits(word: &[u8]) -> Decimal
-    ensures { read_of result ≡ value_from 0 word.now }
+fn read_digits(word: &[u8]) -> Option<u64>
+    ensures { result ≡ value_from 0 word.now }
 {
     let mut n: u64 = 0;
-    let mut i: usize = 0;
-    while i < word.len() {
-        let b = word[i];
-        if b < 48 {
-            return Decimal::None;
+    for byte in word {
+        if !byte.is_ascii_digit() {
+            return None;
         }
-        if 57 < b {
-            return Decimal::None;
-        }
-        let digit = (b - 48) as u64;
+        let digit = (*byte - b'0') as u64;
         if (u64::MAX - digit) / 10 < n {
-            return Decimal::None;
+            return None;
         }
         n = n * 10 + digit;
-        i += 1;
     }
-    Decimal::Is(n)
+    Some(n)
 }
 
-pub fn read_decimal(word: &[u8]) -> Decimal
-    ensures { read_of result ≡ number_of word.now }
+pub fn read_decimal(word: &[u8]) -> Option<u64>
+    ensures { result ≡ number_of word.now }
 {
     if word.len() == 0 {
-        return Decimal::None;
+        return None;
     }
     if word.len() == 1 {
         return read_digits(word);
     }
     let leading_zero = word[0] == 48;
     if leading_zero {
-        return Decimal::None;
+        return None;
     }
     read_digits(word)
 }

@@ -1,6 +1,6 @@
 -- The laws of forms: each way to make a form from others keeps both.
+use Rattle.std.specs.Prelude.{Some}
 use Rattle.std.proofs.Common.{ℕ, zero, suc, ◌≡◌, refl, List, [], ◌∷◌, ◌++◌, ◌⊎◌, eqb, length, arith, sym, ap, ◌∙◌, subst, append_assoc, append-nil, inl, inr, eqb-true, eq-eqb}
-use Rattle.std.proofs.Math.Option.{some}
 use Rattle.rules_basics.specs.Tests.{by_test}
 use Rattle.text_form.specs.Forms.{Read, found, torn, and_then, or_else, Form, Lawful, nothing, expect, read_behind, behind, literal, read_then, FitsThen, write_then, ◌then◌, FitsEither, write_either, read_either, either, read_any, one_of, write_as, read_as, like, FitAll, write_all, read_many, FitsCounted, write_counted, read_counted, counted, alone, read_text}
 
@@ -173,13 +173,13 @@ module _ {A : Type 0} {n : Form ℕ} {f : Form A} (c : Lawful n) (lawful : Lawfu
 
 -- A text that is nothing but what a form writes.
 module _ {A : Type 0} (f : Form A) (l : Lawful f) where
-  pub read_written : (a : A) → f.Fits a → read_text f (f.write a) ≡ some a
+  pub read_written : (a : A) → f.Fits a → read_text f (f.write a) ≡ Some a
   read_written a h = let e : f.read (f.write a) ≡ found a [] = rw (append-nil (f.write a)) at (l.back a [] h) in rw e
 
-  pub written_read : (t : List ℕ) (a : A) → read_text f t ≡ some a → f.Fits a × (f.write a ≡ t)
+  pub written_read : (t : List ℕ) (a : A) → read_text f t ≡ Some a → f.Fits a × (f.write a ≡ t)
   written_read t a = go (f.read t) refl
     where
-      go : (x : Read A) → f.read t ≡ x → alone x ≡ some a → f.Fits a × (f.write a ≡ t)
+      go : (x : Read A) → f.read t ≡ x → alone x ≡ Some a → f.Fits a × (f.write a ≡ t)
       go (found b []) p e = let i : b ≡ a = cc in let x = l.exact t a [] (cc) in (x.0, sym (append-nil (f.write a)) ∙ x.1)
       go (found b (c ∷ r)) p e = let z : ◌≡◌ {A = ℕ} 0 1 = cc in absurd (omega arith)
       go torn p e = let z : ◌≡◌ {A = ℕ} 0 1 = cc in absurd (omega arith)

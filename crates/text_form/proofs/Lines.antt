@@ -1,7 +1,7 @@
 -- The laws of lines.
+use Rattle.std.specs.Prelude.{Option, Some, None}
 use Rattle.std.proofs.Common.{ℕ, ◌≡◌, refl, List, ◌++◌, ◌⊎◌, inl, inr}
 use Prim.Native.String.{String}
-use Rattle.std.proofs.Math.Option.{Option, none, some}
 use Rattle.text_form.specs.Bytes.{bytes}
 use Rattle.text_form.specs.Words.{number_of, value_from}
 use Rattle.text_form.specs.Forms.{torn, Form, Lawful, literal, either}
@@ -27,8 +27,8 @@ option_there (inl n) = refl
 option_there (inr u) = refl
 
 pub option_again : (b : Option ℕ) → to_option (from_option b) ≡ b
-option_again (some n) = refl
-option_again none = refl
+option_again (Some n) = refl
+option_again None = refl
 
 pub none_apart : (u : Unit {0}) (rest : List ℕ) → number.read ((literal (bytes "none\n")).write u ++ rest) ≡ torn
 unfolding read_number up_to number_of value_from

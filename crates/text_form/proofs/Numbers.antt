@@ -1,6 +1,6 @@
 -- A number with a byte behind it that is no digit is read back, and only what is written is read.
+use Rattle.std.specs.Prelude.{Option, Some, None}
 use Rattle.std.proofs.Common.{ℕ, ◌≤◌, ◌≡◌, true, false, refl, sym, subst, ap, ◌∙◌, List, [], ◌∷◌, ◌++◌, append_assoc, eqb, eqb-true, eq-eqb}
-use Rattle.std.proofs.Math.Option.{Option, none, some}
 use Rattle.rules_basics.specs.Basics.{any, last}
 use Rattle.rules_basics.specs.Tests.{by_test, neither}
 use Rattle.text_form.specs.Digits.{decimal_of}
@@ -47,8 +47,8 @@ module _ (stop : ℕ) (h : no_digit stop ≡ true) where
     where
       go : (w r : List ℕ) (m : Option ℕ) → number_of w ≡ m → w ++ stop ∷ r ≡ t → or_torn m r ≡ found n rest
           → (n ≤ last) × ((decimal_of n ++ stop ∷ []) ++ rest ≡ t)
-      go w r none i j k = torn_found n rest k
-      go w r (some m) i j k =
+      go w r None i j k = torn_found n rest k
+      go w r (Some m) i j k =
           let x = number_exact w n (cc) in
           let s : r ≡ rest = cc in
           (x.1, append_assoc (decimal_of n) (stop ∷ []) rest ∙ rw (x.0, sym s) j)

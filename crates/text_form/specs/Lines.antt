@@ -1,7 +1,6 @@
 -- Lines: a key and a value, each value with the byte that ends it. 10 ends a line.
-use Rattle.std.specs.Prelude.{ℕ, List, ◌++◌, ◌⊎◌}
+use Rattle.std.specs.Prelude.{ℕ, List, ◌++◌, ◌⊎◌, Option, Some, None}
 use Prim.Native.String.{String}
-use Rattle.std.proofs.Math.Option.{Option, none, some}
 use Rattle.std.proofs.Common.{inl, inr}
 use Rattle.text_form.specs.Bytes.{bytes}
 use Rattle.text_form.specs.Forms.{Form, behind, literal, either, like, counted}
@@ -24,12 +23,12 @@ comma = number_to 44
 
 -- number or none
 abbrev pub from_option : Option ℕ → ℕ ⊎ Unit {0}
-from_option (some n) = inl n
-from_option none = inr tt
+from_option (Some n) = inl n
+from_option None = inr tt
 
 abbrev pub to_option : ℕ ⊎ Unit {0} → Option ℕ
-to_option (inl n) = some n
-to_option (inr u) = none
+to_option (inl n) = Some n
+to_option (inr u) = None
 
 abbrev pub number_or_none : Form (Option ℕ)
 number_or_none = like (either number (literal (bytes "none\n"))) from_option to_option

@@ -1,7 +1,6 @@
 -- Numbers: decimal digits and a byte that is no digit behind them.
-use Rattle.std.specs.Prelude.{ℕ, ◌≤◌, List, [], ◌∷◌, ◌++◌, eqb, length}
+use Rattle.std.specs.Prelude.{ℕ, ◌≤◌, List, [], ◌∷◌, ◌++◌, eqb, length, Option, Some, None}
 use Rattle.std.proofs.Common.{arith}
-use Rattle.std.proofs.Math.Option.{Option, none, some}
 use Rattle.rules_basics.specs.Basics.{pick, last}
 use Rattle.text_form.specs.Digits.{decimal_of}
 use Rattle.text_form.specs.Words.{number_of}
@@ -14,8 +13,8 @@ up_to stop [] = torn
 up_to stop (b ∷ t) = pick (eqb b stop) (found [] t) (and_then (up_to stop t) (λ w r. found (b ∷ w) r))
 
 abbrev pub or_torn : Option ℕ → List ℕ → Read ℕ
-or_torn none r = torn
-or_torn (some n) r = found n r
+or_torn None r = torn
+or_torn (Some n) r = found n r
 
 -- The digits of a number, up to that byte.
 unfoldable pub read_number : ℕ → List ℕ → Read ℕ

@@ -1,7 +1,6 @@
 -- Plugins by rising id: the order is strict, holds just what `lookup` finds, and is the only one that does.
-use Rattle.std.specs.Prelude.{ℕ, suc, ◌+◌, ◌≤◌, ◌<◌, ◌≡◌, refl, false, List, [], ◌∷◌, ◌⊎◌, eqb, ltb, length}
+use Rattle.std.specs.Prelude.{ℕ, suc, ◌+◌, ◌≤◌, ◌<◌, ◌≡◌, refl, false, List, [], ◌∷◌, ◌⊎◌, eqb, ltb, length, Option, Some, None}
 use Rattle.std.proofs.Common.{arith, sym, ap, ◌∙◌, inl, inr, ⊎_elim, ltb-true, ltb-false, eqb-true, eq-eqb, ne_eqb}
-use Rattle.std.proofs.Math.Option.{Option, none, some}
 use Rattle.std.proofs.lemmas.Bool.{eqb-false}
 use Rattle.rules.specs.Basics.{pick, any, first, sum, twice}
 use Rattle.rules.specs.Holds.{Plugin, Registry, plugins, lookup, count}
@@ -24,23 +23,23 @@ Rises [] = Unit {0}
 Rises (p ∷ l) = Above p.id l × Rises l
 
 -- What is found in a list.
-of_first : (x : ℕ) (p : Plugin) (l : List Plugin) → p.id ≡ x → of_id x (p ∷ l) ≡ some p
+of_first : (x : ℕ) (p : Plugin) (l : List Plugin) → p.id ≡ x → of_id x (p ∷ l) ≡ Some p
 of_first x p l e = rw (eq-eqb p.id x e)
 
 of_other : (x : ℕ) (p : Plugin) (l : List Plugin) → (p.id ≡ x → ⊥) → of_id x (p ∷ l) ≡ of_id x l
 of_other x p l e = rw (ne_eqb p.id x e)
 
-of_above : (x : ℕ) (l : List Plugin) → Above x l → of_id x l ≡ none
+of_above : (x : ℕ) (l : List Plugin) → Above x l → of_id x l ≡ None
 of_above x [] h = refl
 of_above x (p ∷ l) h = let a = h p (inl refl) in of_other x p l (λ e. omega arith) ∙ of_above x l (λ q m. h q (inr m))
 
-of_in : (x : ℕ) (l : List Plugin) (p : Plugin) → of_id x l ≡ some p → In p l × (p.id ≡ x)
+of_in : (x : ℕ) (l : List Plugin) (p : Plugin) → of_id x l ≡ Some p → In p l × (p.id ≡ x)
 of_in x l p e = let r = first_in_lem (λ (q : Plugin). eqb q.id x) l p e in (r.0, eqb-true p.id x r.1)
 
 -- In a rising list each plugin is found by its id.
-rising_found : (l : List Plugin) (p : Plugin) → Rises l → In p l → of_id p.id l ≡ some p
+rising_found : (l : List Plugin) (p : Plugin) → Rises l → In p l → of_id p.id l ≡ Some p
 rising_found [] p h x'' = elim x'' [ ]
-rising_found (q ∷ l) p h (inl e) = of_first p.id q l (ap (λ (x : Plugin). x.id) e) ∙ ap some e
+rising_found (q ∷ l) p h (inl e) = of_first p.id q l (ap (λ (x : Plugin). x.id) e) ∙ ap Some e
 rising_found (q ∷ l) p h (inr m) = let a = h.0 p m in of_other p.id q l (λ e. omega arith) ∙ rising_found l p h.1 m
 
 -- Two rising lists that find the same plugins are the same.
@@ -177,17 +176,17 @@ by_id_sum f [] = omega arith
 by_id_sum f (p ∷ l) = omega (arith, insert_sum f p (by_id l), by_id_sum f l)
 
 -- Where no id stands twice, it holds every plugin.
-insert_length : (p : Plugin) (l : List Plugin) → of_id p.id l ≡ none → length (insert p l) ≡ suc (length l)
+insert_length : (p : Plugin) (l : List Plugin) → of_id p.id l ≡ None → length (insert p l) ≡ suc (length l)
 unfolding insert
 insert_length p [] e = refl
 insert_length p (q ∷ l) e =
     by_test (eqb q.id p.id)
-    (λ t. let i : some q ≡ none = rw t at e in let z : ◌≡◌ {A = ℕ} 0 1 = cc in absurd (omega arith))
+    (λ t. let i : Some q ≡ None = rw t at e in let z : ◌≡◌ {A = ℕ} 0 1 = cc in absurd (omega arith))
     (λ f.
     let more = insert_length p l (rw f at e) in
     by_test (ltb q.id p.id) (λ y. rw y (ap suc more)) (λ n. rw (n, f)))
 
-absent : (x : ℕ) (l : List Plugin) → any (eqb x) (ids_of l) ≡ false → of_id x l ≡ none
+absent : (x : ℕ) (l : List Plugin) → any (eqb x) (ids_of l) ≡ false → of_id x l ≡ None
 absent x [] e = refl
 absent x (p ∷ l) e =
     let h = neither (eqb x p.id) (any (eqb x) (ids_of l)) e in
@@ -206,7 +205,7 @@ by_id_all l p e m = (of_in p.id (by_id l) p (by_id_found p.id l ∙ found_once (
 -- On a built registry: every registered plugin once, by strictly rising id, and the count is the registered count.
 pub record InOrder (r : Registry) : Type 0 where
   pub rises : Rises (by_id (plugins r))
-  pub registered : (p : Plugin) → In p (by_id (plugins r)) → lookup r p.id ≡ some p
+  pub registered : (p : Plugin) → In p (by_id (plugins r)) → lookup r p.id ≡ Some p
   pub all : (p : Plugin) → In p (plugins r) → In p (by_id (plugins r))
   pub counted : length (by_id (plugins r)) ≡ count r
 

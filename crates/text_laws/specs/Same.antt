@@ -1,7 +1,6 @@
 -- The text tells two registries apart exactly where they differ in more than the plugins' places.
-use Rattle.std.specs.Prelude.{ℕ, ◌≡◌}
+use Rattle.std.specs.Prelude.{ℕ, ◌≡◌, Some}
 use Rattle.std.proofs.Common.{sym, ap, ◌∙◌}
-use Rattle.std.proofs.Math.Option.{some}
 use Rattle.rules.specs.Holds.{Registry, plugins, lookup}
 use Rattle.rules.specs.Text.{text, Said, by_id, said, text_of, read_text}
 use Rattle.rules.proofs.Text.{read_written}
@@ -24,7 +23,7 @@ same_text r s h =
 pub text_same : (r s : Registry) → text.Fits (said r) → text.Fits (said s) → text_of r ≡ text_of s → Same r s
 unfolding lookup
 text_same r s hr hs e =
-    let i : some (said r) ≡ some (said s) = sym (read_written r hr) ∙ ap read_text e ∙ read_written s hs in
+    let i : Some (said r) ≡ Some (said s) = sym (read_written r hr) ∙ ap read_text e ∙ read_written s hs in
     let j : said r ≡ said s = cc in
     let k : by_id (plugins r) ≡ by_id (plugins s) = ap (λ (x : Said). x.plugins) j in
     record {

@@ -1,8 +1,7 @@
 -- How long a text can be: a bound for each way to make a form, and so one for the registry's text.
-use Rattle.std.specs.Prelude.{ℕ, ◌+◌, ◌*◌, ◌≤◌, ◌≡◌, refl, Bool, true, false, List, [], ◌∷◌, ◌++◌, ◌⊎◌, length}
+use Rattle.std.specs.Prelude.{ℕ, ◌+◌, ◌*◌, ◌≤◌, ◌≡◌, refl, Bool, true, false, List, [], ◌∷◌, ◌++◌, ◌⊎◌, length, Some, None}
 use Prim.Native.String.{String}
 use Rattle.std.proofs.Common.{mul-suc, arith, inl, inr, length-append}
-use Rattle.std.proofs.Math.Option.{none, some}
 use Rattle.rules.specs.Basics.{sum, last}
 use Rattle.rules_types.specs.declared.Phase.{Phase}
 use Rattle.rules_types.specs.declared.Phase.TheVariants.{Idle, Loading, Active, Unloading}
@@ -204,8 +203,8 @@ text_most r l o =
 
 pub held_most : (ps : Places) → length (held ps) ≤ length ps
 held_most [] = omega arith
-held_most (none ∷ ps) = omega (arith, held_most ps)
-held_most (some p ∷ ps) = omega (arith, held_most ps)
+held_most (None ∷ ps) = omega (arith, held_most ps)
+held_most (Some p ∷ ps) = omega (arith, held_most ps)
 
 pub rows_most : (l : List Plugin) → ((p : Plugin) → In p l → Lists p) → sum_rows l ≤ 64 * length l
 rows_most [] o = omega arith

@@ -1,10 +1,10 @@
 -- How long the text's parts are, by the digits of their numbers.
-use Prim.Native.Nat.{ℕ, ◌+◌, ◌-◌, ◌*◌, ◌/◌, ◌≤◌, ◌<◌}
+use Rattle.std.specs.Prelude.{Option}
+use Prim.Native.Nat.{ℕ, ◌+◌, ◌*◌, ◌/◌, ◌≤◌, ◌<◌}
 use native.Mathlib.Omega.{arith}
 use mathlib.Core.Path.{◌≡◌, refl, sym, ap, ◌∙◌}
 use mathlib.Core.Bool.{Bool, true, false}
 use mathlib.Core.List.{List, ◌++◌}
-use mathlib.Core.Option.{Option}
 use lib.ListN.{length, get_or, drop, length-append}
 use Rattle.rules_types.specs.declared.Port.{Port}
 use Rattle.rules_types.specs.declared.Phase.{Phase}
@@ -19,7 +19,7 @@ use Rattle.memory.specs.Layout.{id_at, dep_part, prov_part, realm_part}
 use Rattle.memory.specs.View.{life_at, anchor_at, plugin_at}
 use Rattle.memory_values.specs.Values.{value_below}
 use Rattle.memory.specs.declared.Life.{Life}
-use Rattle.ports.specs.Places.{pairs_behind, pairs_end}
+use Rattle.ports.specs.Places.{pairs_end}
 use Rattle.text_lines.specs.Lines.{ended, or_none, pair, triple, root_lines, port_lines}
 use Rattle.text_block.specs.Parts.{name_lines, phase_line, retired_line, life_lines, ports_lines, list_lines, provision_line, provisions_lines}
 use Rattle.text_block.specs.Laws.{ports_bytes, realm_bytes, provs_from, name_bytes, list_bytes, one_provision, no_provision, provision_bytes, block_bytes}
@@ -58,21 +58,14 @@ pub life_length
 unfolding life_lines
 life_length l = simp length-append (omega (arith, phase_length l.phase, retired_length l.retired))
 
--- A count and ports: at first, with the port whose realm is the i-th number, and with none left.
+-- A count and ports: at first, and with none left.
 module _ (plural name ports : List ℕ) where
   pub ports_start
       : length plural + 1 + digits (length ports / 2) + length (port_lines name (pairs ports)) ≡ length (ports_lines plural name (pairs ports))
   ports_start = simp length-append (omega arith) ∙ ap length (ports_bytes plural name ports)
 
-module _ (name ports : List ℕ) (i : ℕ) where
-  pub ports_next
-      : 1 ≤ i → i < length ports
-      → length name + 2 + digits (get_or ports (i - 1) 0) + digits (get_or ports i 0) + length (port_lines name (pairs (drop (i + 2 - 1) ports)))
-      ≡ length (port_lines name (pairs (drop (i - 1) ports)))
-  ports_next p h = sym (rw (pairs_behind ports i p h) (simp length-append (omega arith)))
-
-  pub ports_end : length ports ≤ i → length (port_lines name (pairs (drop (i - 1) ports))) ≡ 0
-  ports_end h = rw (pairs_end ports (i - 1) (omega arith))
+pub ports_end : (name ports : List ℕ) → length ports ≤ 1 → length (port_lines name (pairs ports)) ≡ 0
+ports_end name ports h = rw (pairs_end ports 0 h)
 
 -- the line of the j-th of the words' provisions
 abbrev line_at : List ℕ → ℕ → ℕ → List ℕ → List ℕ

@@ -3,7 +3,6 @@
 #![tactic(auto)]
 
 ghost use Rattle.std.specs.Prelude.{◌≡◌, ◌%◌, ◌≤◌, length};
-ghost use Rattle.rules.specs.Answers.{option_of};
 ghost use Rattle.rules.specs.Ports.{pairs};
 ghost use Rattle.rules.specs.Text.Values.{edition_and_default};
 ghost use Rattle.memory.specs.Layout.{places};
@@ -14,8 +13,8 @@ ghost use Rattle.text_laws.specs.Parts.{block_of};
 ghost use Rattle.text_lines.specs.Lines.{or_none, root_lines};
 ghost use Rattle.text_block.specs.Parts.{name_lines, life_lines, ports_lines, list_lines, provision_line, provisions_lines};
 
-use memory::{Life, Parent, WORDS};
-use rules::{Edition, Optional, Root};
+use memory::{Life, WORDS};
+use rules::{Edition, Root};
 
 // A number's digits. What a part takes at most is said beside its length, so that no sum of parts overflows.
 fn digits(n: u64) -> usize
@@ -25,22 +24,12 @@ fn digits(n: u64) -> usize
 }
 
 // A number or `none`, and the line's end.
-fn number_or_none(value: Optional) -> usize
-    ensures { (result ≡ length (or_none (option_of value))) × (result ≤ 21) }
+fn number_or_none(value: Option<u64>) -> usize
+    ensures { (result ≡ length (or_none value)) × (result ≤ 21) }
 {
     match value {
-        Optional::Is(n) => b"\n".len() + digits(n),
-        Optional::None => b"none\n".len(),
-    }
-}
-
-fn parent(m: &[u64; WORDS], place: usize) -> usize
-    ensures { (result ≡ length (or_none (plugin_at m.now (place % places)).parent)) × (result ≤ 21) }
-{
-    let parent = memory::parent_of(m, place);
-    match parent {
-        Parent::Of(id) => b"\n".len() + digits(id),
-        Parent::None => b"none\n".len(),
+        Some(n) => b"\n".len() + digits(n),
+        None => b"none\n".len(),
     }
 }
 
@@ -48,7 +37,9 @@ fn parent(m: &[u64; WORDS], place: usize) -> usize
 fn name_lines(m: &[u64; WORDS], place: usize) -> usize
     ensures { (result ≡ length (name_lines (plugin_at m.now (place % places)))) × (result ≤ 52) }
 {
-    b"id=\nparent=".len() + digits(memory::id(m, place)) + parent(m, place)
+    b"id=\nparent=".len()
+        + digits(memory::id(m, place))
+        + number_or_none(memory::parent_of(m, place))
 }
 
 // root and queued
@@ -68,12 +59,11 @@ fn root_lines(root: Root) -> usize
 fn life_lines(life: Life) -> usize
     ensures { (result ≡ length (life_lines life)) × (result ≤ 165) }
 {
-    let root = life.root;
     b"phase=0\nretired=0\ngeneration=\nrevision=\npayload=\n".len()
         + digits(life.generation.0)
         + digits(life.revision)
         + digits(life.payload)
-        + root_lines(root)
+        + root_lines(life.root)
 }
 
 // edition and default
@@ -93,10 +83,8 @@ fn ports_lines(plural: &[u8], name: &[u8], ports: &[u64]) -> usize
 {
     let line = name.len() + b",\n".len();
     let mut total = plural.len() + b"\n".len() + digits((ports.len() / 2) as u64);
-    let mut i: usize = 1;
-    while i < ports.len() {
-        total += line + digits(ports[i - 1]) + digits(ports[i]);
-        i += 2;
+    for port in ports.chunks_exact(2) {
+        total += line + digits(port[0]) + digits(port[1]);
     }
     total
 }
@@ -132,10 +120,8 @@ fn provision_lines(m: &[u64; WORDS], place: usize) -> usize
     let words = memory_lists::provision_words(m, place);
     let rows = words.len() / 2;
     let mut total = b"provs=\n".len() + digits(rows as u64);
-    let mut j: usize = 0;
-    while j < rows {
+    for j in 0..rows {
         total += provision_line(m, place, j, words[j * 2], words[j * 2 + 1]);
-        j += 1;
     }
     total
 }

@@ -1,6 +1,5 @@
 -- The lines of the registry's text, as bytes. A value carries the byte that ends it: 10 ends a line, and a comma parts two numbers.
-use Rattle.std.specs.Prelude.{ℕ, List, [], ◌∷◌, ◌++◌}
-use Rattle.std.proofs.Math.Option.{Option, none, some}
+use Rattle.std.specs.Prelude.{ℕ, List, [], ◌∷◌, ◌++◌, Option, Some, None}
 use Rattle.rules_types.specs.declared.Port.{Port}
 use Rattle.rules_types.specs.declared.Root.{Root}
 use Rattle.rules_types.specs.declared.Root.TheVariants.{Unissued, Queued, Spent}
@@ -13,8 +12,8 @@ ended n end = decimal_of n ++ end ∷ []
 
 -- number or none
 abbrev pub or_none : Option ℕ → List ℕ
-or_none (some n) = ended n 10
-or_none none = bytes "none\n"
+or_none (Some n) = ended n 10
+or_none None = bytes "none\n"
 
 -- key,realm
 abbrev pub pair : ℕ → ℕ → List ℕ

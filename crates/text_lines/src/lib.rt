@@ -4,22 +4,18 @@
 
 ghost use Rattle.std.specs.Prelude.{◌≡◌, [], ◌∷◌, ◌++◌, ◌+◌, ◌≤◌, min, length};
 ghost use Rattle.rules.specs.Basics.{last};
-ghost use Rattle.rules.specs.Answers.{option_of};
 ghost use Rattle.rules.specs.Ports.{pairs};
 ghost use Rattle.rules.specs.Text.Values.{edition_and_default};
 ghost use Rattle.text_lines.specs.Laid.{laid, Laid};
 ghost use Rattle.text_lines.specs.Lines.{ended, or_none, pair, triple, root_lines, port_lines};
 
-use rules::{Edition, Optional, Root};
+use rules::{Edition, Root};
 
 // The place so many bytes behind another, at most 2^64 − 1: no text reaches there.
 fn behind(at: usize, count: usize) -> usize
     ensures { result ≡ min (at + count) last }
 {
-    if usize::MAX - count < at {
-        return usize::MAX;
-    }
-    at + count
+    at.saturating_add(count)
 }
 
 // One byte, if it has a place.
@@ -38,11 +34,7 @@ fn put_whole(text: &mut [u8], at: usize, bytes: &[u8])
     requires { at + length bytes.now ≤ length text.old }
     ensures { text.new ≡ laid text.old at bytes.now }
 {
-    let mut i: usize = 0;
-    while i < bytes.len() {
-        text[at + i] = bytes[i];
-        i += 1;
-    }
+    text[at..at + bytes.len()].copy_from_slice(bytes);
 }
 
 // Each of the bytes that has a place.
@@ -50,10 +42,8 @@ fn put_each(text: &mut [u8], at: usize, bytes: &[u8]) -> usize
     ensures { Laid bytes.now at text.old text.new result }
 {
     let mut place = at;
-    let mut i: usize = 0;
-    while i < bytes.len() {
-        place = put_byte(text, place, bytes[i]);
-        i += 1;
+    for byte in bytes {
+        place = put_byte(text, place, *byte);
     }
     place
 }
@@ -95,12 +85,12 @@ pub fn number(text: &mut [u8], at: usize, n: u64, end: u8) -> usize
 }
 
 // A number or `none`, and the line's end.
-fn number_or_none(text: &mut [u8], at: usize, value: Optional) -> usize
-    ensures { Laid (or_none (option_of value)) at text.old text.new result }
+fn number_or_none(text: &mut [u8], at: usize, value: Option<u64>) -> usize
+    ensures { Laid (or_none value) at text.old text.new result }
 {
     match value {
-        Optional::Is(n) => number(text, at, n, b'\n'),
-        Optional::None => put(text, at, b"none\n"),
+        Some(n) => number(text, at, n, b'\n'),
+        None => put(text, at, b"none\n"),
     }
 }
 
@@ -120,8 +110,8 @@ pub fn number_line(text: &mut [u8], at: usize, name: &[u8], n: u64) -> usize
     number(text, value, n, b'\n')
 }
 
-pub fn optional_line(text: &mut [u8], at: usize, name: &[u8], value: Optional) -> usize
-    ensures { Laid (name.now ++ or_none (option_of value)) at text.old text.new result }
+pub fn optional_line(text: &mut [u8], at: usize, name: &[u8], value: Option<u64>) -> usize
+    ensures { Laid (name.now ++ or_none value) at text.old text.new result }
 {
     let place = put(text, at, name);
     number_or_none(text, place, value)
@@ -140,9 +130,9 @@ pub fn triple_line(
     name: &[u8],
     a: u64,
     b: u64,
-    value: Optional,
+    value: Option<u64>,
 ) -> usize
-    ensures { Laid (name.now ++ triple a b (option_of value)) at text.old text.new result }
+    ensures { Laid (name.now ++ triple a b value) at text.old text.new result }
 {
     let first = put(text, at, name);
     let second = number(text, first, a, b',');
@@ -182,10 +172,8 @@ pub fn port_lines(text: &mut [u8], at: usize, name: &[u8], ports: &[u64]) -> usi
     ensures { Laid (port_lines name.now (pairs ports.now)) at text.old text.new result }
 {
     let mut place = at;
-    let mut i: usize = 1;
-    while i < ports.len() {
-        place = pair_line(text, place, name, ports[i - 1], ports[i]);
-        i += 2;
+    for port in ports.chunks_exact(2) {
+        place = pair_line(text, place, name, port[0], port[1]);
     }
     place
 }

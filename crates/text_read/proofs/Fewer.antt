@@ -1,10 +1,11 @@
 -- A form whose values are some of another's, each by the same bytes: it is read where the other reads one of those. Assumes nothing.
-use Prim.Native.Nat.{ℕ, zero, suc, ◌≤◌, ◌<◌}
+use Rattle.std.specs.Prelude.{Some, None}
+use Prim.Native.Nat.{ℕ, ◌≤◌, ◌<◌}
 use native.Mathlib.Omega.{arith}
-use mathlib.Core.Path.{◌≡◌, refl, sym, ap, subst, ◌∙◌}
-use mathlib.Core.Bool.{Bool, true, false, not}
+use mathlib.Core.Path.{◌≡◌, refl, sym, ap, ◌∙◌}
+use mathlib.Core.Bool.{Bool, true, false}
 use mathlib.Core.List.{List, ◌++◌}
-use lib.Dec.{eqb, ltb}
+use lib.Dec.{ltb}
 use lib.ListN.{length, drop}
 use Rattle.rules_basics.specs.Basics.{pick, last}
 use Rattle.rules_types.specs.declared.Phase.{Phase}
@@ -12,18 +13,12 @@ use Rattle.rules_types.specs.declared.Phase.TheVariants.{Idle, Loading, Active, 
 use Rattle.rules.specs.Basics.{yes_no}
 use Rattle.rules.specs.Queries.{phase_number}
 use Rattle.rules.specs.Text.Values.{phase, zero_or_one}
-use Rattle.memory.specs.View.{phase_of}
 use Rattle.text_form.specs.Digits.{decimal_of, digits_in}
 use Rattle.text_form.specs.Lines.{line, number}
 use Rattle.text_form.specs.Forms.{Read, found, torn, Form, Lawful}
 use Rattle.text_form.proofs.Forms.{torn_found}
 use Rattle.text_form.proofs.Lines.{line_lawful, number_lawful}
 use Rattle.rules.proofs.Text.Values.{phase_lawful, zero_or_one_lawful}
-use Rattle.text_read_number.specs.declared.Next.{Next}
-use Rattle.text_read_number.specs.declared.Next.TheVariants.{At, Torn}
-use Rattle.text_read_number.specs.declared.Number.{Number}
-use Rattle.text_read_number.specs.Answers.{Told, number_said, NumberRead}
-use Rattle.text_read.specs.Answers.{PhaseRead, MarkRead}
 use Rattle.text_read_number.specs.Reads.{Reads}
 
 module _ {A B : Type 0} (f : Form A) (g : Form B) (k : Lawful f) (l : Lawful g) (code : A → B)
@@ -56,33 +51,15 @@ module _ {A B : Type 0} (f : Form A) (g : Form B) (k : Lawful f) (l : Lawful g) 
   pick_other true s b rest n e = refl
   pick_other false s b rest n e = sym (none_found s (λ a r h. n a (cc)))
 
-  -- One of the values, and another.
-  pub fewer_next : (t : List ℕ) (at n : Next) (a : A) → Reads g.read t at (code a) n → Reads f.read t at a n
-  fewer_next t (At p) (At n) a x = record { said = pick_one (ltb (length t) p) (drop p t) a (drop n t) x.said; fits = x.fits }
-  fewer_next t (At p) Torn a x = record { said = pick_torn (ltb (length t) p) (drop p t) x.said; fits = tt }
-  fewer_next t Torn (At n) a x = torn_found (code a) (drop n t) (sym x.said)
-  fewer_next t Torn Torn a x = record { said = refl; fits = tt }
+  -- One of the values, another, and nothing.
+  pub fewer_next : {t : List ℕ} {at : ℕ} {a : A} {n : ℕ} → Reads g.read t at (Some (code a, n)) → Reads f.read t at (Some (a, n))
+  fewer_next {t} {at} {a} {n} x = record { said = pick_one (ltb (length t) at) (drop at t) a (drop n t) x.said; fits = x.fits }
 
-  pub fewer_other : (t : List ℕ) (at n : Next) (b : B) (a : A) → ((a : A) → code a ≡ b → ⊥) → Reads g.read t at b n → Reads f.read t at a Torn
-  fewer_other t (At p) (At n) b a o x = record { said = pick_other (ltb (length t) p) (drop p t) b (drop n t) o x.said; fits = tt }
-  fewer_other t (At p) Torn b a o x = record { said = pick_torn (ltb (length t) p) (drop p t) x.said; fits = tt }
-  fewer_other t Torn n b a o x = record { said = refl; fits = tt }
+  pub fewer_torn : {t : List ℕ} {at : ℕ} → Reads g.read t at None → Reads f.read t at None
+  fewer_torn {t} {at} x = record { said = pick_torn (ltb (length t) at) (drop at t) x.said; fits = tt }
 
--- The numbers up to the top one, each for a value.
-module _ {A : Type 0} (f : Form A) (g : Form ℕ) (k : Lawful f) (l : Lawful g) (code : A → ℕ) (of : ℕ → A) (top : ℕ)
-    (same : (a : A) → f.write a ≡ g.write (code a)) (fit : (a : A) → f.Fits a × g.Fits (code a))
-    (low : (a : A) → code a ≤ top) (back : (n : ℕ) → n ≤ top → code (of n) ≡ n)
-    (t : List ℕ) (at : Next) (r : Number) (x : NumberRead g.read t at r) where
-  number_told : r.value ≤ top → Told (λ (s : Number). of s.value) (λ s. s.next) (λ a n. number_said (code a) n) f.read t at r
-  number_told h =
-      let e = back r.value h in
-      record {
-        reads = fewer_next f g k l code same fit t at r.next (of r.value) (subst (λ n. Reads g.read t at n r.next) (sym e) x.reads);
-        one = x.one ∙ ap (λ n. number_said n r.next) (sym e);
-      }
-
-  number_over : top < r.value → Told (λ (s : Number). of s.value) (λ s. s.next) (λ a n. number_said (code a) n) f.read t at (number_said 0 Torn)
-  number_over h = record { reads = fewer_other f g k l code same fit t at r.next r.value (of 0) (λ a e. omega (arith, low a)) x.reads; one = refl }
+  pub fewer_other : {t : List ℕ} {at : ℕ} {b : B} {n : ℕ} → ((a : A) → code a ≡ b → ⊥) → Reads g.read t at (Some (b, n)) → Reads f.read t at None
+  fewer_other {t} {at} {b} {n} o x = record { said = pick_other (ltb (length t) at) (drop at t) b (drop n t) o x.said; fits = tt }
 
 -- 0 to 3 are the phases.
 phase_digit : (p : Phase) → (line "phase" phase).write p ≡ (line "phase" number).write (phase_number p)
@@ -101,25 +78,24 @@ phase_low Unloading = omega arith
 phase_fits : (p : Phase) → Unit {0} × (phase_number p ≤ last)
 phase_fits p = (tt, omega (arith, phase_low p))
 
-phase_back : (n : ℕ) → n ≤ 3 → phase_number (phase_of n) ≡ n
-phase_back zero h = refl
-phase_back (suc zero) h = refl
-phase_back (suc (suc zero)) h = refl
-phase_back (suc (suc (suc n))) h = omega arith
+phases : Lawful (line "phase" phase)
+phases = line_lawful "phase" phase_lawful
 
-module _ (t : List ℕ) (at : Next) (r : Number) (x : NumberRead (line "phase" number).read t at r) where
-  pub phase_told : r.value ≤ 3 → PhaseRead (line "phase" phase).read t at r
-  phase_told h =
-      number_told (line "phase" phase) (line "phase" number) (line_lawful "phase" phase_lawful) (line_lawful "phase" number_lawful) phase_number phase_of 3 phase_digit phase_fits phase_low phase_back t at r x h
+numbers : Lawful (line "phase" number)
+numbers = line_lawful "phase" number_lawful
 
-  pub phase_over : 3 < r.value → PhaseRead (line "phase" phase).read t at (number_said 0 Torn)
-  phase_over h =
-      number_over (line "phase" phase) (line "phase" number) (line_lawful "phase" phase_lawful) (line_lawful "phase" number_lawful) phase_number phase_of 3 phase_digit phase_fits phase_low phase_back t at r x h
+module _ {t : List ℕ} {at : ℕ} where
+  pub phase_next : (p : Phase) {n : ℕ} → Reads (line "phase" number).read t at (Some (phase_number p, n)) → Reads (line "phase" phase).read t at (Some (p, n))
+  phase_next p x = fewer_next (line "phase" phase) (line "phase" number) phases numbers phase_number phase_digit phase_fits x
+
+  pub phase_torn : Reads (line "phase" number).read t at None → Reads (line "phase" phase).read t at None
+  phase_torn x = fewer_torn (line "phase" phase) (line "phase" number) phases numbers phase_number phase_digit phase_fits x
+
+  pub phase_over : {k n : ℕ} → 3 < k → Reads (line "phase" number).read t at (Some (k, n)) → Reads (line "phase" phase).read t at None
+  phase_over h x =
+      fewer_other (line "phase" phase) (line "phase" number) phases numbers phase_number phase_digit phase_fits (λ p e. omega (arith, phase_low p)) x
 
 -- 0 and 1 are no and yes.
-abbrev marked : ℕ → Bool
-marked n = not (eqb n 0)
-
 mark_digit : (b : Bool) → (line "retired" zero_or_one).write b ≡ (line "retired" number).write (yes_no b)
 unfolding decimal_of digits_in
 mark_digit true = refl
@@ -132,15 +108,19 @@ mark_low false = omega arith
 mark_fits : (b : Bool) → Unit {0} × (yes_no b ≤ last)
 mark_fits b = (tt, omega (arith, mark_low b))
 
-mark_back : (n : ℕ) → n ≤ 1 → yes_no (marked n) ≡ n
-mark_back zero h = refl
-mark_back (suc n) h = let z : n ≡ 0 = omega arith in rw z
+marks : Lawful (line "retired" zero_or_one)
+marks = line_lawful "retired" zero_or_one_lawful
 
-module _ (t : List ℕ) (at : Next) (r : Number) (x : NumberRead (line "retired" number).read t at r) where
-  pub mark_told : r.value ≤ 1 → MarkRead (line "retired" zero_or_one).read t at r
-  mark_told h =
-      number_told (line "retired" zero_or_one) (line "retired" number) (line_lawful "retired" zero_or_one_lawful) (line_lawful "retired" number_lawful) yes_no marked 1 mark_digit mark_fits mark_low mark_back t at r x h
+counts : Lawful (line "retired" number)
+counts = line_lawful "retired" number_lawful
 
-  pub mark_over : 1 < r.value → MarkRead (line "retired" zero_or_one).read t at (number_said 0 Torn)
-  mark_over h =
-      number_over (line "retired" zero_or_one) (line "retired" number) (line_lawful "retired" zero_or_one_lawful) (line_lawful "retired" number_lawful) yes_no marked 1 mark_digit mark_fits mark_low mark_back t at r x h
+module _ {t : List ℕ} {at : ℕ} where
+  pub mark_next : (b : Bool) {n : ℕ} → Reads (line "retired" number).read t at (Some (yes_no b, n)) → Reads (line "retired" zero_or_one).read t at (Some (b, n))
+  mark_next b x = fewer_next (line "retired" zero_or_one) (line "retired" number) marks counts yes_no mark_digit mark_fits x
+
+  pub mark_torn : Reads (line "retired" number).read t at None → Reads (line "retired" zero_or_one).read t at None
+  mark_torn x = fewer_torn (line "retired" zero_or_one) (line "retired" number) marks counts yes_no mark_digit mark_fits x
+
+  pub mark_over : {k n : ℕ} → 1 < k → Reads (line "retired" number).read t at (Some (k, n)) → Reads (line "retired" zero_or_one).read t at None
+  mark_over h x =
+      fewer_other (line "retired" zero_or_one) (line "retired" number) marks counts yes_no mark_digit mark_fits (λ b e. omega (arith, mark_low b)) x

@@ -1,10 +1,9 @@
 -- Lists by places: the lines that were read so far and the place behind them, one line more, and a count with so many lines.
-use Rattle.std.specs.Prelude.{ℕ, zero, suc, ◌+◌, ◌-◌, ◌≤◌, ◌≡◌, refl, List, [], ◌∷◌, ◌++◌}
+use Rattle.std.specs.Prelude.{ℕ, zero, suc, ◌+◌, ◌-◌, ◌≤◌, ◌<◌, ◌≡◌, refl, List, [], ◌∷◌, ◌++◌, ltb, length, drop, Option, Some, None}
 use Rattle.std.proofs.Common.{arith, sym, ap, ◌∙◌, subst}
+use Rattle.rules_basics.specs.Basics.{pick}
 use Rattle.text_form.specs.Forms.{Read, found, torn, and_then, Form, read_many, counted}
-use Rattle.text_read_number.specs.declared.Next.{Next}
-use Rattle.text_read_number.specs.declared.Next.TheVariants.{Torn}
-use Rattle.text_read_number.specs.Reads.{Within, read_from, Reads, reads_none, go_on_lem, ends, reads_as, from_as, from_then, read_on}
+use Rattle.text_read_number.specs.Reads.{read_from, Reads, reads_on, reads_not, ends, reads_as, from_then, read_on}
 
 module _ {A : Type 0} (f : Form A) where
   -- So many lines behind some that were read.
@@ -37,46 +36,39 @@ module _ {A : Type 0} (f : Form A) where
       go torn e = refl
 
   -- No line is read yet.
-  pub many_none : (t : List ℕ) (at : Next) → Within t at → Reads (read_many f 0) t at [] at
+  pub many_none : (t : List ℕ) (at : ℕ) → at ≤ length t → Reads (read_many f 0) t at (Some ([], at))
   many_none t at h = ends [] t at h
 
-  -- One line in front of those that follow.
-  pub many_next : (k : ℕ) {t : List ℕ} {at m n : Next} {a : A} {l : List A}
-      → Reads f.read t at a m → Reads (read_many f k) t m l n → Reads (read_many f (suc k)) t at (a ∷ l) n
-  many_next k {t} {n = n} {a} {l} x y =
-      go_on_lem f.read (λ a r. and_then (read_many f k r) (λ l s. found (a ∷ l) s)) t x
-      (go_on_lem (read_many f k) (λ l s. found (a ∷ l) s) t y (ends (a ∷ l) t n y.fits))
+  -- Some lines were read, and what is left is read from the place behind them.
+  module _ (i : ℕ) {t : List ℕ} {at m : ℕ} {l : List A} (x : Reads (read_many f i) t at (Some (l, m))) where
+    pub many_left : (k : ℕ) → i ≤ k → read_from (read_many f k) t at ≡ and_then (read_from (read_many f (k - i)) t m) (λ r s. found (l ++ r) s)
+    many_left k h =
+        let e : i + (k - i) ≡ k = omega arith in
+        ap (λ j. read_from (read_many f j) t at) (sym e)
+        ∙ ap (pick (ltb (length t) at) torn) (many_split i (k - i) (drop at t))
+        ∙ read_on (read_many f i) (λ l r. onward (k - i) l r) t x
+        ∙ from_then (read_many f (k - i)) (λ r s. found (l ++ r) s) t m
 
-  -- Some lines, and some more.
-  pub many_then : (i k : ℕ) {t : List ℕ} {at m n : Next} {l r : List A}
-      → Reads (read_many f i) t at l m → Reads (read_many f k) t m r n → Reads (read_many f (i + k)) t at (l ++ r) n
-  many_then i k {t} {n = n} {l} {r} x y =
-      reads_as (λ s. and_then (read_many f i s) (λ l r. onward k l r)) (read_many f (i + k)) (λ s. sym (many_split i k s))
-      (go_on_lem (read_many f i) (λ l r. onward k l r) t x (go_on_lem (read_many f k) (λ m s. found (l ++ m) s) t y (ends (l ++ r) t n y.fits)))
+    -- One line more.
+    pub many_more : {a : A} {n : ℕ} → Reads f.read t m (Some (a, n)) → Reads (read_many f (i + 1)) t at (Some (l ++ a ∷ [], n))
+    many_more {a} {n} y =
+        let one : Reads (read_many f 1) t m (Some (a ∷ [], n)) =
+        reads_on f.read (λ a r. and_then (read_many f 0 r) (λ l s. found (a ∷ l) s)) t y (ends (a ∷ []) t n y.fits) in
+        reads_as (λ s. and_then (read_many f i s) (λ l r. onward 1 l r)) (read_many f (i + 1)) (λ s. sym (many_split i 1 s))
+        (reads_on (read_many f i) (λ l r. onward 1 l r) t x (reads_on (read_many f 1) (λ m s. found (l ++ m) s) t one (ends (l ++ a ∷ []) t n y.fits)))
 
-  -- One line more.
-  pub many_more : (i : ℕ) {t : List ℕ} {at m n : Next} {l : List A} {a : A}
-      → Reads (read_many f i) t at l m → Reads f.read t m a n → Reads (read_many f (i + 1)) t at (l ++ a ∷ []) n
-  many_more i {t} {n = n} x y = many_then i 1 x (many_next 0 y (many_none t n y.fits))
-
-  -- One line is torn, and so is the list.
-  pub many_torn : (i k : ℕ) → i ≤ k → {t : List ℕ} {at : Next} {l : List A} → Reads (read_many f i) t at l Torn → (r : List A) → Reads (read_many f k) t at r Torn
-  many_torn i k h {t} {at} {l} x r =
-      let e : i + (k - i) ≡ k = omega arith in
-      let y = many_then i (k - i) x (reads_none (read_many f (k - i)) t Torn [] refl) in
-      subst (λ j. Reads (read_many f j) t at r Torn) e (record { said = y.said; fits = tt })
-
-  -- What is left, from the place that was reached.
-  pub many_left : (i k : ℕ) → i ≤ k → {t : List ℕ} {at m : Next} {l : List A} → Reads (read_many f i) t at l m
-      → read_from (read_many f k) t at ≡ and_then (read_from (read_many f (k - i)) t m) (λ r s. found (l ++ r) s)
-  many_left i k h {t} {at} {m} {l} x =
-      let e : i + (k - i) ≡ k = omega arith in
-      ap (λ j. read_from (read_many f j) t at) (sym e)
-      ∙ from_as (read_many f (i + (k - i))) (λ s. and_then (read_many f i s) (λ l r. onward (k - i) l r)) (many_split i (k - i)) t at
-      ∙ read_on (read_many f i) (λ l r. onward (k - i) l r) t x
-      ∙ from_then (read_many f (k - i)) (λ r s. found (l ++ r) s) t m
+    -- The next line is torn, and so is the list.
+    pub many_torn : (k : ℕ) → i < k → Reads f.read t m None → Reads (read_many f k) t at None
+    many_torn k h y =
+        let e : suc (k - i - 1) ≡ k - i = omega arith in
+        let rest : Reads (read_many f (k - i)) t m None =
+        subst (λ j. Reads (read_many f j) t m None) e (reads_not f.read (λ a r. and_then (read_many f (k - i - 1) r) (λ l s. found (a ∷ l) s)) t y) in
+        record { said = sym (many_left k (omega arith) ∙ ap (λ z. and_then z (λ r s. found (l ++ r) s)) (sym rest.said)); fits = tt }
 
 -- A count, and so many lines.
-pub counted_next : {A : Type 0} (count : Form ℕ) (f : Form A) {t : List ℕ} {at m n : Next} {k : ℕ} {l : List A}
-    → Reads count.read t at k m → Reads (read_many f k) t m l n → Reads (counted count f).read t at l n
-counted_next count f {t} x y = go_on_lem count.read (λ k r. read_many f k r) t x y
+module _ {A : Type 0} (count : Form ℕ) (f : Form A) {t : List ℕ} {at : ℕ} where
+  pub counted_torn : Reads count.read t at None → Reads (counted count f).read t at None
+  counted_torn x = reads_not count.read (λ k r. read_many f k r) t x
+
+  pub counted_next : {m k : ℕ} {r : Option (List A × ℕ)} → Reads count.read t at (Some (k, m)) → Reads (read_many f k) t m r → Reads (counted count f).read t at r
+  counted_next x y = reads_on count.read (λ k r. read_many f k r) t x y

@@ -1,240 +1,134 @@
-// Reading the registry's text, line by line: a place of the text goes in, and what stands there comes back with the place behind it.
+// Reading the registry's text, line by line: what stands at a place of it, with the place behind.
 #![tactic(auto)]
 
 ghost use Rattle.std.specs.Prelude.{◌≡◌};
-ghost use Rattle.text_form.specs.Forms.{behind};
-ghost use Rattle.text_form.specs.Lines.{line, number, number_or_none};
-ghost use Rattle.rules.specs.Text.Values.{phase, zero_or_one, key_realm, key_realm_value, root_and_queued, edition_and_default};
-ghost use Rattle.text_read_number.specs.Answers.{NumberRead};
-ghost use Rattle.text_read.specs.Answers.{PhaseRead, MarkRead, OptionRead, PairRead, ProvisionRead, RootRead, EditionRead, rooted_said};
+ghost use Rattle.text_form.specs.Forms.{behind, ◌then◌};
+ghost use Rattle.text_form.specs.Lines.{line, number, comma, number_or_none};
+ghost use Rattle.rules.specs.Text.Values.{phase, zero_or_one, key_realm, key_realm_value, queued, root_and_queued, edition_and_default};
+ghost use Rattle.text_read_number.specs.Reads.{Reads, said_as};
+ghost use Rattle.text_read.specs.Ways.{provision_of};
 
-use text_read_number::{Next, Number};
+use rules::{Edition, Phase, Port, Root};
 
-// Tag 0 is none. The numbers of an answer are 0 where it is torn.
-#[derive(Clone, Copy)]
-pub struct NumberOrNone {
-    pub tag: u64,
-    pub value: u64,
-    pub next: Next,
-}
-
-#[derive(Clone, Copy)]
-pub struct Pair {
-    pub key: u64,
-    pub realm: u64,
-    pub next: Next,
-}
-
+// A provision, with its value or none.
 #[derive(Clone, Copy)]
 pub struct Provision {
-    pub key: u64,
-    pub realm: u64,
-    pub tag: u64,
-    pub value: u64,
-    pub next: Next,
-}
-
-// Root 0, 1, 2 as the line says it; revision and argument are 0 unless it is 1.
-#[derive(Clone, Copy)]
-pub struct Rooted {
-    pub root: u64,
-    pub revision: u64,
-    pub argument: u64,
-    pub next: Next,
-}
-
-// Edition 1 or 2 as the line says it; the default is 0 in edition 1.
-#[derive(Clone, Copy)]
-pub struct Editioned {
-    pub edition: u64,
-    pub default: u64,
-    pub next: Next,
+    pub port: Port,
+    pub value: Option<u64>,
 }
 
 // `name` and a number: `name` has the equals sign.
-pub fn number_line(text: &[u8], at: Next, name: &[u8]) -> Number
-    ensures { NumberRead (behind name.now number).read text.now at result }
+pub fn number_line(text: &[u8], at: usize, name: &[u8]) -> Option<(u64, usize)>
+    ensures { Reads (behind name.now number).read text.now at result }
 {
-    let value = text_read_number::literal(text, at, name);
-    text_read_number::to_end(text, value)
+    let at = text_read_number::literal(text, at, name)?;
+    text_read_number::to_end(text, at)
 }
 
 // phase: 0 to 3 in table order.
-pub fn phase_line(text: &[u8], at: Next) -> Number
-    ensures { PhaseRead (line "phase" phase).read text.now at result }
+pub fn phase_line(text: &[u8], at: usize) -> Option<(Phase, usize)>
+    ensures { Reads (line "phase" phase).read text.now at result }
 {
-    let n = number_line(text, at, b"phase=");
-    if 3 < n.value {
-        return Number {
-            value: 0,
-            next: Next::Torn,
-        };
+    let (n, next) = number_line(text, at, b"phase=")?;
+    match n {
+        0 => Some((Phase::Idle, next)),
+        1 => Some((Phase::Loading, next)),
+        2 => Some((Phase::Active, next)),
+        3 => Some((Phase::Unloading, next)),
+        _ => None,
     }
-    n
 }
 
 // retired: 0 or 1.
-pub fn mark_line(text: &[u8], at: Next) -> Number
-    ensures { MarkRead (line "retired" zero_or_one).read text.now at result }
+pub fn mark_line(text: &[u8], at: usize) -> Option<(bool, usize)>
+    ensures { Reads (line "retired" zero_or_one).read text.now at result }
 {
-    let n = number_line(text, at, b"retired=");
-    if 1 < n.value {
-        return Number {
-            value: 0,
-            next: Next::Torn,
-        };
+    let (n, next) = number_line(text, at, b"retired=")?;
+    match n {
+        0 => Some((false, next)),
+        1 => Some((true, next)),
+        _ => None,
     }
-    n
 }
 
 // number or none
-fn number_or_none(text: &[u8], at: Next) -> NumberOrNone
-    ensures { OptionRead number_or_none.read text.now at result }
+fn number_or_none(text: &[u8], at: usize) -> Option<(Option<u64>, usize)>
+    ensures { Reads number_or_none.read text.now at result }
 {
-    let some = text_read_number::to_end(text, at);
-    let end = some.next;
-    if let Next::At(next) = end {
-        return NumberOrNone {
-            tag: 1,
-            value: some.value,
-            next: Next::At(next),
-        };
+    if let Some((n, next)) = text_read_number::to_end(text, at) {
+        return Some((Some(n), next));
     }
-    let none = text_read_number::literal(text, at, b"none\n");
-    NumberOrNone {
-        tag: 0,
-        value: 0,
-        next: none,
-    }
+    let next = text_read_number::literal(text, at, b"none\n")?;
+    Some((None, next))
 }
 
 // `name` and a number or none.
-pub fn option_line(text: &[u8], at: Next, name: &[u8]) -> NumberOrNone
-    ensures { OptionRead (behind name.now number_or_none).read text.now at result }
+pub fn option_line(text: &[u8], at: usize, name: &[u8]) -> Option<(Option<u64>, usize)>
+    ensures { Reads (behind name.now number_or_none).read text.now at result }
 {
-    let value = text_read_number::literal(text, at, name);
-    number_or_none(text, value)
+    let at = text_read_number::literal(text, at, name)?;
+    number_or_none(text, at)
+}
+
+// Two numbers with a comma between them.
+fn two_numbers(text: &[u8], at: usize) -> Option<((u64, u64), usize)>
+    ensures { Reads (comma then number).read text.now at result }
+{
+    let (first, at) = text_read_number::to_comma(text, at)?;
+    let (second, at) = text_read_number::to_end(text, at)?;
+    Some(((first, second), at))
 }
 
 // `name` and key,realm.
-pub fn pair_line(text: &[u8], at: Next, name: &[u8]) -> Pair
-    ensures { PairRead (behind name.now key_realm).read text.now at result }
+pub fn pair_line(text: &[u8], at: usize, name: &[u8]) -> Option<(Port, usize)>
+    ensures { Reads (behind name.now key_realm).read text.now at result }
 {
-    let value = text_read_number::literal(text, at, name);
-    let key = text_read_number::to_comma(text, value);
-    let second = key.next;
-    let realm = text_read_number::to_end(text, second);
-    let end = realm.next;
-    let Next::At(next) = end else {
-        return Pair {
-            key: 0,
-            realm: 0,
-            next: Next::Torn,
-        };
-    };
-    Pair {
-        key: key.value,
-        realm: realm.value,
-        next: Next::At(next),
-    }
+    let at = text_read_number::literal(text, at, name)?;
+    let ((key, realm), at) = two_numbers(text, at)?;
+    Some((Port { key, realm }, at))
 }
 
 // `name` and key,realm,value or none.
-pub fn provision_line(text: &[u8], at: Next, name: &[u8]) -> Provision
-    ensures { ProvisionRead (behind name.now key_realm_value).read text.now at result }
+pub fn provision_line(text: &[u8], at: usize, name: &[u8]) -> Option<(Provision, usize)>
+    ensures { Reads (behind name.now key_realm_value).read text.now at (said_as provision_of result) }
 {
-    let first = text_read_number::literal(text, at, name);
-    let key = text_read_number::to_comma(text, first);
-    let second = key.next;
-    let realm = text_read_number::to_comma(text, second);
-    let third = realm.next;
-    let value = number_or_none(text, third);
-    let end = value.next;
-    let Next::At(next) = end else {
-        return Provision {
-            key: 0,
-            realm: 0,
-            tag: 0,
-            value: 0,
-            next: Next::Torn,
-        };
-    };
-    Provision {
-        key: key.value,
-        realm: realm.value,
-        tag: value.tag,
-        value: value.value,
-        next: Next::At(next),
-    }
+    let at = text_read_number::literal(text, at, name)?;
+    let (key, at) = text_read_number::to_comma(text, at)?;
+    let (realm, at) = text_read_number::to_comma(text, at)?;
+    let (value, at) = number_or_none(text, at)?;
+    let port = Port { key, realm };
+    Some((Provision { port, value }, at))
 }
 
-// All of them 0 where it is torn.
-fn root_answer(root: u64, revision: u64, argument: u64, next: Next) -> Rooted
-    ensures { result ≡ rooted_said root revision argument next }
+// root 1, and queued: revision,argument.
+fn queued(text: &[u8], at: usize) -> Option<((u64, u64), usize)>
+    ensures { Reads queued.read text.now at result }
 {
-    let Next::At(place) = next else {
-        return Rooted {
-            root: 0,
-            revision: 0,
-            argument: 0,
-            next: Next::Torn,
-        };
-    };
-    Rooted {
-        root,
-        revision,
-        argument,
-        next: Next::At(place),
-    }
+    let at = text_read_number::literal(text, at, b"root=1\nqueued=")?;
+    two_numbers(text, at)
 }
 
 // The two lines root and queued: 0 and none, 1 and revision,argument, or 2 and none.
-pub fn root_lines(text: &[u8], at: Next) -> Rooted
-    ensures { RootRead root_and_queued.read text.now at result }
+pub fn root_lines(text: &[u8], at: usize) -> Option<(Root, usize)>
+    ensures { Reads root_and_queued.read text.now at result }
 {
-    let root = text_read_number::literal(text, at, b"root=");
-    let unissued = text_read_number::literal(text, root, b"0\nqueued=none\n");
-    if let Next::At(next) = unissued {
-        return root_answer(0, 0, 0, Next::At(next));
+    if let Some(next) = text_read_number::literal(text, at, b"root=0\nqueued=none\n") {
+        return Some((Root::Unissued, next));
     }
-    let queued = text_read_number::literal(text, root, b"1\nqueued=");
-    let revision = text_read_number::to_comma(text, queued);
-    let second = revision.next;
-    let argument = text_read_number::to_end(text, second);
-    let end = argument.next;
-    if let Next::At(next) = end {
-        return root_answer(1, revision.value, argument.value, Next::At(next));
+    if let Some(((revision, argument), next)) = queued(text, at) {
+        return Some((Root::Queued(revision, argument), next));
     }
-    let spent = text_read_number::literal(text, root, b"2\nqueued=none\n");
-    root_answer(2, 0, 0, spent)
+    let next = text_read_number::literal(text, at, b"root=2\nqueued=none\n")?;
+    Some((Root::Spent, next))
 }
 
 // The two lines edition and default: 1 and 0, or 2 and a number.
-pub fn edition_lines(text: &[u8], at: Next) -> Editioned
-    ensures { EditionRead edition_and_default.read text.now at result }
+pub fn edition_lines(text: &[u8], at: usize) -> Option<(Edition, usize)>
+    ensures { Reads edition_and_default.read text.now at result }
 {
-    let edition = text_read_number::literal(text, at, b"edition=");
-    let first = text_read_number::literal(text, edition, b"1\ndefault=0\n");
-    if let Next::At(next) = first {
-        return Editioned {
-            edition: 1,
-            default: 0,
-            next: Next::At(next),
-        };
+    if let Some(next) = text_read_number::literal(text, at, b"edition=1\ndefault=0\n") {
+        return Some((Edition::First, next));
     }
-    let second = text_read_number::literal(text, edition, b"2\ndefault=");
-    let default = text_read_number::to_end(text, second);
-    let end = default.next;
-    let Next::At(next) = end else {
-        return Editioned {
-            edition: 0,
-            default: 0,
-            next: Next::Torn,
-        };
-    };
-    Editioned {
-        edition: 2,
-        default: default.value,
-        next: Next::At(next),
-    }
+    let (default, next) = number_line(text, at, b"edition=2\ndefault=")?;
+    Some((Edition::Second(default), next))
 }

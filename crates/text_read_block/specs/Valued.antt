@@ -1,7 +1,6 @@
 -- How many of some provisions have a value: none, or all of them.
-use Rattle.std.specs.Prelude.{ℕ, suc, ◌+◌, ◌≤◌, ◌≡◌, refl, Bool, true, false, not, ◌&&◌, ◌||◌, List, [], ◌∷◌, ◌++◌, eqb, length}
+use Rattle.std.specs.Prelude.{ℕ, suc, ◌+◌, ◌≤◌, ◌≡◌, refl, Bool, true, false, not, ◌&&◌, ◌||◌, List, [], ◌∷◌, ◌++◌, eqb, length, Option, Some, None}
 use Rattle.std.proofs.Common.{arith, sym, ap, ◌∙◌, eqb-true, eq-eqb, ne_eqb}
-use Rattle.std.proofs.Math.Option.{Option, none, some}
 use Rattle.std.proofs.lemmas.Bool.{eqb-false}
 use Rattle.rules.specs.Basics.{any, all, is_some, is_none, yes_no}
 use Rattle.rules.specs.Holds.{Provision}
@@ -38,8 +37,8 @@ valued_none (v ∷ vs) = go v.value (valued_none vs)
   where
     go : (o : Option ℕ) → eqb (valued_of vs) 0 ≡ all (λ (v : Provision). is_none v.value) vs
         → eqb (yes_no (is_some o) + valued_of vs) 0 ≡ (is_none o && all (λ (v : Provision). is_none v.value) vs)
-    go none h = same_behind 0 (valued_of vs) 0 ∙ h
-    go (some n) h = ne_eqb (1 + valued_of vs) 0 (λ i. omega arith)
+    go None h = same_behind 0 (valued_of vs) 0 ∙ h
+    go (Some n) h = ne_eqb (1 + valued_of vs) 0 (λ i. omega arith)
 
 pub valued_all : (vs : List Provision) → eqb (valued_of vs) (length vs) ≡ not (any (λ (v : Provision). is_none v.value) vs)
 valued_all [] = refl
@@ -47,5 +46,5 @@ valued_all (v ∷ vs) = go v.value (valued_all vs)
   where
     go : (o : Option ℕ) → eqb (valued_of vs) (length vs) ≡ not (any (λ (v : Provision). is_none v.value) vs)
         → eqb (yes_no (is_some o) + valued_of vs) (suc (length vs)) ≡ not (is_none o || any (λ (v : Provision). is_none v.value) vs)
-    go none h = let m = valued_most vs in ne_eqb (0 + valued_of vs) (suc (length vs)) (λ i. omega arith)
-    go (some n) h = let e : 1 + length vs ≡ suc (length vs) = omega arith in ap (eqb (1 + valued_of vs)) (sym e) ∙ same_behind 1 (valued_of vs) (length vs) ∙ h
+    go None h = let m = valued_most vs in ne_eqb (0 + valued_of vs) (suc (length vs)) (λ i. omega arith)
+    go (Some n) h = let e : 1 + length vs ≡ suc (length vs) = omega arith in ap (eqb (1 + valued_of vs)) (sym e) ∙ same_behind 1 (valued_of vs) (length vs) ∙ h

@@ -1,67 +1,31 @@
 -- Bytes and digits, place by place. Assumes nothing.
+use Rattle.std.specs.Prelude.{Option, None}
 use Prim.Native.Nat.{ℕ, suc, ◌+◌, ◌-◌, ◌*◌, ◌^◌, ◌≤◌, ◌<◌}
 use mathlib.Core.Path.{◌≡◌, refl, sym, ap, ◌∙◌}
 use mathlib.Core.Bool.{Bool, true, false, ◌||◌, or-true, true≢false}
-use mathlib.Core.Option.{none}
 use mathlib.Core.List.{List, [], ◌∷◌}
+use Rattle.std.proofs.Common.{◌⊎◌, inl, inr}
 use native.Mathlib.Numerals.{add-one}
 use native.Mathlib.Omega.{arith}
 use lib.Dec.{eqb, ltb, leb}
-use lib.ListN.{length, get_or, drop, length-drop, drop_of_length-le}
+use lib.ListN.{length, get_or, drop, drop_of_length-le}
 use lib.Seq.{drop-cons}
-use borrow.Author.Tests.{leb-true, leb-false, lt-ltb, le-ltb, eq-eqb, ne_eqb}
+use borrow.Author.Tests.{leb-true, leb-false, lt-ltb, le-ltb, ne_eqb}
 use Rattle.rules_basics.specs.Basics.{pick, last}
 use Rattle.rules_basics.specs.Tests.{by_test}
-use Rattle.text_form.specs.Forms.{Read, found, torn, and_then, expect}
+use Rattle.text_form.specs.Forms.{Read, found, torn, and_then}
 use Rattle.text_form.specs.Words.{no_digit, with, value_from, number_of}
 use Rattle.text_form.specs.Numbers.{up_to, or_torn, read_number}
-use Rattle.text_read_number.specs.declared.Next.{Next}
-use Rattle.text_read_number.specs.declared.Next.TheVariants.{At}
-use Rattle.text_read_number.specs.declared.Number.{Number}
-use Rattle.text_read_number.specs.Reads.{read_at}
-use Rattle.text_read_number.specs.Answers.{NumberRead}
+use Rattle.text_read_number.specs.Reads.{Reads, read_at}
 use Rattle.text_read_number.specs.Numbers.{stop_at, value_to}
 
--- Certain bytes do not stand in fewer.
-expect_long : (w t : List ℕ) → length t < length w → expect w t ≡ torn
-unfolding expect
-expect_long [] t h = absurd (omega arith)
-expect_long (b ∷ w) [] h = refl
-expect_long (b ∷ w) (c ∷ t) h =
-    let more = expect_long w t (omega arith) in
-    by_test (eqb b c) (λ y. rw y more) (λ n. rw n)
-
--- From byte i on.
-module _ (w t : List ℕ) (p : ℕ) where
-  pub expect_few : length t < p + length w → p ≤ length t → expect w (drop p t) ≡ torn
-  expect_few h l = expect_long w (drop p t) (omega (arith, length-drop p t))
-
-  module _ (i : ℕ) where
-    pub expect_end : length w ≤ i → expect (drop i w) (drop p t) ≡ found tt (drop p t)
-    unfolding expect
-    expect_end h = rw (drop_of_length-le w h)
-
-    pub expect_other : i < length w → p < length t → (get_or t p 0 ≡ get_or w i 0 → ⊥) → expect (drop i w) (drop p t) ≡ torn
-    unfolding expect
-    expect_other h k n = rw (drop-cons w i 0 h, drop-cons t p 0 k, ne_eqb (get_or w i 0) (get_or t p 0) (λ e. n (sym e)))
-
-    pub expect_more : i < length w → p < length t → get_or t p 0 ≡ get_or w i 0 → expect (drop i w) (drop p t) ≡ expect (drop (i + 1) w) (drop (p + 1) t)
-    unfolding expect
-    expect_more h k e = rw (add-one i, add-one p, drop-cons w i 0 h, drop-cons t p 0 k, eq-eqb (get_or w i 0) (get_or t p 0) (sym e))
-
--- The byte that ends a number.
-module _ (stop n : ℕ) (t : List ℕ) (i : ℕ) where
-  pub stop_end : length t ≤ i → stop_at stop n (drop i t) ≡ torn
-  stop_end h = rw (drop_of_length-le t h)
-
-  pub stop_other : i < length t → (get_or t i 0 ≡ stop → ⊥) → stop_at stop n (drop i t) ≡ torn
-  stop_other h e = rw (drop-cons t i 0 h, ne_eqb (get_or t i 0) stop e)
-
-  pub stop_here : i < length t → get_or t i 0 ≡ stop → stop_at stop n (drop i t) ≡ found n (drop (i + 1) t)
-  stop_here h e = rw (drop-cons t i 0 h, add-one i, eq-eqb (get_or t i 0) stop e)
+-- A byte that is no digit is below all of them or above.
+pub outside : (b : ℕ) → (b < 48) ⊎ (57 < b) → no_digit b ≡ true
+outside b (inl l) = rw (lt-ltb b 48 l)
+outside b (inr l) = rw (lt-ltb 57 b l, or-true)
 
 -- One digit more, or none.
-none_read : (r : Read (List ℕ)) → torn ≡ and_then r (λ w s. or_torn none s)
+none_read : (r : Read (List ℕ)) → torn ≡ and_then r (λ w s. or_torn None s)
 none_read (found w s) = refl
 none_read torn = refl
 
@@ -89,14 +53,8 @@ module _ (stop : ℕ) (t : List ℕ) (i n : ℕ) where
   step h = rw (drop-cons t i 0 h, add-one i) (value_step stop n (get_or t i 0) (drop (suc i) t))
 
   -- No digit: the byte ends the number, or there is none.
-  stops : i < length t → no_digit (get_or t i 0) ≡ true → value_to stop n (drop i t) ≡ stop_at stop n (drop i t)
-  stops h e = step h ∙ rw (e, drop-cons t i 0 h, add-one i)
-
-  pub value_low : i < length t → get_or t i 0 < 48 → value_to stop n (drop i t) ≡ stop_at stop n (drop i t)
-  value_low h l = stops h (rw (lt-ltb (get_or t i 0) 48 l))
-
-  pub value_high : i < length t → 57 < get_or t i 0 → value_to stop n (drop i t) ≡ stop_at stop n (drop i t)
-  value_high h l = stops h (rw (lt-ltb 57 (get_or t i 0) l, or-true))
+  pub value_stops : i < length t → no_digit (get_or t i 0) ≡ true → value_to stop n (drop i t) ≡ stop_at stop n (drop i t)
+  value_stops h e = step h ∙ rw (e, drop-cons t i 0 h, add-one i)
 
   -- A digit does not end a number.
   module _ (h : i < length t) (low : 48 ≤ get_or t i 0) (high : get_or t i 0 ≤ 57) (ends : no_digit stop ≡ true) where
@@ -131,7 +89,7 @@ unfolding read_number up_to
 number_none stop = refl
 
 -- No word that begins so is a number.
-no_number : (b : ℕ) → no_digit b ≡ true → (w : List ℕ) → number_of (b ∷ w) ≡ none
+no_number : (b : ℕ) → no_digit b ≡ true → (w : List ℕ) → number_of (b ∷ w) ≡ None
 unfolding number_of value_from
 no_number b e [] = rw e
 no_number b e (c ∷ w) = by_test (eqb b 48) (λ y. rw y) (λ n. rw (n, e))
@@ -157,18 +115,12 @@ module _ (stop : ℕ) (t : List ℕ) (i : ℕ) (h : i < length t) where
   first : read_number stop (drop i t) ≡ pick (eqb (get_or t i 0) stop) torn (and_then (up_to stop (drop (i + 1) t)) (λ w r. or_torn (number_of (get_or t i 0 ∷ w)) r))
   first = rw (drop-cons t i 0 h, add-one i) (number_step stop (get_or t i 0) (drop (suc i) t))
 
-  number_not : no_digit (get_or t i 0) ≡ true → read_number stop (drop i t) ≡ torn
+  pub number_not : no_digit (get_or t i 0) ≡ true → read_number stop (drop i t) ≡ torn
   number_not e = first ∙ by_test (eqb (get_or t i 0) stop) (λ y. rw y) (λ n. rw n (go (up_to stop (drop (i + 1) t))))
     where
       go : (x : Read (List ℕ)) → and_then x (λ w r. or_torn (number_of (get_or t i 0 ∷ w)) r) ≡ torn
       go (found w r) = rw (no_number (get_or t i 0) e w)
       go torn = refl
-
-  pub number_low : get_or t i 0 < 48 → read_number stop (drop i t) ≡ torn
-  number_low l = number_not (rw (lt-ltb (get_or t i 0) 48 l))
-
-  pub number_high : 57 < get_or t i 0 → read_number stop (drop i t) ≡ torn
-  number_high l = number_not (rw (lt-ltb 57 (get_or t i 0) l, or-true))
 
   module _ (low : 48 ≤ get_or t i 0) (high : get_or t i 0 ≤ 57) (ends : no_digit stop ≡ true) where
     pub number_zero : get_or t i 0 ≡ 48 → read_number stop (drop i t) ≡ stop_at stop 0 (drop (i + 1) t)
@@ -185,7 +137,6 @@ module _ (stop : ℕ) (t : List ℕ) (i : ℕ) (h : i < length t) where
         go torn = refl
 
 -- The same answer, said of another place.
-pub number_from : (f g : List ℕ → Read ℕ) (t : List ℕ) (p q : ℕ) (at : Next) (r : Number) → NumberRead f t (At p) r
-    → at ≡ At q → p ≤ length t → q ≤ length t → g (drop q t) ≡ f (drop p t) → NumberRead g t at r
-number_from f g t p q at r x e h k i =
-    rw e (record { reads = record { said = x.reads.said ∙ read_at f t p h ∙ sym i ∙ sym (read_at g t q k); fits = x.reads.fits }; one = x.one })
+pub number_from : (f g : List ℕ → Read ℕ) (t : List ℕ) (p q : ℕ) {r : Option (ℕ × ℕ)} → Reads f t p r
+    → p ≤ length t → q ≤ length t → g (drop q t) ≡ f (drop p t) → Reads g t q r
+number_from f g t p q x h k i = record { said = x.said ∙ read_at f t p h ∙ sym i ∙ sym (read_at g t q k); fits = x.fits }

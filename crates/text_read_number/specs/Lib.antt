@@ -1,3 +1,2 @@
 pub mod Reads
-pub mod Answers
 pub mod Numbers

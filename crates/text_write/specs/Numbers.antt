@@ -2,9 +2,8 @@
 use Prim.Native.Nat.{ℕ, zero, suc, ◌+◌, ◌*◌, ◌/◌, ◌%◌, ◌^◌, ◌≤◌}
 use Prim.Native.String.{String}
 use Rattle.std.proofs.Common.{arith, inl, inr, length-take, length-drop}
-use Rattle.std.specs.Prelude.{◌≡◌, Bool, true, false, List, [], ◌∷◌, eqb, length, get_or, take, drop}
+use Rattle.std.specs.Prelude.{◌≡◌, Bool, true, false, List, [], ◌∷◌, eqb, length, get_or, take, drop, Some, None}
 use Rattle.std.proofs.Math.Path.{refl, subst}
-use Rattle.std.proofs.Math.Option.{none, some}
 use Rattle.rules.specs.Basics.{last, pick}
 use Rattle.rules.specs.Holds.{Plugin, held, plugins, count, rows_in_use}
 use Rattle.rules_laws.specs.Laws.Members.{In}
@@ -52,7 +51,7 @@ module _ (m : List ℕ) (P : Plugin → Type 0) (all : (i : ℕ) → P (plugin_a
       here : {q : Plugin} → q ≡ p → P q → P p
       here e x = subst P e x
 
-      go : (b : Bool) → (In p (held (places_from n m (i + 1))) → P p) → In p (held (pick b (some (plugin_at m i)) none ∷ places_from n m (i + 1))) → P p
+      go : (b : Bool) → (In p (held (places_from n m (i + 1))) → P p) → In p (held (pick b (Some (plugin_at m i)) None ∷ places_from n m (i + 1))) → P p
       go true more (inl e) = here e (all i)
       go true more (inr v) = more v
       go false more v = more v
@@ -67,7 +66,7 @@ ports_fit_lem key [] h = tt
 ports_fit_lem key (k ∷ []) h = tt
 ports_fit_lem key (k ∷ r ∷ l) h = ((h 0, h 1), ports_fit_lem key l (λ i. h (suc (suc i))))
 
-option_fits : (b : Bool) (n : ℕ) → n ≤ last → number_or_none.Fits (pick b (some n) none)
+option_fits : (b : Bool) (n : ℕ) → n ≤ last → number_or_none.Fits (pick b (Some n) None)
 option_fits true n h = h
 option_fits false n h = tt
 

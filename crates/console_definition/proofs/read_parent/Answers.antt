@@ -1,6 +1,5 @@
 -- `read_parent` meets its contract: the next word is `none`, a number, or neither, and each is a case of the definition.
-use Rattle.std.proofs.Common.{sym, ap, ◌∙◌}
-use Rattle.text_decimal.specs.Numbers.{read_of}
+use Rattle.std.proofs.Common.{sym, ◌∙◌}
 use Rattle.console_definition.proofs.Definitions.{nobody, parent_of, no_parent}
 use Rattle.console_definition.proofs.read_parent.Goals as goal
 
@@ -8,13 +7,13 @@ pub returns-then-is_word : goal.returns-then-is_word
 returns-then-is_word c =
     nobody c.args.bytes.now c.args.from c.next_word-word.result c.next_word-word.ensures.word (sym c.is_word.ensures ∙ c.if-is_word.true)
 
-pub returns-in-Is : goal.returns-in-Is
-returns-in-Is c =
-    parent_of c.args.bytes.now c.args.from c.next_word-word.result c.next_word-word.ensures.word
-    (sym c.is_word.ensures ∙ c.if-is_word.false) c.in-Is.id
-    (sym c.read_decimal-number.ensures ∙ ap read_of c.in-Is.is)
+pub returns-in_err-id : goal.returns-in_err-id
+returns-in_err-id c =
+    rw c.from_residual.ensures
+    (no_parent c.args.bytes.now c.args.from c.next_word-word.result c.next_word-word.ensures.word
+    (sym c.is_word.ensures ∙ c.if-is_word.false) c.in_err-id.ensures)
 
-pub returns-in-None : goal.returns-in-None
-returns-in-None c =
-    no_parent c.args.bytes.now c.args.from c.next_word-word.result c.next_word-word.ensures.word
-    (sym c.is_word.ensures ∙ c.if-is_word.false) (sym c.read_decimal-number.ensures ∙ ap read_of c.in-None.is)
+pub returns : goal.returns
+returns c =
+    parent_of c.args.bytes.now c.args.from c.next_word-word.result c.next_word-word.ensures.word
+    (sym c.is_word.ensures ∙ c.if-is_word.false) c.in_ok-id.id c.in_ok-id.ensures

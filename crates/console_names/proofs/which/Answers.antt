@@ -6,8 +6,8 @@ use Rattle.console_names.proofs.which.Goals as goal
 pub loop-at-init : goal.loop-at-init
 loop-at-init c = (omega arith, omega arith, omega arith)
 
-pub returns-then-stop-start : goal.returns-then-stop-start
-returns-then-stop-start c =
+pub returns-then-next : goal.returns-then-next
+returns-then-next c =
     let w = c.next_word-next in
     let e = no_name c.args.word.now c.args.names.now c.loop-at.at w.result w.ensures.word (omega arith) in
     omega arith

@@ -3,8 +3,8 @@ use Rattle.console_show.proofs.Laws.{none_between, some_between}
 use Rattle.console_show.proofs.buffered.Goals as goal
 
 pub returns-then-to-from : goal.returns-then-to-from
-returns-then-to-from c = none_between c.args.from c.args.to c.args.buffer.now _ _ c.put-at.ensures c.if-to-from.true
+returns-then-to-from c = none_between c.args.from c.args.to c.args.buffer.now _ _ c.put.ensures c.if-to-from.true
 
 pub returns : goal.returns
 returns c =
-    some_between c.args.from c.args.to c.args.buffer.now _ _ c.put-at.ensures _ _ c.some_words-some.ensures c.numbers.ensures
+    some_between c.args.from c.args.to c.args.buffer.now _ _ c.put.ensures _ _ c.some_words-some.ensures c.numbers.ensures

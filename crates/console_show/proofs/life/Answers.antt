@@ -14,8 +14,8 @@ returns c =
     let l3 = length_told m id k Generation _ _ _ l2 c.vaskelbi_generation.ensures in
     let l4 = length_told m id k Revision _ _ _ l3 c.vaskelbi_revision.ensures in
     life_said m id k _ _ _ _ _ _
-    (field_said m id k PhaseOf _ _ _ refl c.vaskelbi_phase.ensures _ _ c.answer-phase.ensures)
-    (field_said m id k RetiredMark _ _ _ l1 c.vaskelbi_retired.ensures _ _ c.answer-retired.ensures)
-    (field_said m id k Generation _ _ _ l2 c.vaskelbi_generation.ensures _ _ c.answer-generation.ensures)
-    (field_said m id k Revision _ _ _ l3 c.vaskelbi_revision.ensures _ _ c.answer-revision.ensures)
-    (field_said m id k Payload _ _ _ l4 c.vaskelbi_payload.ensures _ _ c.answer.ensures)
+    (field_said m id k PhaseOf _ _ _ refl c.vaskelbi_phase.ensures _ _ c.answer.ensures)
+    (field_said m id k RetiredMark _ _ _ l1 c.vaskelbi_retired.ensures _ _ c.answer-2.ensures)
+    (field_said m id k Generation _ _ _ l2 c.vaskelbi_generation.ensures _ _ c.answer-3.ensures)
+    (field_said m id k Revision _ _ _ l3 c.vaskelbi_revision.ensures _ _ c.answer-4.ensures)
+    (field_said m id k Payload _ _ _ l4 c.vaskelbi_payload.ensures _ _ c.answer-5.ensures)

@@ -5,9 +5,9 @@ use Rattle.console_show.proofs.root.Goals as goal
 
 pub returns-then-unqueued : goal.returns-then-unqueued
 returns-then-unqueued c =
-    none_queued c.args.m.now c.args.id c.requires _ _ _ _ _ refl c.vaskelbi_root-told.ensures c.answer-at.ensures _ c.if-unqueued.true
+    none_queued c.args.m.now c.args.id c.requires _ _ _ _ _ refl c.vaskelbi_root-told.ensures c.answer.ensures _ c.if-unqueued.true
     c.put.ensures
 
-pub returns : goal.returns
-returns c =
-    some_queued c.args.m.now c.args.id c.requires _ _ _ _ _ refl c.vaskelbi_root-told.ensures c.answer-at.ensures c.if-unqueued.false
+pub returns-else-unqueued : goal.returns-else-unqueued
+returns-else-unqueued c =
+    some_queued c.args.m.now c.args.id c.requires _ _ _ _ _ refl c.vaskelbi_root-told.ensures c.answer.ensures c.if-unqueued.false

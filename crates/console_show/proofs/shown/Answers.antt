@@ -8,11 +8,11 @@ pub returns-then-status-ne0 : goal.returns-then-status-ne0
 returns-then-status-ne0 c =
     refusal_shown c.args.m.now c.args.id _ _ _ _ c.vaskelbi_parent-status.ensures c.if-status-ne0.true c.told.ensures
 
-pub life-payload-requires : goal.life-payload-requires
-life-payload-requires c = sym c.vaskelbi_parent-status.ensures.0 ∙ c.if-status-ne0.false
+pub life-requires : goal.life-requires
+life-requires c = sym c.vaskelbi_parent-status.ensures.0 ∙ c.if-status-ne0.false
 
-pub root-queued-requires : goal.root-queued-requires
-root-queued-requires c = sym c.vaskelbi_parent-status.ensures.0 ∙ c.if-status-ne0.false
+pub root-requires : goal.root-requires
+root-requires c = sym c.vaskelbi_parent-status.ensures.0 ∙ c.if-status-ne0.false
 
 pub returns : goal.returns
 returns c =
@@ -20,5 +20,5 @@ returns c =
     let id = c.args.id in
     let heard = c.vaskelbi_parent-status.ensures in
     let k = sym heard.0 ∙ c.if-status-ne0.false in
-    all_shown m id k _ _ _ refl heard _ _ _ _ _ _ c.put-ok.ensures c.answer_or_none-parent.ensures c.life-payload.ensures c.root-queued.ensures
+    all_shown m id k _ _ _ refl heard _ _ _ _ _ _ c.put.ensures c.answer_or_none.ensures c.life.ensures c.root.ensures
     (field_said m id k Anchor _ _ _ (length_told m id k Parent _ _ _ refl heard) c.vaskelbi_anchor.ensures _ _ c.answer.ensures)

@@ -1,10 +1,7 @@
 -- No byte from the first place up to place i is a space.
-use Rattle.std.proofs.Common.{refl, arith}
+use Rattle.std.proofs.Common.{arith}
 use Rattle.console_words.proofs.Places.{word_end, word_stop, word_next}
 use Rattle.console_words.proofs.past_word.Goals as goal
-
-pub loop-i-init : goal.loop-i-init
-loop-i-init c = (omega arith, refl)
 
 pub returns-then-space : goal.returns-then-space
 returns-then-space c =
@@ -14,7 +11,7 @@ returns-then-space c =
 pub loop-i-preserved : goal.loop-i-preserved
 loop-i-preserved c =
     let e = word_next c.args.line.now c.loop-i.i (omega arith) (λ e. omega arith) in
-    (omega arith, omega arith)
+    omega arith
 
 pub returns : goal.returns
 returns c =

@@ -1,23 +1,13 @@
 -- `find_from` meets its contract: the search from place i on finds what the whole one does.
-use Rattle.std.proofs.Common.{refl, sym, ◌∙◌, arith}
+use Rattle.std.proofs.Common.{sym, ◌∙◌, arith}
 use Rattle.memory.proofs.Search.{find_here, find_next, find_end}
 use Rattle.memory.proofs.find_from.Goals as goal
 
-pub loop-i-init : goal.loop-i-init
-loop-i-init c = (c.requires, refl)
-
 pub returns-then-names : goal.returns-then-names
-returns-then-names c =
-    sym
-    (c.loop-i.invariant.1
-    ∙ find_here _ _ _ (omega arith) (sym c.names.ensures ∙ c.if-names.true))
+returns-then-names c = sym (c.loop-i.invariant ∙ find_here _ _ _ (omega arith) (sym c.names.ensures ∙ c.if-names.true))
 
 pub loop-i-preserved : goal.loop-i-preserved
-loop-i-preserved c = (
-  omega arith,
-  c.loop-i.invariant.1
-      ∙ find_next _ _ _ (omega arith) (sym c.names.ensures ∙ c.if-names.false),
-)
+loop-i-preserved c = c.loop-i.invariant ∙ find_next _ _ _ (omega arith) (sym c.names.ensures ∙ c.if-names.false)
 
 pub returns : goal.returns
-returns c = sym (c.loop-i.invariant.1 ∙ find_end _ _ _ (omega arith))
+returns c = sym (c.loop-i.invariant ∙ find_end _ _ _ (omega arith))

@@ -2,8 +2,8 @@
 use Rattle.memory.proofs.Codes.{parent_rest}
 use Rattle.memory.proofs.is_child_of.Goals as goal
 
-pub returns-then-m-b-eq0 : goal.returns-then-m-b-eq0
-returns-then-m-b-eq0 c = rw c.if-m-b-eq0.true
+pub returns-else-m-b-ne0 : goal.returns-else-m-b-ne0
+returns-else-m-b-ne0 c = rw c.if-m-b-ne0.false
 
-pub returns-else-m-b-eq0 : goal.returns-else-m-b-eq0
-returns-else-m-b-eq0 c = rw (← parent_rest _ _ c.if-m-b-eq0.false)
+pub returns-then-m-b-ne0 : goal.returns-then-m-b-ne0
+returns-then-m-b-ne0 c = rw (← parent_rest _ _ c.if-m-b-ne0.true)

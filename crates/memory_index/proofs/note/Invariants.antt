@@ -4,6 +4,3 @@ use Rattle.memory_index.proofs.note.Given as goal
 
 abbrev pub invariant-loop-row : goal.invariant-loop-row
 invariant-loop-row l = NotedFrom l.initial.index l.place l.ports l.row l.index
-
-abbrev pub decreases-loop-row : goal.decreases-loop-row
-decreases-loop-row l = l.row

@@ -4,7 +4,4 @@ use Rattle.memory_keys.proofs.Laws.{Seen}
 use Rattle.memory_keys.proofs.bits_without.Given as goal
 
 abbrev pub invariant-loop-row : goal.invariant-loop-row
-invariant-loop-row l = Seen l.word l.ports (port l.key l.realm) l.row l.bits
-
-abbrev pub decreases-loop-row : goal.decreases-loop-row
-decreases-loop-row l = l.row
+invariant-loop-row l = Seen l.word l.ports l.port l.row l.bits

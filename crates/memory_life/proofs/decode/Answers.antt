@@ -4,4 +4,4 @@ use Rattle.memory_life.proofs.decode.Goals as goal
 
 pub returns : goal.returns
 unfolding decoded
-returns c = simp (c.phase_of-phase.ensures, c.root_of-root.ensures, c.of.ensures)
+returns c = simp (c.phase_of.ensures, c.root_of.ensures, c.of.ensures)

@@ -6,6 +6,3 @@ use Rattle.memory_places.proofs.id_from.Given as goal
 
 abbrev pub invariant-loop-i : goal.invariant-loop-i
 invariant-loop-i l = Passed l.number l.m l.i l.lowest
-
-abbrev pub decreases-loop-i : goal.decreases-loop-i
-decreases-loop-i l = places - l.i

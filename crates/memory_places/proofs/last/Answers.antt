@@ -7,4 +7,4 @@ pub returns-in_default : goal.returns-in_default
 returns-in_default c = last_missed _ (sym c.find.ensures ∙ c.in_default.is)
 
 pub returns : goal.returns
-returns c = last_found _ _ (sym c.find.ensures ∙ c.in-At.is)
+returns c = last_found _ _ (sym c.find.ensures ∙ c.in-Some.is)

@@ -14,4 +14,4 @@ pub loop-k-preserved : goal.loop-k-preserved
 loop-k-preserved c = rows_next _ _ _ _ c.loop-k-test.true c.loop-k.invariant _ c.rows_of_four-total.ensures.0 c.rows_of_four-total.ensures.1
 
 pub returns : goal.returns
-returns c = rows_end_lem _ _ _ _ c.loop-k-test.false c.loop-k.invariant ∙ sym (rows_view _ c.known.ensures)
+returns c = rows_end_lem _ _ _ _ c.loop-k-test.false c.loop-k.invariant ∙ sym (rows_view c.args.m.now c.told-m)

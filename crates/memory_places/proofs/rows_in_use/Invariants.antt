@@ -5,6 +5,3 @@ use Rattle.memory_places.proofs.rows_in_use.Given as goal
 
 abbrev pub invariant-loop-k : goal.invariant-loop-k
 invariant-loop-k l = Counted l.m l.k l.word l.total
-
-abbrev pub decreases-loop-k : goal.decreases-loop-k
-decreases-loop-k l = 8 - l.k

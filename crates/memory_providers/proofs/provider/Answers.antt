@@ -6,13 +6,13 @@ use Rattle.memory_providers.proofs.provider.Goals as goal
 
 pub loop-i-init : goal.loop-i-init
 unfolding provider_at
-loop-i-init c = (omega arith, refl)
+loop-i-init c = refl
 
 pub returns-then-offers : goal.returns-then-offers
-returns-then-offers c = sym (c.loop-i.invariant.1 ∙ search_here _ _ _ (omega arith) (sym c.offers.ensures ∙ c.if-offers.true))
+returns-then-offers c = sym (c.loop-i.invariant ∙ search_here _ _ _ (omega arith) (sym c.offers.ensures ∙ c.if-offers.true))
 
 pub loop-i-preserved : goal.loop-i-preserved
-loop-i-preserved c = (omega arith, c.loop-i.invariant.1 ∙ search_next _ _ _ (omega arith) (sym c.offers.ensures ∙ c.if-offers.false))
+loop-i-preserved c = c.loop-i.invariant ∙ search_next _ _ _ (omega arith) (sym c.offers.ensures ∙ c.if-offers.false)
 
 pub returns : goal.returns
-returns c = sym (c.loop-i.invariant.1 ∙ search_end _ _ _ (omega arith))
+returns c = sym (c.loop-i.invariant ∙ search_end _ _ _ (omega arith))

@@ -1,5 +1,5 @@
 -- `provider` meets its contract: the search from place i on finds what the whole search does, as no place before i offers the port.
-use Rattle.std.proofs.Common.{◌≡◌, ◌≤◌, ◌-◌}
+use Rattle.std.proofs.Common.{◌≡◌, ◌-◌}
 use Rattle.rules.specs.Holds.{port, Plugin, provides}
 use Rattle.memory.specs.Lookups.{search_from}
 use Rattle.memory.specs.Layout.{places}
@@ -8,7 +8,4 @@ use Rattle.memory_providers.proofs.provider.Given as goal
 
 abbrev pub invariant-loop-i : goal.invariant-loop-i
 invariant-loop-i l =
-    (l.i ≤ places) × (provider_at l.m (port l.key l.realm) ≡ search_from (λ (p : Plugin). provides p (port l.key l.realm)) (places - l.i) l.m l.i)
-
-abbrev pub decreases-loop-i : goal.decreases-loop-i
-decreases-loop-i l = places - l.i
+    provider_at l.m l.port ≡ search_from (λ (p : Plugin). provides p l.port) (places - l.i) l.m l.i

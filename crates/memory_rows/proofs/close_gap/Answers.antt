@@ -7,10 +7,10 @@ pub returns-then-end-start : goal.returns-then-end-start
 returns-then-end-start c = sym (gap_none _ _ _ _ (omega arith))
 
 pub loop-j-init : goal.loop-j-init
-loop-j-init c = (omega arith, omega arith, gap_start _ _ _ _ (omega arith))
+loop-j-init c = (omega arith, gap_start _ _ _ _ (omega arith))
 
 pub loop-j-preserved : goal.loop-j-preserved
-loop-j-preserved c = (omega arith, omega arith, c.loop-j.invariant.2 ∙ moved_next _ _ _ _ (omega arith))
+loop-j-preserved c = (omega arith, c.loop-j.invariant.1 ∙ moved_next _ _ _ _ (omega arith))
 
 pub returns : goal.returns
-returns c = sym (c.loop-j.invariant.2 ∙ moved_end _ _ _ _ (omega arith))
+returns c = sym (c.loop-j.invariant.1 ∙ moved_end _ _ _ _ (omega arith))

@@ -6,7 +6,4 @@ use Rattle.memory_rows.proofs.close_gap.Given as goal
 
 abbrev pub invariant-loop-j : goal.invariant-loop-j
 invariant-loop-j l =
-    (l.start * row_words + rows_start ≤ l.j) × (l.j ≤ l.stop) × (closed_gap l.initial.m l.start l.count l.end ≡ moved (l.stop - l.j) l.m l.j l.k)
-
-abbrev pub decreases-loop-j : goal.decreases-loop-j
-decreases-loop-j l = l.stop - l.j
+    (l.start * row_words + rows_start ≤ l.j) × (closed_gap l.initial.m l.start l.count l.end ≡ moved (l.stop - l.j) l.m l.j l.k)

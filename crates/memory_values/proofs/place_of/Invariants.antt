@@ -6,7 +6,4 @@ use Rattle.memory_values.specs.Values.{port_from}
 use Rattle.memory_values.proofs.place_of.Given as goal
 
 abbrev pub invariant-loop-i : goal.invariant-loop-i
-invariant-loop-i l = port_from 0 (port l.key l.realm) (pairs l.list) ≡ port_from l.i (port l.key l.realm) (pairs (drop (l.i * 2) l.list))
-
-abbrev pub decreases-loop-i : goal.decreases-loop-i
-decreases-loop-i l = length l.list / 2 - l.i
+invariant-loop-i l = port_from 0 l.port (pairs l.list) ≡ port_from l.i l.port (pairs (drop (l.i * 2) l.list))

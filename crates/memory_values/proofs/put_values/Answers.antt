@@ -16,25 +16,14 @@ put_next m values n b k h l =
 put_end : (m values : List ℕ) (n b k : ℕ) → length (take n values) ≤ k → puts m b k (from n k values) ≡ m
 put_end m values n b k h = rw (drop_of_length-le (take n values) h)
 
-pub loop-k-init : goal.loop-k-init
-loop-k-init c = (omega arith, refl)
-
-pub returns-then-k-eq-PROVISION_KEYS : goal.returns-then-k-eq-PROVISION_KEYS
-unfolding put_values
-returns-then-k-eq-PROVISION_KEYS c =
-    let l = c.loop-k in
-    let values = c.args.values.now in
-    sym (l.invariant.1 ∙ put_end l.m values max_provision_keys _ l.k (omega (arith, length-take max_provision_keys values, c.if-k-eq-PROVISION_KEYS.true)))
-
 pub loop-k-preserved : goal.loop-k-preserved
 loop-k-preserved c =
     let l = c.loop-k in
-    let values = c.args.values.now in
-    (omega arith, l.invariant.1 ∙ put_next l.m values max_provision_keys _ l.k (omega arith) (omega arith))
+    l.invariant ∙ put_next l.m c.args.values.now max_provision_keys _ l.k (omega arith) (omega arith)
 
 pub returns : goal.returns
 unfolding put_values
 returns c =
     let l = c.loop-k in
     let values = c.args.values.now in
-    sym (l.invariant.1 ∙ put_end l.m values max_provision_keys _ l.k (omega (arith, length-take max_provision_keys values)))
+    sym (l.invariant ∙ put_end l.m values max_provision_keys _ l.k (omega (arith, length-take max_provision_keys values)))

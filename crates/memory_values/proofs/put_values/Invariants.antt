@@ -11,8 +11,4 @@ from n k values = drop k (take n values)
 
 abbrev pub invariant-loop-k : goal.invariant-loop-k
 invariant-loop-k l =
-    (l.k ≤ max_provision_keys)
-    × (puts l.initial.m (l.b + values_word) 0 (take max_provision_keys l.values) ≡ puts l.m (l.b + values_word) l.k (from max_provision_keys l.k l.values))
-
-abbrev pub decreases-loop-k : goal.decreases-loop-k
-decreases-loop-k l = length l.values - l.k
+    puts l.initial.m (l.b + values_word) 0 (take max_provision_keys l.values) ≡ puts l.m (l.b + values_word) l.k (from max_provision_keys l.k l.values)

@@ -1,8 +1,8 @@
 -- Until the key is found, the first port with it is the first of the rest, counted from i.
+use Rattle.std.specs.Prelude.{Some}
 use Rattle.std.proofs.Common.{ℕ, ◌+◌, ◌*◌, arith, ◌≡◌, sym, ap, ◌∙◌, List, drop}
 use Rattle.rules_types.specs.declared.Port.{Port}
 use Rattle.rules.specs.Ports.{pairs}
-use Rattle.ports.specs.declared.Found.TheVariants.{At}
 use Rattle.ports.specs.Answers.{first_from}
 use Rattle.ports.specs.Places.{pairs_at, pairs_end, first_hit, first_miss}
 use Rattle.ports.proofs.first_port.Goals as goal
@@ -23,7 +23,7 @@ returns-then-at-ports c =
     elim c.if-ports-i.branch [
       | then-ports-i w ↦ absurd (omega arith)
       | else-ports-i+then-ports-i-2 w ↦
-          ap At w.at-is ∙ sym (c.loop-i.invariant ∙ first_hit (pairs_at l (i * 2) (omega arith)) i c.args.key w.if-ports-i-2.true)
+          ap Some w.at-is ∙ sym (c.loop-i.invariant ∙ first_hit (pairs_at l (i * 2) (omega arith)) i c.args.key w.if-ports-i-2.true)
     ]
 
 pub returns-else-at-ports : goal.returns-else-at-ports

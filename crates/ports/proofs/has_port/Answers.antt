@@ -1,31 +1,18 @@
--- The port is not among those from a row on.
-use Rattle.std.proofs.Common.{◌-◌, ◌*◌, ◌/◌, arith, ◌≡◌, sym, ap, ◌∙◌, length}
-use Rattle.rules.specs.Holds.{port, is_in}
-use Rattle.ports.specs.Places.{pairs_before, pairs_end, in_hit, in_miss, in_later}
+-- The port is not among those before the chunks that are left.
+use Rattle.std.proofs.Common.{◌∙◌, ap}
+use Rattle.rules.specs.Holds.{port}
+use Rattle.rules.specs.Ports.{pairs}
+use Rattle.ports.specs.Places.{in_miss}
+use Rattle.rules_laws.specs.Laws.Pairs.{pairs_chunk}
 use Rattle.ports.proofs.has_port.Goals as goal
-use Rattle.ports.proofs.has_port.Goals.{then-ports-row+else-ports-row-2, else-ports-row}
+use Rattle.ports.proofs.has_port.Goals.{else-pair-port-via-then-pair-port+else-pair-port-2, else-pair-port-via-else-pair-port}
 
-pub loop-row-init : goal.loop-row-init
-loop-row-init c =
-    let a = c.args in
-    let l = a.ports.now in
-    (omega arith, ap (is_in (port a.key a.realm)) (pairs_end l (length l / 2 * 2) (omega arith)))
-
-pub returns-then-ports-row-2 : goal.returns-then-ports-row-2
-returns-then-ports-row-2 c =
-    let a = c.args in
-    let n = c.loop-row.row in
-    let q = port a.key a.realm in
-    let s = pairs_before a.ports.now n (n * 2 - 2) (n * 2 - 1) (omega arith) (omega arith) (omega arith) in
-    sym (in_later q (n - 1) a.ports.now (in_hit s q c.if-ports-row.true c.if-ports-row-2.true))
-
-pub loop-row-preserved : goal.loop-row-preserved
-loop-row-preserved c =
-    let a = c.args in
-    let n = c.loop-row.row in
-    let q = port a.key a.realm in
-    let s = pairs_before a.ports.now n (n * 2 - 2) (n * 2 - 1) (omega arith) (omega arith) (omega arith) in
-    (omega arith, in_miss s q (elim c.if-ports-row.branch [ then-ports-row+else-ports-row-2 w ↦ λ e f. w.if-ports-row-2.false f | else-ports-row w ↦ λ e f. w.if-ports-row.false e ]) ∙ c.loop-row.invariant.1)
-
-pub returns : goal.returns
-returns c = let z : c.loop-row.row ≡ 0 = omega arith in sym (rw z at c.loop-row.invariant.1)
+pub loop-pair-preserved : goal.loop-pair-preserved
+loop-pair-preserved c =
+    let i = c.loop-pair.invariant in
+    let next = c.in-Some.ensures.steps in
+    let s = ap pairs next.1.0 ∙ pairs_chunk c.in-Some.pair.now _ (next.1.1 ∙ i.0) in (
+      next.0 ∙ i.0,
+      i.1 ∙ in_miss s c.args.port
+          (elim c.else-pair-port.branch [ else-pair-port-via-then-pair-port+else-pair-port-2 w ↦ λ e f. w.if-pair-port-2.false f | else-pair-port-via-else-pair-port w ↦ λ e f. w.if-pair-port.false e ]),
+    )

@@ -35,8 +35,8 @@ loop-row-preserved c =
     let two : (c.loop-row.row + 1) * 2 ≡ suc (suc n) = omega arith in
     let key : get_or l n 0 ≡ get_or m n 0 = c.if-list-row.false in
     let realm : get_or l (suc n) 0 ≡ get_or m (suc n) 0 = ap (λ x. get_or l x 0) (sym (add-one n)) ∙ c.if-list-row-2.false ∙ ap (λ x. get_or m x 0) (add-one n) in
-    let first : take (suc n) l ≡ take (suc n) m = rw (take-suc l n 0 (omega arith), take-suc m n 0 (omega arith), c.loop-row.invariant.1, key) in
-    (omega arith, rw (two, take-suc l (suc n) 0 (omega arith), take-suc m (suc n) 0 (omega arith), first, realm))
+    let first : take (suc n) l ≡ take (suc n) m = rw (take-suc l n 0 (omega arith), take-suc m n 0 (omega arith), c.loop-row.invariant, key) in
+    rw (two, take-suc l (suc n) 0 (omega arith), take-suc m (suc n) 0 (omega arith), first, realm)
 
 pub returns : goal.returns
 returns c =
@@ -44,5 +44,5 @@ returns c =
     let m = c.args.ports.now in
     let n = length l / 2 in
     let e : c.loop-row.row ≡ n = omega arith in
-    let q : pairs l ≡ pairs m = sym (pairs_whole n l (omega arith)) ∙ ap pairs (rw e at c.loop-row.invariant.1) ∙ pairs_whole n m (omega arith) in
+    let q : pairs l ≡ pairs m = sym (pairs_whole n l (omega arith)) ∙ ap pairs (rw e at c.loop-row.invariant) ∙ pairs_whole n m (omega arith) in
     sym (rw (length_even l c.if-list-ne0.false, q) (same_refl (pairs m)))

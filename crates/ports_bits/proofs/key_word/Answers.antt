@@ -8,16 +8,16 @@ pub loop-row-init : goal.loop-row-init
 loop-row-init c =
     let a = c.args in
     let l = a.ports.now in
-    (omega arith, word_none a.word l (length l / 2) (omega arith))
+    word_none a.word l (length l / 2) (omega arith)
 
 pub loop-row-preserved : goal.loop-row-preserved
 loop-row-preserved c =
     let l = c.args.ports.now in
     let row = c.loop-row.row in
-    let s = pairs_before l row ((row - 1) * 2) ((row - 1) * 2 + 1) (omega arith) refl c.loop-row.invariant.0 in
-    (omega arith, c.with_bit-bits.ensures ∙ word_next _ l row _ s c.loop-row.invariant.1)
+    let s = pairs_before l row ((row - 1) * 2) ((row - 1) * 2 + 1) (omega arith) refl (omega arith) in
+    c.with_bit-bits.ensures ∙ word_next _ l row _ s c.loop-row.invariant
 
 pub returns : goal.returns
 returns c =
     let e : c.loop-row.row ≡ 0 = omega arith in
-    rw e at c.loop-row.invariant.1
+    rw e at c.loop-row.invariant

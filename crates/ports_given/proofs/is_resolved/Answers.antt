@@ -8,5 +8,5 @@ use Rattle.ports_given.proofs.is_resolved.Goals as goal
 pub returns : goal.returns
 returns c =
     let a = c.args in
-    resolved_realm a.other a.rows.now a.key a.realm
+    resolved_realm a.other a.rows.now a.port.key a.port.realm
     (resolve_with (reached (pairs a.rows.now)) _ _ _ _ c.resolve-q.ensures c.new.ensures)

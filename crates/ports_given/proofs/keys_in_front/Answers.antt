@@ -1,41 +1,42 @@
 -- The ports before row n are declarable, and their keys are kept.
-use Rattle.std.proofs.Common.{◌*◌, arith, inl, inr, refl, sym, ap, ◌∙◌, eqb, get_or}
-use Rattle.rules.specs.Basics.{any}
+use Rattle.std.proofs.Common.{◌≡◌, arith, inl, inr, sym, ◌∙◌, subst, ltb-true, ltb-false}
+use Rattle.std.specs.Prelude.{ltb}
+use Rattle.rules.specs.Ports.{pairs}
+use Rattle.rules.specs.Limits.{max_dependency_keys}
+use Rattle.rules_laws.specs.Laws.Tests.{by_test}
 use Rattle.ports.specs.Places.{length_pairs}
-use Rattle.ports_given.proofs.Fronts.{front_size, unresolved, alike, front_more}
+use Rattle.ports_realms.specs.Halving.{reached_with}
+use Rattle.ports_given.specs.Given.{Front}
+use Rattle.ports_given.proofs.Fronts.{unresolved, alike, front_more}
 use Rattle.ports_given.proofs.keys_in_front.Goals as goal
-
-pub loop-n-init : goal.loop-n-init
-loop-n-init c = record { few = omega arith; inside = omega arith; filled = refl; declared = refl }
-
-pub returns-then-n-eq-KEYS : goal.returns-then-n-eq-KEYS
-returns-then-n-eq-KEYS c = record { front = c.loop-n.invariant; end = inl c.if-n-eq-KEYS.true }
+use Rattle.ports_given.proofs.keys_in_front.Goals.{then-not-is_resolved-via-then-not-is_resolved, then-not-is_resolved-via-else-not-is_resolved+then-has_number}
 
 pub returns-then-not-is_resolved : goal.returns-then-not-is_resolved
 returns-then-not-is_resolved c =
-    let a = c.args in
-    let e = sym c.is_resolved.ensures ∙ c.if-not-is_resolved.true in
-    record { front = c.loop-n.invariant; end = inr (inr (unresolved a.list.now c.loop-n.invariant (omega arith) e)) }
-
-pub slice_bounds-first_words-end : goal.slice_bounds-first_words-end
-slice_bounds-first_words-end c = sym (front_size c.loop-n.invariant)
-
-pub returns-then-has_number : goal.returns-then-has_number
-returns-then-has_number c =
-    let a = c.args in
-    let e = ap (any (eqb (get_or a.list.now (c.loop-n.n * 2) 0))) (sym c.first_words.ensures)
-    ∙ sym c.has_number.ensures ∙ c.if-has_number.true in
-    record { front = c.loop-n.invariant; end = inr (inr (alike a.list.now c.loop-n.invariant (omega arith) e)) }
+    let f = c.loop-n.invariant in
+    elim c.then-not-is_resolved.branch [
+      | then-not-is_resolved-via-then-not-is_resolved w ↦ record {
+        front = f;
+        end = inr (inr (unresolved c.args.list.now f (omega arith) (sym c.is_resolved.ensures ∙ w.if-not-is_resolved.true)));
+      }
+      | then-not-is_resolved-via-else-not-is_resolved+then-has_number w ↦ record {
+        front = f;
+        end = inr (inr (alike c.args.list.now f (omega arith) (sym w.has_number.ensures ∙ w.if-has_number.true)));
+      }
+    ]
 
 pub loop-n-preserved : goal.loop-n-preserved
 loop-n-preserved c =
-    let a = c.args in
     let e = sym c.is_resolved.ensures ∙ c.if-not-is_resolved.false in
-    let d = ap (any (eqb (get_or a.list.now (c.loop-n.n * 2) 0))) (sym c.first_words.ensures)
-    ∙ sym c.has_number.ensures ∙ c.if-has_number.false in
-    front_more a.list.now c.loop-n.invariant (omega arith) (omega arith) e d
+    front_more c.args.list.now c.loop-n.invariant (omega arith) (omega arith) e (sym c.has_number.ensures ∙ c.if-has_number.false)
 
 pub returns : goal.returns
 returns c =
-    let a = c.args in
-    record { front = c.loop-n.invariant; end = inr (inl (omega (arith, length_pairs a.list.now, c.loop-n.invariant.inside))) }
+    let list = c.args.list.now in
+    let n = c.min-most.result in
+    let e : c.loop-n.n ≡ n = omega arith in record {
+      front = subst (λ m. Front (reached_with c.args.other c.args.rows.now) (pairs list) m c.loop-n.keys) e c.loop-n.invariant;
+      end = by_test (ltb n max_dependency_keys)
+          (λ t. let l = ltb-true n max_dependency_keys t in inr (inl (omega (arith, length_pairs list))))
+          (λ f. let l = ltb-false n max_dependency_keys f in inl (omega arith));
+    }

@@ -1,5 +1,4 @@
 -- The ports before row n are declarable, and their keys are kept.
-use Rattle.std.proofs.Common.{◌-◌, ◌/◌, length}
 use Rattle.rules.specs.Ports.{pairs}
 use Rattle.ports_realms.specs.Halving.{reached_with}
 use Rattle.ports_given.specs.Given.{Front}
@@ -7,6 +6,3 @@ use Rattle.ports_given.proofs.keys_in_front.Given as goal
 
 abbrev pub invariant-loop-n : goal.invariant-loop-n
 invariant-loop-n l = Front (reached_with l.other l.rows) (pairs l.list) l.n l.keys
-
-abbrev pub decreases-loop-n : goal.decreases-loop-n
-decreases-loop-n l = length l.list / 2 - l.n

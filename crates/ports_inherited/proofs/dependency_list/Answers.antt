@@ -20,7 +20,7 @@ use Rattle.ports_resolved.specs.Stored.{declared_lists}
 use Rattle.ports_resolved.specs.Keys.{list_room}
 use Rattle.ports_inherited.proofs.dependency_list.Invariants.{so_far, finished, Drawn, Compared}
 use Rattle.ports_inherited.proofs.dependency_list.Goals as goal
-use Rattle.ports_inherited.proofs.dependency_list.Goals.{After-declared-count, After-candidate-turn, then-list-k+else-list-k-2, else-list-k}
+use Rattle.ports_inherited.proofs.dependency_list.Goals.{After-declared-count, After-candidate-turn, else-list-k-via-then-list-k+else-list-k-2, else-list-k-via-else-list-k}
 
 module _ (other : ℕ) (anchor : Port) (rows keys provisions parents : List ℕ) where
   all_taken : (list : List ℕ) (n c : ℕ) → Drawn other anchor rows keys provisions parents list n c → length parents / 2 ≤ c / 2
@@ -33,8 +33,8 @@ module _ (other : ℕ) (anchor : Port) (rows keys provisions parents : List ℕ)
 compared_first : {list : List ℕ} {n bits : ℕ} → Lists list_room n list (so_far n list) → Covers bits (so_far n list) → (q : Port) {k : ℕ}
     → k ≡ pick (has_bit bits q.key) 0 n → Compared list n q k
 compared_first {list} {n} {bits} r s q e = by_test (has_bit bits q.key)
-    (λ t. rw (e, t) (omega arith, refl))
-    (λ f. rw (e, f) (omega arith, lacks_not_in s q f ∙ sym (ap (is_in q) (lists_end r n (omega arith)))))
+    (λ t. rw (e, t))
+    (λ f. rw (e, f) (lacks_not_in s q f ∙ sym (ap (is_in q) (lists_end r n (omega arith)))))
 
 -- the declared ports come first
 declared_first : (c : After-declared-count)
@@ -140,19 +140,17 @@ next-preserved-then-list-k-2 c =
     let v = c.next.invariant in
     let free = sym c.is_own.ensures ∙ c.if-is_own.false in
     let s = lists_at v.1.1 c.loop-k.k c.loop-k-test.true in
-    let there = c.loop-k.invariant.1 ∙ in_hit s (drawn t) c.if-list-k.true c.if-list-k-2.true in
+    let there = c.loop-k.invariant ∙ in_hit s (drawn t) c.if-list-k.true c.if-list-k-2.true in
     (v.0, (v.1.0, v.1.1, v.1.2 ∙ skip_listed (split t) (own t) (list t) free there ∙ dealt t (list t) (rw (free, there))))
 
 pub loop-k-preserved : goal.loop-k-preserved
 loop-k-preserved c =
     let t = (goal.at.loop-k-preserved c).After-candidate-turn in
-    let s = lists_at c.next.invariant.1.1 c.loop-k.k c.loop-k-test.true in (
-      omega arith,
-      c.loop-k.invariant.1 ∙ in_miss s (drawn t) (elim c.if-list-k.branch [
-        | then-list-k+else-list-k-2 w ↦ λ e f. w.if-list-k-2.false f
-        | else-list-k w ↦ λ e f. w.if-list-k.false e
-      ]),
-    )
+    let s = lists_at c.next.invariant.1.1 c.loop-k.k c.loop-k-test.true in
+    c.loop-k.invariant ∙ in_miss s (drawn t) (elim c.else-list-k.branch [
+      | else-list-k-via-then-list-k+else-list-k-2 w ↦ λ e f. w.if-list-k-2.false f
+      | else-list-k-via-else-list-k w ↦ λ e f. w.if-list-k.false e
+    ])
 
 -- it is none of its own, nor in the list so far: it is appended
 appended : (t : After-candidate-turn) → is_in (drawn t) (own t) ≡ false → is_in (drawn t) (list t) ≡ false
@@ -164,7 +162,7 @@ returns-then-count-eq-DEPENDENCIES c =
     let t = (goal.at.returns-then-count-eq-DEPENDENCIES c).After-candidate-turn in
     let v = c.next.invariant in
     let l = list t ++ drawn t ∷ [] in
-    let absent = c.loop-k.invariant.1 ∙ ap (is_in (drawn t)) (lists_end v.1.1 c.loop-k.k c.loop-k-test.false) in
+    let absent = c.loop-k.invariant ∙ ap (is_in (drawn t)) (lists_end v.1.1 c.loop-k.k c.loop-k-test.false) in
     let e = v.1.2 ∙ appended t (sym c.is_own.ensures ∙ c.if-is_own.false) absent in
     let n : max_dependencies < length (inherit (own t) (rest t (t.next.c + 1)) l) =
     omega (arith, grows (own t) (rest t (t.next.c + 1)) l, length-append (list t) (drawn t ∷ []), v.1.1.counted, c.if-count-eq-DEPENDENCIES.true) in
@@ -179,7 +177,7 @@ next-preserved c =
     let v = c.next.invariant in
     let n = c.next.count in
     let free = sym c.is_own.ensures ∙ c.if-is_own.false in
-    let absent = c.loop-k.invariant.1 ∙ ap (is_in (drawn t)) (lists_end v.1.1 c.loop-k.k c.loop-k-test.false) in
+    let absent = c.loop-k.invariant ∙ ap (is_in (drawn t)) (lists_end v.1.1 c.loop-k.k c.loop-k-test.false) in
     let r = lists_more v.1.1 (drawn t) {a = n * 2} {b = n * 2 + 1} refl refl (omega (arith, c.if-count-eq-DEPENDENCIES.false)) in
     let there = dealt t (list t ++ drawn t ∷ []) (rw (free, in_last (drawn t) (list t))) in
     let more = ap (λ (l : List Port). inherit (own t) (rest t (t.next.c + turns t)) l) (sym (listed r)) in (

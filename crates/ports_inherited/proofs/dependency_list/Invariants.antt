@@ -26,13 +26,10 @@ module _ (other : ℕ) (anchor : Port) (rows keys provisions parents : List ℕ)
 
 -- a port is in the list so far just if it is there from place k on
 abbrev pub Compared : List ℕ → ℕ → Port → ℕ → Type 0
-Compared list n q k = (k ≤ n) × (is_in q (so_far n list) ≡ is_in q (drop k (so_far n list)))
+Compared list n q k = is_in q (so_far n list) ≡ is_in q (drop k (so_far n list))
 
 abbrev pub invariant-loop-k : goal.invariant-loop-k
 invariant-loop-k l = Compared l.list l.count (port l.key l.realm) l.k
-
-abbrev pub decreases-loop-k : goal.decreases-loop-k
-decreases-loop-k l = l.count - l.k
 
 abbrev pub invariant-next : goal.invariant-next
 invariant-next l =

@@ -1,10 +1,12 @@
--- `edition` meets its contract: the first number decides.
-use Rattle.ports_realms.proofs.Lists.{second_edition_lem, first_edition_lem}
+-- The first number decides.
+use Rattle.std.proofs.Common.{rules}
+use Rattle.rules.specs.Ports.{realm_list}
 use Rattle.ports_realms.proofs.edition.Goals as goal
 
-pub returns-then-second : goal.returns-then-second
-returns-then-second c =
-    second_edition_lem c.args.realms.now _ c.number_at-number.ensures c.if-second.true _ c.number_at.ensures
+pub returns-in-2 : goal.returns-in-2
+unfolding realm_list
+returns-in-2 c = search rules
 
-pub returns : goal.returns
-returns c = first_edition_lem c.args.realms.now _ c.number_at-number.ensures c.if-second.false
+pub returns-in_default : goal.returns-in_default
+unfolding realm_list
+returns-in_default c = search rules

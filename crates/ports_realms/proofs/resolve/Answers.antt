@@ -8,4 +8,4 @@ use Rattle.ports_realms.proofs.resolve.Goals as goal
 pub returns : goal.returns
 returns c =
     let a = c.args in
-    ap (λ (x : Lookup). x.port) c.search-found.ensures ∙ reached_search a.fallback.realm a.fallback.key (pairs a.rows.now)
+    ap (λ (x : Lookup). x.port) c.search.ensures ∙ reached_search a.fallback.realm a.fallback.key (pairs a.rows.now)

@@ -1,5 +1,5 @@
 -- The ports of the keys from i on are still to be stored.
-use Rattle.std.proofs.Common.{arith, refl, ◌∙◌, length-take}
+use Rattle.std.proofs.Common.{arith, ◌∙◌, length-take}
 use Rattle.rules.specs.Ports.{pairs, resolve_in}
 use Rattle.rules.specs.Limits.{max_dependency_keys}
 use Rattle.ports_realms.specs.Rows.{resolve_with}
@@ -7,26 +7,16 @@ use Rattle.ports_realms.specs.Halving.{reached}
 use Rattle.ports_resolved.proofs.Laws.{stored_next, stored_all}
 use Rattle.ports_resolved.proofs.declared.Goals as goal
 
-pub loop-i-init : goal.loop-i-init
-loop-i-init c = (omega arith, omega arith, refl)
-
-pub returns-then-i-eq-DEPENDENCY_KEYS : goal.returns-then-i-eq-DEPENDENCY_KEYS
-returns-then-i-eq-DEPENDENCY_KEYS c =
-    let a = c.args in
-    stored_all (resolve_in a.other (reached (pairs a.rows.now))) a.keys.now c.loop-i.list
-    c.loop-i.i _ _ (omega (arith, length-take max_dependency_keys a.keys.now)) (omega (arith, length-take max_dependency_keys a.keys.now))
-    c.loop-i.invariant.2
-
 pub loop-i-preserved : goal.loop-i-preserved
 loop-i-preserved c =
     let a = c.args in
     let f = resolve_in a.other (reached (pairs a.rows.now)) in
     let e = resolve_with (reached (pairs a.rows.now)) _ _ _ _ c.resolve-q.ensures c.new.ensures in
-    (omega arith, omega arith, c.loop-i.invariant.2 ∙ stored_next f a.keys.now c.loop-i.list c.loop-i.i _ (omega arith) (omega arith) e)
+    c.loop-i.invariant ∙ stored_next f a.keys.now c.loop-i.list c.loop-i.i _ (omega arith) (omega arith) e
 
 pub returns : goal.returns
 returns c =
     let a = c.args in
     stored_all (resolve_in a.other (reached (pairs a.rows.now))) a.keys.now c.loop-i.list
     c.loop-i.i _ _ (omega (arith, length-take max_dependency_keys a.keys.now)) (omega (arith, length-take max_dependency_keys a.keys.now))
-    c.loop-i.invariant.2
+    c.loop-i.invariant

@@ -1,5 +1,5 @@
 -- The ports of the keys from i on are still to be stored.
-use Rattle.std.proofs.Common.{◌-◌, ◌≤◌, ◌≡◌, map, length, take, drop}
+use Rattle.std.proofs.Common.{◌≡◌, map, take, drop}
 use Rattle.rules.specs.Ports.{pairs, resolve_in}
 use Rattle.rules.specs.Limits.{max_dependency_keys}
 use Rattle.ports_realms.specs.Halving.{reached}
@@ -9,9 +9,5 @@ use Rattle.ports_resolved.proofs.declared.Given as goal
 
 abbrev pub invariant-loop-i : goal.invariant-loop-i
 invariant-loop-i l =
-    (l.i ≤ max_dependency_keys) × (l.i ≤ length l.keys)
-    × (stored l.initial.list 0 (declared_of l.other (reached (pairs l.rows)) l.keys)
-    ≡ stored l.list l.i (map (resolve_in l.other (reached (pairs l.rows))) (drop l.i (take max_dependency_keys l.keys))))
-
-abbrev pub decreases-loop-i : goal.decreases-loop-i
-decreases-loop-i l = length l.keys - l.i
+    stored l.initial.list 0 (declared_of l.other (reached (pairs l.rows)) l.keys)
+    ≡ stored l.list l.i (map (resolve_in l.other (reached (pairs l.rows))) (drop l.i (take max_dependency_keys l.keys)))

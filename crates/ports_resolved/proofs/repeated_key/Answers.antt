@@ -1,19 +1,15 @@
--- No key before place i stands again behind itself, nor key i before place j.
-use Rattle.std.proofs.Common.{ℕ, ◌+◌, ◌<◌, ◌≤◌, add-one, ◌≡◌, sym, ◌∙◌, true, false, List, eqb, length, get_or, drop, drop_of_length-le, drop-cons, eq-eqb, ne_eqb}
+-- No key before place i stands again behind itself.
+use Rattle.std.proofs.Common.{ℕ, ◌+◌, ◌<◌, ◌≤◌, add-one, ◌≡◌, refl, sym, ap, ◌∙◌, true, false, List, [], ◌∷◌, eqb, eqb-true, eq-eqb, ne_eqb, length, get_or, drop, drop_of_length-le, drop-cons}
+use Rattle.std.specs.List.{list_any}
 use Rattle.rules.specs.Basics.{any}
+use Rattle.std.proofs.lemmas.Bool.{eqb-false}
+use Rattle.rules_laws.specs.Laws.Pairs.{part_end}
+use Rattle.rules_laws.specs.Laws.Tests.{by_test}
 use Rattle.ports_resolved.specs.Keys.{keys_repeat}
 use Rattle.ports_resolved.proofs.repeated_key.Goals as goal
+use Rattle.ports_resolved.proofs.repeated_key.Goals.{After-contains}
 
 module _ (keys : List ℕ) (i : ℕ) where
-  any_hit : (k : ℕ) → i < length keys → get_or keys i 0 ≡ k → any (eqb k) (drop i keys) ≡ true
-  any_hit k h e = rw (drop-cons keys i 0 h, eq-eqb k (get_or keys i 0) (sym e))
-
-  any_miss : (k : ℕ) → i < length keys → (get_or keys i 0 ≡ k → ⊥) → any (eqb k) (drop i keys) ≡ any (eqb k) (drop (i + 1) keys)
-  any_miss k h n = rw (add-one i, drop-cons keys i 0 h, ne_eqb k (get_or keys i 0) (λ e. n (sym e)))
-
-  any_end : (k : ℕ) → length keys ≤ i → any (eqb k) (drop i keys) ≡ false
-  any_end k h = rw (drop_of_length-le keys h)
-
   repeat_hit : i < length keys → any (eqb (get_or keys i 0)) (drop (i + 1) keys) ≡ true → keys_repeat (drop i keys) ≡ true
   unfolding keys_repeat
   repeat_hit h t = rw (drop-cons keys i 0 h, rw (add-one i) at t)
@@ -26,24 +22,31 @@ module _ (keys : List ℕ) (i : ℕ) where
   unfolding keys_repeat
   repeat_end h = rw (drop_of_length-le keys h)
 
-pub returns-then-keys-j : goal.returns-then-keys-j
-returns-then-keys-j c =
-    let keys = c.args.keys.now in
-    let i = c.loop-i.i in
-    let hit = any_hit keys c.loop-j.j (get_or keys i 0) c.loop-j-test.true c.if-keys-j.true in
-    sym (c.loop-i.invariant ∙ repeat_hit keys i c.loop-i-test.true (c.loop-j.invariant ∙ hit))
+-- `contains` tests the other way round
+any_alike : (k : ℕ) (l : List ℕ) → list_any (λ y. eqb y k) l ≡ any (eqb k) l
+any_alike k [] = refl
+any_alike k (y ∷ l) = rw (swap, any_alike k l)
+  where
+    swap : eqb y k ≡ eqb k y
+    swap = by_test (eqb y k)
+        (λ t. t ∙ sym (eq-eqb k y (sym (eqb-true y k t))))
+        (λ f. f ∙ sym (ne_eqb k y (λ e. eqb-false y k f (sym e))))
 
-pub loop-j-preserved : goal.loop-j-preserved
-loop-j-preserved c =
-    let keys = c.args.keys.now in
-    c.loop-j.invariant ∙ any_miss keys c.loop-j.j (get_or keys c.loop-i.i 0) c.loop-j-test.true c.if-keys-j.false
+-- whether the key stands behind itself
+told : (c : After-contains) → c.contains.result ≡ any (eqb (get_or c.args.keys.now c.loop-i.i 0)) (drop (c.loop-i.i + 1) c.args.keys.now)
+told c =
+    let key = get_or c.args.keys.now c.loop-i.i 0 in
+    c.contains.ensures.value ∙ any_alike key _ ∙ ap (any (eqb key)) (part_end c.args.keys.now (c.loop-i.i + 1))
+
+pub returns-then-contains : goal.returns-then-contains
+returns-then-contains c =
+    let t = told (goal.at.returns-then-contains c).After-contains in
+    sym (c.loop-i.invariant ∙ repeat_hit c.args.keys.now c.loop-i.i c.loop-i-test.true (sym t ∙ c.if-contains.true))
 
 pub loop-i-preserved : goal.loop-i-preserved
 loop-i-preserved c =
-    let keys = c.args.keys.now in
-    let i = c.loop-i.i in
-    let none = c.loop-j.invariant ∙ any_end keys c.loop-j.j (get_or keys i 0) c.loop-j-test.false in
-    c.loop-i.invariant ∙ repeat_miss keys i c.loop-i-test.true none
+    let t = told (goal.at.loop-i-preserved c).After-contains in
+    c.loop-i.invariant ∙ repeat_miss c.args.keys.now c.loop-i.i c.loop-i-test.true (sym t ∙ c.if-contains.false)
 
 pub returns : goal.returns
 returns c = sym (c.loop-i.invariant ∙ repeat_end c.args.keys.now c.loop-i.i c.loop-i-test.false)

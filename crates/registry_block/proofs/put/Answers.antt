@@ -20,7 +20,7 @@ pub returns : goal.returns
 returns c =
     let a = c.args in (
       refl,
-      put_by a.w.now a.b a.realms.now a.dependencies.now a.claims.now a.values.now (a.place % places) a.rows a.next
+      put_by a.w.now a.b.now a.lists.now (a.place % places) a.rows a.next
           c.some_words-listed.ensures c.edition.ensures c.entry.ensures c.life.ensures c.rows.ensures
           c.some_words.ensures c.some_words-2.ensures c.some_words-3.ensures c.load_place.ensures,
     )

@@ -17,7 +17,7 @@ returns-then-is_claimed c =
     let m = c.args.m.now in
     let r = row_repeats ws c.loop-row.row c.loop-row-test.true c.loop-row.invariant.0 (claims_from m (c.args.place + 1)) c.loop-row.keys
     c.loop-row.invariant.1 _ c.is_claimed.ensures c.if-is_claimed.true in
-    rows_repeat m c.args.place c.requires.0 (sym c.is_taken.ensures ∙ c.if-not-is_taken.false) c.known.ensures ws
+    rows_repeat m c.args.place c.requires.0 (sym c.is_taken.ensures ∙ c.if-not-is_taken.false) c.told-m ws
     c.offered_words-ports.ensures c.loop-row.keys (c.loop-row.row - 1) r
 
 pub loop-row-preserved : goal.loop-row-preserved
@@ -30,5 +30,5 @@ loop-row-preserved c =
 
 pub returns : goal.returns
 returns c =
-    rows_done c.args.m.now c.args.place c.requires.0 (sym c.is_taken.ensures ∙ c.if-not-is_taken.false) c.known.ensures
+    rows_done c.args.m.now c.args.place c.requires.0 (sym c.is_taken.ensures ∙ c.if-not-is_taken.false) c.told-m
     c.offered_words-ports.result.now c.offered_words-ports.ensures c.loop-row.keys c.loop-row.row c.loop-row-test.false c.loop-row.invariant.1

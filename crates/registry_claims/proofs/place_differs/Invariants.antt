@@ -7,6 +7,3 @@ use Rattle.registry_claims.proofs.place_differs.Given as goal
 abbrev pub invariant-loop-row : goal.invariant-loop-row
 invariant-loop-row l =
     (l.row * 2 ≤ length l.ports) × Noted l.keys (pairs (drop (l.row * 2) l.ports) ++ claims_from l.m (l.place + 1))
-
-abbrev pub decreases-loop-row : goal.decreases-loop-row
-decreases-loop-row l = l.row

@@ -1,13 +1,9 @@
 -- `all_hold` meets its contract: the first test that fails is the answer.
-use Rattle.std.proofs.Common.{refl}
 use Rattle.registry_cycles.proofs.Hold.{hold_ports, hold_rows, hold_rounds}
 use Rattle.registry_cycles.proofs.all_hold.Goals as goal
 
 pub returns-then-not-differ : goal.returns-then-not-differ
 returns-then-not-differ c = hold_ports _ _ c.differ.ensures c.if-not-differ.true
-
-pub fill_rows-requires : goal.fill_rows-requires
-fill_rows-requires c = refl
 
 pub returns-then-not-fill_rows : goal.returns-then-not-fill_rows
 returns-then-not-fill_rows c =

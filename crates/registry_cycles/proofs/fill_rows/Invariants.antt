@@ -9,6 +9,3 @@ use Rattle.registry_cycles.proofs.fill_rows.Given as goal
 abbrev pub invariant-loop-i : goal.invariant-loop-i
 invariant-loop-i l =
     Rows l.m l.among l.rows l.i × (all_of (served_in l.m l.among) places 0 ≡ all_of (served_in l.m l.among) (places - l.i) l.i)
-
-abbrev pub decreases-loop-i : goal.decreases-loop-i
-decreases-loop-i l = places - l.i

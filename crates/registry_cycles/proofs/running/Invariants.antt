@@ -5,6 +5,3 @@ use Rattle.registry_cycles.proofs.running.Given as goal
 
 abbrev pub invariant-loop-i : goal.invariant-loop-i
 invariant-loop-i l = Made (runs_at l.m) l.word l.i
-
-abbrev pub decreases-loop-i : goal.decreases-loop-i
-decreases-loop-i l = l.i

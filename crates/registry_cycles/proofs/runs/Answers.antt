@@ -5,6 +5,3 @@ use Rattle.registry_cycles.proofs.runs.Goals as goal
 
 pub returns-then-is_taken : goal.returns-then-is_taken
 returns-then-is_taken c = runs_taken _ _ _ _ (sym c.is_taken.ensures ∙ c.if-is_taken.true) c.load.ensures c.is_running.ensures
-
-pub returns-else-is_taken : goal.returns-else-is_taken
-returns-else-is_taken c = rw (sym c.is_taken.ensures ∙ c.if-is_taken.false)

@@ -5,6 +5,3 @@ use Rattle.registry_cycles.proofs.still_waiting.Given as goal
 
 abbrev pub invariant-loop-i : goal.invariant-loop-i
 invariant-loop-i l = Made (waits_at l.rows l.left) l.word l.i
-
-abbrev pub decreases-loop-i : goal.decreases-loop-i
-decreases-loop-i l = l.i

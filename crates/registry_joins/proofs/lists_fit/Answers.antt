@@ -3,14 +3,15 @@ use Rattle.std.proofs.Common.{sym, ◌∙◌}
 use Rattle.registry_joins.proofs.Laws.{lists_unresolved, lists_given}
 use Rattle.registry_joins.proofs.lists_fit.Goals as goal
 
-pub returns-then-not-resolved : goal.returns-then-not-resolved
-returns-then-not-resolved c =
+pub returns-else-resolved : goal.returns-else-resolved
+returns-else-resolved c =
     let a = c.args in
-    lists_unresolved a.anchor a.realms.now a.parents.now a.provisions.now a.dependencies.now
-    _ c.default_realm-other.ensures _ c.rows-rows.ensures (sym c.resolved.ensures ∙ c.if-not-resolved.true)
+    c.if-resolved.false
+    ∙ lists_unresolved a.anchor a.realms.now a.parents.now a.provisions.now a.dependencies.now
+    _ c.default_realm-other.ensures _ c.rows-rows.ensures (sym c.resolved.ensures ∙ c.if-resolved.false)
 
-pub returns : goal.returns
-returns c =
+pub returns-then-resolved : goal.returns-then-resolved
+returns-then-resolved c =
     let a = c.args in
     lists_given a.anchor a.realms.now a.parents.now a.provisions.now a.dependencies.now
-    _ c.default_realm-other.ensures _ c.rows-rows.ensures (sym c.resolved.ensures ∙ c.if-not-resolved.false) c.given.ensures
+    _ c.default_realm-other.ensures _ c.rows-rows.ensures (sym c.resolved.ensures ∙ c.if-resolved.true) c.given.ensures

@@ -6,10 +6,10 @@ use Rattle.registry_order.proofs.is_supplied.Goals as goal
 pub returns-in_default : goal.returns-in_default
 returns-in_default c =
     let a = c.args in
-    supplied_none a.m.now a.before.now a.id (sym c.find.ensures ∙ c.in_default.is)
+    supplied_none a.index.now.memory.now a.before.now a.id (sym c.find.ensures ∙ c.in_default.is)
 
 pub returns : goal.returns
 returns c =
     let a = c.args in
-    supplied_found a.m.now a.before.now a.id _ (sym c.find.ensures ∙ c.in-At.is) _ c.dependency_words.ensures
+    supplied_found a.index.now.memory.now a.before.now a.id _ (sym c.find.ensures ∙ c.in-Some.is) _ c.dependency_words.ensures
     _ c.all_in_time.ensures

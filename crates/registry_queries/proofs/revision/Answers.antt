@@ -1,13 +1,11 @@
--- `revision` meets its contract. Assumes nothing.
-use Rattle.std.proofs.Common.{refl, sym, ◌∙◌, [], ◌∷◌}
+-- `revision` meets its contract.
+use Rattle.std.proofs.Common.{refl, [], ◌∷◌}
 use Rattle.rules.specs.Queries.{Revision}
-use Rattle.registry_queries.proofs.Laws.{no_answer, life_answer}
+use Rattle.registry_queries.proofs.Laws.{no_life, life_answer}
 use Rattle.registry_queries.proofs.revision.Goals as goal
 
-pub returns-in_default : goal.returns-in_default
-returns-in_default c = no_answer _ _ (sym c.find.ensures ∙ c.in_default.is) Revision
+pub returns-in_err-life : goal.returns-in_err-life
+returns-in_err-life c = no_life _ _ _ _ _ c.from_residual.ensures.1 c.in_err-life.ensures Revision
 
 pub returns : goal.returns
-returns c =
-    let e = sym c.find.ensures ∙ c.in-At.is in
-    life_answer _ _ _ e Revision (λ l. l.revision ∷ []) (λ p. refl) _ c.load-life.ensures
+returns c = life_answer _ _ _ c.in_ok-life.ensures Revision (λ l. l.revision ∷ []) (λ p. refl)

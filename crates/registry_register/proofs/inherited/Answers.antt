@@ -4,4 +4,4 @@ use Rattle.registry_register.specs.Parts.{dependencies_at}
 use Rattle.registry_register.proofs.inherited.Goals as goal
 
 pub returns : goal.returns
-returns c = c.dependency_words.ensures ∙ sym (ap (dependencies_at c.args.m.now) c.in-At.is)
+returns c = c.dependency_words.ensures ∙ sym (ap (dependencies_at c.args.m.now) c.in-Some.is)

@@ -1,17 +1,12 @@
--- `fits` meets its contract: each return is a case of the rule.
-use Rattle.std.proofs.Common.{arith, sym, ◌∙◌}
-use Rattle.registry_replace.specs.Laws.{fits_none, fits_yes, fits_no}
+-- `fits` meets its contract: the id is unknown, or the code's test tells.
+use Rattle.std.proofs.Common.{arith}
+use Rattle.memory.specs.Known.{looked_up}
+use Rattle.registry_replace.specs.Laws.{fits_none, fits_told}
 use Rattle.registry_replace.proofs.fits.Goals as goal
 
-pub returns-in_default : goal.returns-in_default
-returns-in_default c = fits_none _ _ _ (sym c.find.ensures ∙ c.in_default.is)
-
-pub returns-then-fits_behind : goal.returns-then-fits_behind
-returns-then-fits_behind c =
-    let e = sym c.find.ensures ∙ c.in-At.is in
-    fits_yes _ _ _ _ _ e c.load-life.ensures _ (omega arith) c.fits_behind.ensures c.if-fits_behind.true
+pub returns-in_err-at : goal.returns-in_err-at
+returns-in_err-at c = fits_none _ _ _ _ _ _ c.from_residual.ensures.1 c.in_err-at.ensures
 
 pub returns : goal.returns
 returns c =
-    let e = sym c.find.ensures ∙ c.in-At.is in
-    fits_no _ _ _ _ _ e c.load-life.ensures _ (omega arith) c.fits_behind.ensures c.if-fits_behind.false
+    fits_told _ _ _ _ (looked_up _ _ _ c.in_ok-at.ensures) _ c.load-life.ensures _ (omega arith) c.fits_behind.ensures

@@ -1,20 +1,17 @@
 -- `replace` meets its contract: each return is a case of the rule.
-use Rattle.std.proofs.Common.{sym, ◌∙◌, [], ◌∷◌}
-use Rattle.rules.specs.Refusals.{Unknown}
-use Rattle.memory.specs.Ways.{meets_refused}
-use Rattle.registry_replace.specs.Words.{replacing}
-use Rattle.registry_replace.specs.Laws.{replace_none, told_back, told_replaced}
+use Rattle.std.proofs.Common.{sym, ◌∙◌}
+use Rattle.registry_replace.specs.Laws.{told_unknown, told_back, told_replaced}
 use Rattle.registry_replace.proofs.replace.Goals as goal
 
-pub returns-in_default : goal.returns-in_default
-returns-in_default c = meets_refused replacing _ _ Unknown (_ ∷ []) (replace_none _ _ _ (sym c.find.ensures ∙ c.in_default.is))
+pub returns-in_err-at : goal.returns-in_err-at
+returns-in_err-at c = told_unknown _ _ _ _ _ c.from_residual.ensures.1 _ c.find.ensures c.in_err-at.ensures.value
 
-pub returns-in_default-answer : goal.returns-in_default-answer
-returns-in_default-answer c =
-    let e = sym c.find.ensures ∙ c.in-At.is in
-    told_back _ _ _ _ e _ _ c.load-life.ensures c.by_lending-change.ensures _ _ c.in_default-answer.is
+pub returns-in_err-former : goal.returns-in_err-former
+returns-in_err-former c =
+    let e = sym c.find.ensures ∙ c.in_ok-at.ensures.ok_part in
+    told_back _ _ _ _ e _ c.load-life.ensures _ _ c.from_residual-in_err-former.ensures.1 c.in_err-former.ensures.1
 
 pub returns : goal.returns
 returns c =
-    let e = sym c.find.ensures ∙ c.in-At.is in
-    told_replaced _ _ _ _ e _ _ c.load-life.ensures c.by_lending-change.ensures _ _ c.in-Former.is c.renew.ensures
+    let e = sym c.find.ensures ∙ c.in_ok-at.ensures.ok_part in
+    told_replaced _ _ _ _ e _ c.load-life.ensures _ _ _ c.in_ok-former.ensures.1 c.in_ok-former.ensures.0 c.renew.ensures

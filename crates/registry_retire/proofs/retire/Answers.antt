@@ -1,22 +1,14 @@
--- `retire` meets its contract: each return is a case of the rule.
-use Rattle.std.proofs.Common.{refl, sym, ◌∙◌, []}
-use Rattle.rules.specs.Refusals.{Unknown}
+-- `retire` meets its contract: it refuses an unknown id, and sets the mark of the plugin found.
+use Rattle.std.proofs.Common.{refl}
 use Rattle.rules.specs.Retirement.{retire}
-use Rattle.memory.specs.Known.{none_known}
-use Rattle.memory_life.specs.Told.{told_refused}
-use Rattle.registry_retire.specs.Laws.{told_retired, told_marked}
+use Rattle.memory.specs.Known.{looked_up}
+use Rattle.memory_life.specs.Told.{told_unknown}
+use Rattle.registry_retire.specs.Laws.{told_marked}
 use Rattle.registry_retire.proofs.retire.Goals as goal
 
-pub returns-in_default : goal.returns-in_default
+pub returns-in_err-at : goal.returns-in_err-at
 unfolding retire
-returns-in_default c = told_refused _ _ Unknown [] (none_known _ _ (sym c.find.ensures ∙ c.in_default.is) _)
-
-pub returns-then-life : goal.returns-then-life
-returns-then-life c =
-    let e = sym c.find.ensures ∙ c.in-At.is in
-    told_retired _ _ _ _ _ e refl c.load-life.ensures c.if-life.true
+returns-in_err-at c = told_unknown _ _ _ _ _ _ c.from_residual.ensures.1 c.in_err-at.ensures _
 
 pub returns : goal.returns
-returns c =
-    let e = sym c.find.ensures ∙ c.in-At.is in
-    told_marked _ _ _ _ _ e refl c.load-life.ensures _ _ c.if-life.false c.marked.ensures c.store.ensures
+returns c = told_marked _ _ _ _ (looked_up _ _ _ c.in_ok-at.ensures) refl _ _ c.mark.ensures

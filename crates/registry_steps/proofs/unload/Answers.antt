@@ -1,11 +1,10 @@
 -- `unload` meets its contract: each return is a case of the rule.
 use Rattle.std.proofs.Common.{sym, ap, ◌∙◌, []}
-use Rattle.rules.specs.Refusals.{Unknown, InvalidState, InUse}
+use Rattle.rules.specs.Refusals.{Unknown, InUse}
 use Rattle.rules.specs.Phases as rules
 use Rattle.memory.specs.Writes.{put_life}
 use Rattle.memory.specs.Known.{none_known}
-use Rattle.memory_life.specs.Told.{told_refused, told_stored}
-use Rattle.registry_table.specs.Table.{cell_to, cell_empty}
+use Rattle.memory_life.specs.Told.{told_refused, handed_none, told_stored}
 use Rattle.registry_steps.specs.Laws.{unload_stuck, unload_used, unload_moves}
 use Rattle.registry_steps.proofs.unload.Goals as goal
 
@@ -13,21 +12,20 @@ pub returns-in_default : goal.returns-in_default
 unfolding rules.unload
 returns-in_default c = told_refused _ _ Unknown [] (none_known _ _ (sym c.find.ensures ∙ c.in_default.is) _)
 
-pub returns-in_default-next : goal.returns-in_default-next
-returns-in_default-next c =
-    let e = sym c.find.ensures ∙ c.in-At.is in
-    told_refused _ _ InvalidState [] (unload_stuck _ _ _ e _ c.load-life.ensures
-    (cell_empty (rules.cell c.load-life.result.phase rules.Unload) _ c.next.ensures c.in_default-next.is))
+pub returns-in_err-next : goal.returns-in_err-next
+returns-in_err-next c =
+    let n = c.in_err-next.ensures in
+    handed_none _ _ _ _ _ _ _ _ c.from_residual.ensures.1 n.value n.ok_part
+    (unload_stuck _ _ _ (sym c.find.ensures ∙ c.in-Some.is) _ c.load-life.ensures (sym c.next.ensures ∙ n.ok_part))
 
 pub returns-then-in_use : goal.returns-then-in_use
 returns-then-in_use c =
-    let e = sym c.find.ensures ∙ c.in-At.is in
-    let f = cell_to (rules.cell c.load-life.result.phase rules.Unload) _ _ c.next.ensures c.in-To.is in
-    told_refused _ _ InUse [] (unload_used _ _ _ e _ c.load-life.ensures _ f _ c.in_use.ensures c.if-in_use.true)
+    let f = sym c.next.ensures ∙ c.in_ok-next.ensures.ok_part in
+    told_refused _ _ InUse [] (unload_used _ _ _ (sym c.find.ensures ∙ c.in-Some.is) _ c.load-life.ensures _ f _ c.in_use.ensures c.if-in_use.true)
 
 pub returns : goal.returns
 returns c =
-    let e = sym c.find.ensures ∙ c.in-At.is in
-    let f = cell_to (rules.cell c.load-life.result.phase rules.Unload) _ _ c.next.ensures c.in-To.is in
+    let e = sym c.find.ensures ∙ c.in-Some.is in
+    let f = sym c.next.ensures ∙ c.in_ok-next.ensures.ok_part in
     told_stored _ _ _ _ [] _ _ e (unload_moves _ _ _ e _ c.load-life.ensures _ f _ c.in_use.ensures c.if-in_use.false)
     (c.store.ensures ∙ ap (put_life _ _) c.with_phase.ensures)

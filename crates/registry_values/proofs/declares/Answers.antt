@@ -1,10 +1,9 @@
 -- `declares` meets its contract: the id is unknown, or its plugin tells.
-use Rattle.std.proofs.Common.{sym, ◌∙◌}
 use Rattle.registry_values.specs.Questions.{declares_none, declares_answer}
 use Rattle.registry_values.proofs.declares.Goals as goal
 
-pub returns-in_default : goal.returns-in_default
-returns-in_default c = declares_none _ _ (sym c.find.ensures ∙ c.in_default.is) _
+pub returns-in_err-at : goal.returns-in_err-at
+returns-in_err-at c = declares_none _ _ _ _ _ c.from_residual.ensures.1 c.in_err-at.ensures _
 
 pub returns : goal.returns
-returns c = declares_answer _ _ _ (sym c.find.ensures ∙ c.in-At.is) _ _ c.is_declared.ensures _ c.told.ensures
+returns c = declares_answer _ _ _ c.in_ok-at.ensures _ _ c.is_declared.ensures

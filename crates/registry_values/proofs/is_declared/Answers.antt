@@ -10,7 +10,7 @@ returns-then-is_running c =
     declared_dependency _ _ _ _ _ c.has_port.ensures c.provision_words.ensures c.if-has_port.false
     _ c.load.ensures _ c.is_running.ensures c.if-is_running.true _ _ c.has_port-then-is_running.ensures c.dependency_words.ensures
 
-pub returns : goal.returns
-returns c =
+pub returns-else-is_running : goal.returns-else-is_running
+returns-else-is_running c =
     declared_idle _ _ _ _ _ c.has_port.ensures c.provision_words.ensures c.if-has_port.false
     _ c.load.ensures _ c.is_running.ensures c.if-is_running.false

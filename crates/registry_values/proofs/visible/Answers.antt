@@ -2,14 +2,14 @@
 use Rattle.registry_values.specs.Questions.{visible_nobody, visible_waiting, visible_value}
 use Rattle.registry_values.proofs.visible.Goals as goal
 
-pub returns-in_default : goal.returns-in_default
-returns-in_default c = visible_nobody _ _ _ c.provider.ensures c.in_default.is
+pub returns-in_err-from : goal.returns-in_err-from
+returns-in_err-from c = rw c.from_residual.ensures (visible_nobody _ _ _ c.provider.ensures c.in_err-from.was)
 
-pub returns-then-is_active : goal.returns-then-is_active
-returns-then-is_active c =
-    visible_value _ _ _ c.provider.ensures _ c.in-At.is _ c.load.ensures _ c.is_active.ensures c.if-is_active.true
-    c.value_of.result c.value_of.ensures
+pub returns-then-not-is_active : goal.returns-then-not-is_active
+returns-then-not-is_active c =
+    visible_waiting _ _ _ c.provider.ensures _ c.in_ok-from.was _ c.load.ensures _ c.is_active.ensures c.if-not-is_active.true
 
 pub returns : goal.returns
 returns c =
-    visible_waiting _ _ _ c.provider.ensures _ c.in-At.is _ c.load.ensures _ c.is_active.ensures c.if-is_active.false
+    visible_value _ _ _ c.provider.ensures _ c.in_ok-from.was _ c.load.ensures _ c.is_active.ensures c.if-not-is_active.false
+    c.value_of.result c.value_of.ensures

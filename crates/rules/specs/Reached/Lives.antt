@@ -1,6 +1,5 @@
 -- Transcripts of lives: phases and values, a family, questions, and numbers at their end.
-use Rattle.std.specs.Prelude.{◌^◌, ◌-◌, List, [], ◌∷◌}
-use Rattle.std.proofs.Math.Option.{none, some}
+use Rattle.std.specs.Prelude.{◌^◌, ◌-◌, List, [], ◌∷◌, Some, None}
 use Rattle.rules.specs.Holds.{port}
 use Rattle.rules.specs.Refusals.{number, Unknown, Retired, InvalidState, BadRealms, BadEdition}
 use Rattle.rules.specs.Refusals.{Stale, Unavailable, InUse, Exhausted}
@@ -18,8 +17,8 @@ use Rattle.rules.specs.Reached.Transcripts.{Line, ◌↝◌, ok, refused, child,
 -- A life: a provider (1) of (5,0) and (6,0), and a reader (2) that depends on (5,0) and on its anchor (100,0).
 abbrev pub life : List Line
 life =
-    registers none (port 100 0) (6 ∷ 3 ∷ []) [] (5 ∷ 6 ∷ []) ↝ ok (1 ∷ [])
-    ∷ registers none (port 101 0) [] (5 ∷ 100 ∷ []) [] ↝ ok (2 ∷ [])
+    registers None (port 100 0) (6 ∷ 3 ∷ []) [] (5 ∷ 6 ∷ []) ↝ ok (1 ∷ [])
+    ∷ registers None (port 101 0) [] (5 ∷ 100 ∷ []) [] ↝ ok (2 ∷ [])
     ∷ Ask (ResolveKey (3 ∷ 0 ∷ 2 ∷ []) 6) ↝ refused BadEdition
     ∷ Ask (ResolveKey (2 ∷ []) 6) ↝ refused BadEdition
     ∷ Ask (ResolveKey (in_first (2 ∷ [])) 6) ↝ refused BadRealms
@@ -111,7 +110,7 @@ life =
 abbrev pub family : List Line
 family =
     plain ↝ ok (1 ∷ [])
-    ∷ registers (some 1) (port 101 0) [] [] [] ↝ ok (2 ∷ [])
+    ∷ registers (Some 1) (port 101 0) [] [] [] ↝ ok (2 ∷ [])
     ∷ Replace 9 41 ↝ Refused (number Unknown) (41 ∷ [])
     ∷ Replace 1 41 ↝ ok (40 ∷ [])
     ∷ Ask (Fits 9 1) ↝ refused Unknown
@@ -147,8 +146,8 @@ family =
     ∷ RetireChild (child 7 3 2) ↝ ok []
     ∷ Ask (AskPlugin PhaseOf 2) ↝ refused Unknown
     ∷ Remove 1 ↝ ok []
-    ∷ registers (some 2) (port 101 0) [] [] [] ↝ refused Unknown
-    ∷ registers none (port 101 0) [] [] [] ↝ ok (3 ∷ [])
+    ∷ registers (Some 2) (port 101 0) [] [] [] ↝ refused Unknown
+    ∷ registers None (port 101 0) [] [] [] ↝ ok (3 ∷ [])
     ∷ Ask (IdFrom 0) ↝ ok (3 ∷ [])
     ∷ Ask (IdFrom 3) ↝ ok (3 ∷ [])
     ∷ Ask (IdFrom 4) ↝ ok []
@@ -159,8 +158,8 @@ abbrev pub questions : List Line
 questions =
     Write Text (keys 33 0) ↝ refused ShortBuffer
     ∷ Write Text (keys 34 0) ↝ ok (34 ∷ [])
-    ∷ registers none (port 100 4) (2 ∷ 5 ∷ []) (9 ∷ []) (2 ∷ []) ↝ ok (1 ∷ [])
-    ∷ registers (some 1) (port 101 0) [] [] [] ↝ ok (2 ∷ [])
+    ∷ registers None (port 100 4) (2 ∷ 5 ∷ []) (9 ∷ []) (2 ∷ []) ↝ ok (1 ∷ [])
+    ∷ registers (Some 1) (port 101 0) [] [] [] ↝ ok (2 ∷ [])
     ∷ Ask (AskPlugin Parent 1) ↝ ok []
     ∷ Ask (AskPlugin Parent 2) ↝ ok (1 ∷ [])
     ∷ Ask (AskPlugin Anchor 1) ↝ ok (100 ∷ 4 ∷ [])

@@ -1,6 +1,5 @@
 -- A start order, checked and planned: 1 needs what 2 gives, 3 and 4 need each other, 5 needs its own anchor.
-use Rattle.std.specs.Prelude.{ℕ, List, [], ◌∷◌}
-use Rattle.std.proofs.Math.Option.{none}
+use Rattle.std.specs.Prelude.{ℕ, List, [], ◌∷◌, None}
 use Rattle.rules.specs.Holds.{port}
 use Rattle.rules.specs.Refusals.{Repeated, Unknown, Retired, InvalidState, ShortBuffer}
 use Rattle.rules.specs.Steps.{Op, Begin, Retire, Ask, Write}
@@ -17,11 +16,11 @@ plans set = Write (Order set) (0 ∷ 0 ∷ 0 ∷ [])
 
 abbrev pub pier : List Line
 pier =
-    registers none (port 100 0) [] (11 ∷ []) [] ↝ ok (1 ∷ [])
-    ∷ registers none (port 101 0) [] [] (11 ∷ []) ↝ ok (2 ∷ [])
-    ∷ registers none (port 102 0) [] (22 ∷ []) (23 ∷ []) ↝ ok (3 ∷ [])
-    ∷ registers none (port 103 0) [] (23 ∷ []) (22 ∷ []) ↝ ok (4 ∷ [])
-    ∷ registers none (port 104 0) [] (104 ∷ []) [] ↝ ok (5 ∷ [])
+    registers None (port 100 0) [] (11 ∷ []) [] ↝ ok (1 ∷ [])
+    ∷ registers None (port 101 0) [] [] (11 ∷ []) ↝ ok (2 ∷ [])
+    ∷ registers None (port 102 0) [] (22 ∷ []) (23 ∷ []) ↝ ok (3 ∷ [])
+    ∷ registers None (port 103 0) [] (23 ∷ []) (22 ∷ []) ↝ ok (4 ∷ [])
+    ∷ registers None (port 104 0) [] (104 ∷ []) [] ↝ ok (5 ∷ [])
     ∷ []
 
 abbrev pub orders : List Line

@@ -1,8 +1,7 @@
 -- Every operation keeps the link between a registry and its history.
-use Rattle.std.specs.Prelude.{ℕ, ◌<◌, List, [], ◌∷◌, leb, ltb}
+use Rattle.std.specs.Prelude.{ℕ, ◌<◌, List, [], ◌∷◌, leb, ltb, Option, Some, None}
 use Rattle.std.proofs.Common.{arith, sym, ap, ◌∙◌, subst, eqb-true, leb-false}
 use Rattle.std.proofs.Math.Path.{◌≡◌, refl}
-use Rattle.std.proofs.Math.Option.{Option, none, some}
 use Rattle.std.proofs.lemmas.Bool.{not-false}
 use Rattle.rules_types.specs.declared.Port.{Port}
 use Rattle.rules.specs.Holds.{Plugin, Registry, lookup, is_loading}
@@ -27,7 +26,7 @@ use Rattle.rules_laws.specs.Demand3.Lives.{is_unissued_lem, would_accept, not_lo
 use Rattle.rules_laws.specs.Demand3.Lives.{admitting, calling}
 
 module _ (s : Registry) (es : List Event) (r : Registry) (w : Linked s es r) where
-  knows : (o : Op) (id : ℕ) (f : Plugin → Outcome) → ((p : Plugin) → lookup r id ≡ some p → Good s es r o (f p)) → Good s es r o (known r id f)
+  knows : (o : Op) (id : ℕ) (f : Plugin → Outcome) → ((p : Plugin) → lookup r id ≡ Some p → Good s es r o (f p)) → Good s es r o (known r id f)
   knows o id f g = found_elim (Good s es r o) (lookup r id) f (refused s es r w o Unknown []) g
 
   passes : (o : Op) (cs : List Check) (u : Outcome) → (Passed cs → Good s es r o u) → Good s es r o (checked cs u)
@@ -95,7 +94,7 @@ module _ (s : Registry) (es : List Event) (r : Registry) (w : Linked s es r) whe
   unfolding admit
   admit_kept k b = passes _ _ _ λ c. knows _ _ _ λ p e. passes _ _ _ λ f.
       stored_one s es r w _ _ p.id p _ _ (tells_one s _ _ p.id (admitted _) refl)
-      (subst (λ x. lookup r x ≡ some p) (sym (lookup_id r k.id p e)) e) refl λ t h i a.
+      (subst (λ x. lookup r x ≡ Some p) (sym (lookup_id r k.id p e)) e) refl λ t h i a.
       admitting s.domain t h p a r.domain b w.domain (is_loading_lem p.phase (not-false _ (neither _ _ f.1.0).0))
       f.0 (is_unissued_lem p.root (not-false _ f.1.1.0)) i
 
@@ -119,8 +118,8 @@ module _ (s : Registry) (es : List Event) (r : Registry) (w : Linked s es r) whe
   retire_child_kept c = passes _ _ _ λ f. go (leb-false _ _ (neither (ltb c.id r.first) (leb r.next c.id) f.1.0).1) (lookup r c.id) refl
     where
       go : c.id < r.next → (u : Option Plugin) → lookup r c.id ≡ u → Good s es r (RetireChild c) (retire_found c.parent u)
-      go l none e = answered_absent s es r w _ _ c.id retired refl e l λ t h a. record { once = a.once; gone = a.gone; dead = refl }
-      go l (some p) e = passes _ _ _ λ f.
+      go l None e = answered_absent s es r w _ _ c.id retired refl e l λ t h a. record { once = a.once; gone = a.gone; dead = refl }
+      go l (Some p) e = passes _ _ _ λ f.
           stored_one s es r w _ _ c.id p _ _ (tells_one s _ _ c.id retired refl) e (lookup_id r c.id p e) λ t h i a. retiring s.domain t h p a
 
   register_kept : (f : Definition) → Good s es r (Register f) (register r f)
@@ -136,7 +135,7 @@ module _ (s : Registry) (es : List Event) (r : Registry) (w : Linked s es r) whe
       }
 
   -- what is written to a lent buffer
-  quietly : (o : Op) (u : Outcome) → ((vs : List ℕ) → told o vs ≡ none) → Quiet u → Good s es r o u
+  quietly : (o : Op) (u : Outcome) → ((vs : List ℕ) → told o vs ≡ None) → Quiet u → Good s es r o u
   quietly o (tells a) n h = quiet s es r w o a n
   quietly o (writes place l vs) n h = wrote s es r w o place l vs (n vs)
   quietly o (stores q vs) n h = absurd h

@@ -1,8 +1,7 @@
 -- What links a registry to its history since a start: the invariant of demand 3, and how each kind of outcome keeps it.
-use Rattle.std.specs.Prelude.{ℕ, ◌≤◌, ◌<◌, ◌≡◌, Bool, true, false, not, ◌&&◌, List, [], ◌∷◌, eqb, leb, length}
+use Rattle.std.specs.Prelude.{ℕ, ◌≤◌, ◌<◌, ◌≡◌, Bool, true, false, not, ◌&&◌, List, [], ◌∷◌, eqb, leb, length, Option, Some, None}
 use Rattle.std.proofs.Common.{arith, le_refl, sym, ap, ◌∙◌, subst₂}
 use Rattle.std.proofs.Math.Path.{refl, subst⁻¹}
-use Rattle.std.proofs.Math.Option.{Option, none, some}
 use borrow.Author.Tests.{eqb-true, eqb-false, eq-eqb, ne_eqb, leb-true, leb-false}
 use Rattle.rules.specs.Basics.{pick, same_numbers}
 use Rattle.rules_types.specs.declared.Root.TheVariants.{Queued}
@@ -30,8 +29,8 @@ is_admission t retired = false
 
 -- the payload stored at the admission of these five numbers, if nothing has ended it since
 abbrev pub live : Invocation → List Told → Option ℕ
-live t [] = none
-live t (k ∷ h) = pick (is_admission t k) (some (stored h)) (pick (ends t k) none (live t h))
+live t [] = None
+live t (k ∷ h) = pick (is_admission t k) (Some (stored h)) (pick (ends t k) None (live t h))
 
 -- whether the registry's own rules accept the call
 unfoldable pub callable : ℕ → Plugin → Invocation → Bool
@@ -51,7 +50,7 @@ Once (called vs ∷ h) = Once h
 pub record Absent (t : Invocation) (h : List Told) : Type 0 where
   pub once : Once h
   pub gone : is_registered h ≡ false
-  pub dead : live t h ≡ none
+  pub dead : live t h ≡ None
 
 pub record Present (d : ℕ) (t : Invocation) (h : List Told) (p : Plugin) : Type 0 where
   pub once : Once h
@@ -59,17 +58,17 @@ pub record Present (d : ℕ) (t : Invocation) (h : List Told) (p : Plugin) : Typ
   pub mark : is_retired h ≡ p.retired
   pub kept : stored h ≡ p.payload
   pub bound : (v a : ℕ) → p.root ≡ Queued v a → v ≤ p.revision
-  pub alive : live t h ≡ pick (callable d p t) (some p.payload) none
+  pub alive : live t h ≡ pick (callable d p t) (Some p.payload) None
 
 abbrev pub Agrees : ℕ → Invocation → List Told → Option Plugin → Type 0
-Agrees d t h none = Absent t h
-Agrees d t h (some p) = Present d t h p
+Agrees d t h None = Absent t h
+Agrees d t h (Some p) = Present d t h p
 
 -- A registry r after the events es since the start s.
 pub record Linked (s : Registry) (es : List Event) (r : Registry) : Type 0 where
   pub domain : r.domain ≡ s.domain
   pub room : length r.places ≡ max_plugins
-  pub fresh : (x : ℕ) → r.next ≤ x → lookup r x ≡ none
+  pub fresh : (x : ℕ) → r.next ≤ x → lookup r x ≡ None
   pub unborn : (x : ℕ) → r.next ≤ x → story s x es ≡ []
   pub agrees : (t : Invocation) → Agrees s.domain t (story s t.id es) (lookup r t.id)
 
@@ -92,7 +91,7 @@ tells_one s o a id k n = record {
   other = λ l es x f. rw (n, f);
 }
 
-pub tells_none : (s : Registry) (o : Op) (a : Answer) (id : ℕ) → noted o a ≡ none → Tells s o a id (λ h. h)
+pub tells_none : (s : Registry) (o : Op) (a : Answer) (id : ℕ) → noted o a ≡ None → Tells s o a id (λ h. h)
 unfolding story
 tells_none s o a id n = record {
   here = λ l es. rw n;
@@ -100,7 +99,7 @@ tells_none s o a id n = record {
 }
 
 module _ (s : Registry) (es : List Event) (r : Registry) (w : Linked s es r) where
-  pub below : (id : ℕ) (p : Plugin) → lookup r id ≡ some p → id < r.next
+  pub below : (id : ℕ) (p : Plugin) → lookup r id ≡ Some p → id < r.next
   below id p e = by_test (leb r.next id)
       (λ y. let h = w.fresh id (leb-true r.next id y) in let z : ◌≡◌ {A = ℕ} 0 1 = cc in omega arith)
       (λ n. leb-false r.next id n)
@@ -127,7 +126,7 @@ module _ (s : Registry) (es : List Event) (r : Registry) (w : Linked s es r) whe
       }
 
   -- nothing is told, and nothing changes
-  pub still : (o : Op) (a : Answer) (l : List ℕ) → noted o a ≡ none → Linked s (saying o a l ∷ es) r
+  pub still : (o : Op) (a : Answer) (l : List ℕ) → noted o a ≡ None → Linked s (saying o a l ∷ es) r
   still o a l n =
       let k : (x : ℕ) → Tells s o a x (λ h. h) = λ x. tells_none s o a x n in
       record {
@@ -143,28 +142,28 @@ module _ (s : Registry) (es : List Event) (r : Registry) (w : Linked s es r) whe
   refused o x vs = still o (Refused (number x) vs) _ refl
 
   -- nothing of a plugin is told, and nothing changes
-  pub quiet : (o : Op) (a : Reply) → ((vs : List ℕ) → told o vs ≡ none) → Good s es r o (tells a)
+  pub quiet : (o : Op) (a : Reply) → ((vs : List ℕ) → told o vs ≡ None) → Good s es r o (tells a)
   unfolding Good after
   quiet o (refusing x vs) n = still o (Refused (number x) vs) _ refl
   quiet o (accepting vs) n = still o (Accepted vs) _ (n vs)
 
-  pub wrote : (o : Op) (place : ℕ) (l vs : List ℕ) → told o vs ≡ none → Good s es r o (writes place l vs)
+  pub wrote : (o : Op) (place : ℕ) (l vs : List ℕ) → told o vs ≡ None → Good s es r o (writes place l vs)
   unfolding Good after
   wrote o place l vs n = still o (Accepted vs) _ n
 
-  pub answered_absent : (o : Op) (vs : List ℕ) (id : ℕ) (k : Told) → told o vs ≡ of id k → lookup r id ≡ none → id < r.next
+  pub answered_absent : (o : Op) (vs : List ℕ) (id : ℕ) (k : Told) → told o vs ≡ of id k → lookup r id ≡ None → id < r.next
       → ((t : Invocation) (h : List Told) → Absent t h → Absent t (k ∷ h)) → Good s es r o (answers vs)
   unfolding Good after
   answered_absent o vs id k n e l f =
-      touches o (Accepted vs) _ id (λ h. k ∷ h) r none none (tells_one s o (Accepted vs) id k n) refl refl (le_refl _) l e e (λ x y. refl) (λ t i a. f t _ a)
+      touches o (Accepted vs) _ id (λ h. k ∷ h) r None None (tells_one s o (Accepted vs) id k n) refl refl (le_refl _) l e e (λ x y. refl) (λ t i a. f t _ a)
 
   pub stored_one : (o : Op) (vs : List ℕ) (id : ℕ) (p q : Plugin) (add : List Told → List Told) → Tells s o (Accepted vs) id add
-      → lookup r id ≡ some p → q.id ≡ id
+      → lookup r id ≡ Some p → q.id ≡ id
       → ((t : Invocation) (h : List Told) → id ≡ t.id → Present s.domain t h p → Present s.domain t (add h) q)
       → Good s es r o (stores q vs)
   unfolding Good after lookup
   stored_one o vs id p q add k e i f =
-      touches o (Accepted vs) _ id add (after r (stores q vs)) (some p) (some q) k refl (length_stored r.places q) (le_refl _) (below id p e)
+      touches o (Accepted vs) _ id add (after r (stores q vs)) (Some p) (Some q) k refl (length_stored r.places q) (le_refl _) (below id p e)
       e (stored_same id r.places p q i e)
       (λ x n. stored_other x r.places q (ne_eqb q.id x (λ h. eqb-false id x n (sym i ∙ h))))
       (λ t j a. f t _ j a)
@@ -174,17 +173,17 @@ module _ (s : Registry) (es : List Event) (r : Registry) (w : Linked s es r) whe
   unfolding Good after lookup count
   added_one o vs q k n i l f =
       let e = w.fresh q.id (omega arith) in
-      touches o (Accepted vs) _ q.id (λ h. k ∷ h) (after r (adds q vs)) none (some q) (tells_one s o (Accepted vs) q.id k n)
+      touches o (Accepted vs) _ q.id (λ h. k ∷ h) (after r (adds q vs)) None (Some q) (tells_one s o (Accepted vs) q.id k n)
       refl (length_added r.places q) (omega arith) (omega arith)
       e (added_same r.places q e (omega (arith, w.room)))
       (λ x y. added_other x r.places q y)
       (λ t j a. subst⁻¹ (λ h. Present s.domain t (k ∷ h) q) (w.unborn q.id (omega arith)) (f t))
 
-  pub removed_one : (o : Op) (vs : List ℕ) (id : ℕ) (p : Plugin) (k : Told) → told o vs ≡ of id k → lookup r id ≡ some p
+  pub removed_one : (o : Op) (vs : List ℕ) (id : ℕ) (p : Plugin) (k : Told) → told o vs ≡ of id k → lookup r id ≡ Some p
       → ((t : Invocation) (h : List Told) → Present s.domain t h p → Absent t (k ∷ h)) → Good s es r o (removes id vs)
   unfolding Good after lookup
   removed_one o vs id p k n e f =
-      touches o (Accepted vs) _ id (λ h. k ∷ h) (after r (removes id vs)) (some p) none (tells_one s o (Accepted vs) id k n)
+      touches o (Accepted vs) _ id (λ h. k ∷ h) (after r (removes id vs)) (Some p) None (tells_one s o (Accepted vs) id k n)
       refl (length_freed r.places id) (le_refl _) (below id p e)
       e (freed_same id r.places)
       (λ x y. freed_other id x r.places y)

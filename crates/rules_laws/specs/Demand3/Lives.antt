@@ -1,7 +1,6 @@
 -- What each kind of change does to the link between one plugin and its story.
-use Rattle.std.specs.Prelude.{ℕ, ◌+◌, ◌≡◌, refl, true, false, List, [], ◌∷◌, eqb}
+use Rattle.std.specs.Prelude.{ℕ, ◌+◌, ◌≡◌, refl, true, false, List, [], ◌∷◌, eqb, None}
 use Rattle.std.proofs.Common.{arith, sym, ◌∙◌, subst, true≢false, eqb-true, eq-eqb}
-use Rattle.std.proofs.Math.Option.{none}
 use Rattle.std.proofs.lemmas.Bool.{not-true}
 use Rattle.rules_types.specs.declared.Phase.TheVariants.{Loading}
 use Rattle.rules_types.specs.declared.Root.{Root}
@@ -104,7 +103,7 @@ not_callable d p t n = by_test (callable d p t) (λ y. absurd (n (facts d p t y)
 
 module _ (d : ℕ) (t : Invocation) (h : List Told) (p : Plugin) (a : Present d t h p) where
   -- where the plugin can't be called, its story is dead
-  pub silent : callable d p t ≡ false → live t h ≡ none
+  pub silent : callable d p t ≡ false → live t h ≡ None
   silent e = rw e at a.alive
 
   -- begin, unload, finish: nothing is told, and the plugin can be called neither before nor after

@@ -1,8 +1,7 @@
 -- A registry stays Built where one plugin changes.
-use Rattle.std.specs.Prelude.{ℕ, ◌≤◌, ◌≡◌, true, false, eqb, length}
+use Rattle.std.specs.Prelude.{ℕ, ◌≤◌, ◌≡◌, true, false, eqb, length, Option, Some}
 use Rattle.std.proofs.Common.{arith, sym, ap, ◌∙◌, subst, ⊎_elim, eqb-true}
 use Rattle.std.proofs.Math.Path.{subst⁻¹}
-use Rattle.std.proofs.Math.Option.{Option, some}
 use Rattle.rules.specs.Basics.{is_some, twice, last}
 use Rattle.rules.specs.Holds.{Plugin, Registry, plugins, lookup, rows_in_use}
 use Rattle.rules.specs.Registration.{parent_of, inherited_from}
@@ -33,9 +32,9 @@ pub record Change (r r' : Registry) (id : ℕ) (u u' : Option Plugin) : Type 0 w
   pub once : twice (ids_of (plugins r')) ≡ false
   pub member : IfSome (Member r') u'
   -- it is still there if it is a parent
-  pub parents : (a : Plugin) → In a (plugins r) → a.parent ≡ some id → is_some u' ≡ true
+  pub parents : (a : Plugin) → In a (plugins r) → a.parent ≡ Some id → is_some u' ≡ true
   -- and then with the list that it had
-  pub lists : (a : Plugin) → In a (plugins r) → a.parent ≡ some id → inherited_from u' ≡ inherited_from u
+  pub lists : (a : Plugin) → In a (plugins r) → a.parent ≡ Some id → inherited_from u' ≡ inherited_from u
   pub ruled : IfSome (λ a. Ruled (inherited_from (parent_of r' a.parent)) a) u'
   pub ranked : Ranked (plugins r')
 
@@ -62,7 +61,7 @@ built_after r r' id u u' b c = record {
           issued = rw c.first m.issued;
           below = let l = m.below in omega arith;
           older = m.older;
-          parent = λ x e. found_after r r' id u u' c.only x (λ i. c.parents a n (subst⁻¹ (λ y. a.parent ≡ some y) i e)) (m.parent x e);
+          parent = λ x e. found_after r r' id u u' c.only x (λ i. c.parents a n (subst⁻¹ (λ y. a.parent ≡ Some y) i e)) (m.parent x e);
           shaped = m.shaped;
           lively = m.lively;
         }

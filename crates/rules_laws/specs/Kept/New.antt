@@ -1,10 +1,9 @@
 -- What a registration that passes its checks gives: the new plugin may come in.
-use Rattle.std.specs.Prelude.{ℕ, refl, true, false, not, ◌&&◌, ◌||◌, eqb, length}
+use Rattle.std.specs.Prelude.{ℕ, refl, true, false, not, ◌&&◌, ◌||◌, eqb, length, Option, Some, None}
 use Rattle.std.proofs.Common.{arith, sym, ap, ◌∙◌, subst, true≢false, inl, inr}
 use Rattle.std.proofs.Math.Path.{◌≡◌}
 use Rattle.std.proofs.Math.Bool.{or-true}
 use mathlib.Core.List.{List, [], ◌∷◌, map, map-map, map-id}
-use Rattle.std.proofs.Math.Option.{Option, none, some}
 use Rattle.std.proofs.Math.Dec.{ltb}
 use Rattle.std.proofs.lemmas.List.{length-map}
 use Rattle.std.proofs.Math.ListN.{drop}
@@ -35,12 +34,12 @@ claims_in_lem k a l e = by_test (is_in k l)
     (λ n. inl (same_port_lem k a (rw n at e)))
 
 there : (u : Option Plugin) → is_none u ≡ false → is_some u ≡ true
-there none e = sym e
-there (some p) e = refl
+there None e = sym e
+there (Some p) e = refl
 
-parent_found : (r : Registry) (u : Option ℕ) → (is_some u && is_none (parent_of r u)) ≡ false → (x : ℕ) → u ≡ some x → is_some (lookup r x) ≡ true
-parent_found r none e x i = cc
-parent_found r (some y) e x i = let j : y ≡ x = cc in subst (λ x. is_some (lookup r x) ≡ true) j (there (lookup r y) e)
+parent_found : (r : Registry) (u : Option ℕ) → (is_some u && is_none (parent_of r u)) ≡ false → (x : ℕ) → u ≡ Some x → is_some (lookup r x) ≡ true
+parent_found r None e x i = cc
+parent_found r (Some y) e x i = let j : y ≡ x = cc in subst (λ x. is_some (lookup r x) ≡ true) j (there (lookup r y) e)
 
 -- like keys resolve alike, so where no two ports are alike no two keys are
 key_found : (z : Realms) (k : ℕ) (keys : List ℕ) → any (eqb k) keys ≡ true → is_in (resolve z k) (map (resolve z) keys) ≡ true

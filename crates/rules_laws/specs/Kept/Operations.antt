@@ -1,9 +1,8 @@
 -- What each operation comes to: nothing changes, or a plugin turns, joins or leaves.
-use Rattle.std.specs.Prelude.{ℕ, ◌+◌, Bool, true, false, ◌||◌, List, [], ◌∷◌}
+use Rattle.std.specs.Prelude.{ℕ, ◌+◌, Bool, true, false, ◌||◌, List, [], ◌∷◌, Option, Some, None}
 use Rattle.std.proofs.Common.{arith, le_refl, sym, ◌∙◌, subst, true≢false}
 use Rattle.std.proofs.Math.Path.{◌≡◌, refl, ap, subst⁻¹}
 use Rattle.std.proofs.lemmas.Simd.{map-map}
-use Rattle.std.proofs.Math.Option.{Option, none, some}
 use borrow.Author.Tests.{eqb-false, not-false}
 use Rattle.rules.specs.Basics.{all, last}
 use Rattle.rules_types.specs.declared.Port.{Port}
@@ -46,9 +45,9 @@ unfoldable pub Lawful : Registry → Op → Outcome → Type 0
 Lawful r o (tells (refusing x vs)) = Unit {0}
 Lawful r o (tells (accepting vs)) = act o ≡ stays
 Lawful r o (writes place l vs) = act o ≡ stays
-Lawful r o (stores q vs) = (p : Plugin) × Dated (act o) p q × (lookup r q.id ≡ some p) × Turn r p q × Within (reach o) p q
+Lawful r o (stores q vs) = (p : Plugin) × Dated (act o) p q × (lookup r q.id ≡ Some p) × Turn r p q × Within (reach o) p q
 Lawful r o (adds q vs) = (d : Definition) × (act o ≡ joins d) × (vs ≡ r.next ∷ []) × (q ≡ new_plugin r d) × Join r q × (reach o ≡ members)
-Lawful r o (removes id vs) = (p : Plugin) × (act o ≡ leaves id) × (lookup r id ≡ some p) × Leave r id p × (reach o ≡ members)
+Lawful r o (removes id vs) = (p : Plugin) × (act o ≡ leaves id) × (lookup r id ≡ Some p) × Leave r id p × (reach o ≡ members)
 
 is_spent_lem : (o : Root) → is_spent o ≡ true → o ≡ Spent
 is_spent_lem Unissued e = cc
@@ -64,7 +63,7 @@ runs h = is_loading h || is_active h
 
 module _ (r : Registry) where
   -- the id is found; the checks are passed
-  knows : (o : Op) (id : ℕ) (f : Plugin → Outcome) → ((p : Plugin) → lookup r id ≡ some p → Lawful r o (f p)) → Lawful r o (known r id f)
+  knows : (o : Op) (id : ℕ) (f : Plugin → Outcome) → ((p : Plugin) → lookup r id ≡ Some p → Lawful r o (f p)) → Lawful r o (known r id f)
   unfolding Lawful
   knows o id f g = found_elim (Lawful r o) (lookup r id) f tt g
 
@@ -79,7 +78,7 @@ module _ (r : Registry) where
   told o (accepting vs) n = n
 
   -- the plugin p, found under id, becomes q
-  module _ (o : Op) (vs : List ℕ) (id : ℕ) (p q : Plugin) (e : lookup r id ≡ some p) (n : Dated (act o) p q) (a : Alike p q) (l : Lively p → Lively q)
+  module _ (o : Op) (vs : List ℕ) (id : ℕ) (p q : Plugin) (e : lookup r id ≡ Some p) (n : Dated (act o) p q) (a : Alike p q) (l : Lively p → Lively q)
       (w : Within (reach o) p q) (k : is_active p.phase ≡ true → q.provisions ≡ p.provisions) where
     -- from one phase to another
     moves : (from to : Phase) → p.phase ≡ from → q.phase ≡ to
@@ -89,7 +88,7 @@ module _ (r : Registry) where
     moves from to i j f g = (
       p,
       n,
-      subst⁻¹ (λ x. lookup r x ≡ some p) (a.id ∙ lookup_id r id p e) e,
+      subst⁻¹ (λ x. lookup r x ≡ Some p) (a.id ∙ lookup_id r id p e) e,
       record {
         alike = a;
         lively = l;
@@ -166,7 +165,7 @@ module _ (r : Registry) where
       let h = live_loading p t (not-false _ f.1.0) in
       rests _ _ _ p _ e refl (alike p refl) (λ l. lively_rooted p l Spent h (λ v b i. let z : ◌≡◌ {A = ℕ} 0 1 = cc in omega arith)) refl (λ _. refl) refl
 
-  retires : (o : Op) (id : ℕ) (p : Plugin) → lookup r id ≡ some p → Dated (act o) p (with_retired true p) → Within (reach o) p (with_retired true p)
+  retires : (o : Op) (id : ℕ) (p : Plugin) → lookup r id ≡ Some p → Dated (act o) p (with_retired true p) → Within (reach o) p (with_retired true p)
       → Lawful r o (stores (with_retired true p) [])
   retires o id p e n w = rests o [] id p _ e n (alike p refl) (λ l. lively_noted p l p.revision p.payload true (le_refl _) l.revision) w
       (λ _. refl) refl
@@ -180,8 +179,8 @@ module _ (r : Registry) where
   retire_child_lawful c = passes _ _ _ λ f. go (lookup r c.id) refl
     where
       go : (u : Option Plugin) → lookup r c.id ≡ u → Lawful r (RetireChild c) (retire_found c.parent u)
-      go none e = told _ _ refl
-      go (some p) e = passes _ _ _ λ f. retires _ _ p e refl refl
+      go None e = told _ _ refl
+      go (Some p) e = passes _ _ _ λ f. retires _ _ p e refl refl
 
   offer_lawful : (id : ℕ) (q : Port) (v : ℕ) → Lawful r (Offer id q v) (offer r id q v)
   unfolding offer

@@ -1,9 +1,8 @@
 -- What the tests 8, 14 and 15 say of the wiring.
-use Rattle.std.specs.Prelude.{ℕ, ◌≡◌, ◌&&◌}
+use Rattle.std.specs.Prelude.{ℕ, ◌≡◌, ◌&&◌, Option, Some, None}
 use Rattle.std.proofs.Math.Path.{refl}
 use Rattle.std.proofs.Common.{sym, ◌∙◌}
 use Rattle.std.proofs.Math.Bool.{true, false, true≢false}
-use Rattle.std.proofs.Math.Option.{Option, none, some}
 use Rattle.rules.specs.Basics.{any, is_some, holds, twice}
 use Rattle.rules_types.specs.declared.Port.{Port}
 use Rattle.rules.specs.Holds.{Plugin, Registry, plugins, lookup, provider, provides, running, is_active}
@@ -19,8 +18,8 @@ module _ (r : Registry) where
   available_served once k e = go (provider r k) refl e
     where
       go : (u : Option Plugin) → provider r k ≡ u → holds (λ (p : Plugin). is_active p.phase) u ≡ true → Served r k
-      go none i h = absurd (true≢false (sym h))
-      go (some a) i h =
+      go None i h = absurd (true≢false (sym h))
+      go (Some a) i h =
           let m = first_in_lem (λ (p : Plugin). provides p k) (plugins r) a i in
           record { id = a.id; plugin = a; registered = distinct r once a m.0; active = is_active_lem a.phase h; gives = m.1 }
 
@@ -31,10 +30,10 @@ module _ (r : Registry) where
       let m : any (provides p) s.dependencies ≡ false = rw want.runs at n in
       any_false (provides p) s.dependencies k m want.depends
 
-  pub unprovided : (k : Port) → is_some (provider r k) ≡ false → (y : ℕ) (b : Plugin) → lookup r y ≡ some b → provides b k ≡ true → ⊥
+  pub unprovided : (k : Port) → is_some (provider r k) ≡ false → (y : ℕ) (b : Plugin) → lookup r y ≡ Some b → provides b k ≡ true → ⊥
   unfolding provider
   unprovided k e y b f g = go (provider r k) refl e
     where
       go : (u : Option Plugin) → provider r k ≡ u → is_some u ≡ false → ⊥
-      go none i h = true≢false (sym g ∙ first_none (λ (p : Plugin). provides p k) (plugins r) b i (lookup_in r y b f))
-      go (some a) i h = true≢false h
+      go None i h = true≢false (sym g ∙ first_none (λ (p : Plugin). provides p k) (plugins r) b i (lookup_in r y b f))
+      go (Some a) i h = true≢false h

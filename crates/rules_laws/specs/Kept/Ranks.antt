@@ -1,7 +1,6 @@
 -- No cycles come up: where a plugin comes to run, nobody that runs needs it.
-use Rattle.std.specs.Prelude.{ℕ, suc, ◌+◌, ◌<◌, ◌≤◌, ◌≡◌, refl, true, false, List, [], ◌∷◌, ◌⊎◌, eqb}
+use Rattle.std.specs.Prelude.{ℕ, suc, ◌+◌, ◌<◌, ◌≤◌, ◌≡◌, refl, true, false, List, [], ◌∷◌, ◌⊎◌, eqb, Option, Some}
 use Rattle.std.proofs.Common.{arith, sym, ap, ◌∙◌, subst, true≢false, eq-eqb}
-use Rattle.std.proofs.Math.Option.{Option, some}
 use Rattle.std.proofs.Math.Logic.{inl, inr, ⊎_elim}
 use Rattle.rules_types.specs.declared.Port.{Port}
 use Rattle.rules.specs.Basics.{pick, any, all}
@@ -30,7 +29,7 @@ below_top f (x ∷ l) a (inr m) = let h = below_top f l a m in omega arith
 rerank : ℕ → ℕ → (Plugin → ℕ) → Plugin → ℕ
 rerank id c f a = pick (eqb id a.id) c (f a)
 
-module _ (r r' : Registry) (q : Plugin) (u : Option Plugin) (o : Only r r' q.id u (some q)) (k : Ranked (plugins r)) (c : ℕ) where
+module _ (r r' : Registry) (q : Plugin) (u : Option Plugin) (o : Only r r' q.id u (Some q)) (k : Ranked (plugins r)) (c : ℕ) where
   -- a member afterwards is q, with rank c, or another one, with the rank that it had
   abbrev Case : Plugin → Type 0
   Case a = ((a ≡ q) × (rerank q.id c k.rank a ≡ c)) ⊎ (In a (plugins r) × (rerank q.id c k.rank a ≡ k.rank a))
@@ -72,13 +71,13 @@ module _ (r r' : Registry) (q : Plugin) (u : Option Plugin) (o : Only r r' q.id 
       (λ a _ _ y _. absurd (true≢false (sym y ∙ n)))
 
 -- The plugin p, registered, becomes q; it comes to run only if each dependency has an Active provider.
-module _ (r : Registry) (b : Built r) (p q : Plugin) (e : lookup r q.id ≡ some p) (s : Alike p q)
+module _ (r : Registry) (b : Built r) (p q : Plugin) (e : lookup r q.id ≡ Some p) (s : Alike p q)
     (starts : running p ≡ false → running q ≡ true → all (available r) p.dependencies ≡ true) where
   -- a plugin that does not run serves nobody
   unserving : running p ≡ false → (k : Port) → Served r k → provides p k ≡ true → ⊥
   unserving n k v h =
       let i = b.wired.sole q.id v.id p v.plugin k e v.registered h v.gives in
-      let f : lookup r q.id ≡ some v.plugin = ap (lookup r) i ∙ v.registered in
+      let f : lookup r q.id ≡ Some v.plugin = ap (lookup r) i ∙ v.registered in
       let g : p ≡ v.plugin = cc in
       let y : running v.plugin ≡ true = rw v.active in
       true≢false (sym y ∙ ap running (sym g) ∙ n)
@@ -107,17 +106,17 @@ module _ (r : Registry) (b : Built r) (p q : Plugin) (e : lookup r q.id ≡ some
       let m = subst (In d.0) s.dependencies d.1 in
       unserving n d.0 (available_served r b.once d.0 (all_true (available r) p.dependencies d.0 (starts n y) m)) d.2
 
-  pub turn_ranked : (r' : Registry) → Only r r' q.id (some p) (some q) → Ranked (plugins r) → Ranked (plugins r')
+  pub turn_ranked : (r' : Registry) → Only r r' q.id (Some p) (Some q) → Ranked (plugins r) → Ranked (plugins r')
   turn_ranked r' o k =
       let m = lookup_in r q.id p e in
       by_test (running q)
       (λ y. by_test (running p)
-      (λ x. ranked_with r r' q (some p) o k (k.rank p)
+      (λ x. ranked_with r r' q (Some p) o k (k.rank p)
       (λ _ h. let l = k.falls p p m m x x (rw s.dependencies at (sym (as_before q) ∙ h)) in omega arith)
       (λ a n _ z h. k.falls p a m n x z (rw s.dependencies at h))
       (λ a n z _ h. k.falls a p n m z x (sym (as_before a) ∙ h)))
-      (λ n. ranked_with r r' q (some p) o k (suc (top k.rank (plugins r)))
+      (λ n. ranked_with r r' q (Some p) o k (suc (top k.rank (plugins r)))
       (apart n)
       (λ a i _ z h. let l = below_top k.rank (plugins r) a i in omega arith)
       (λ a i z _ h. absurd (unwanted n a i z h))))
-      (λ n. ranked_resting r r' q (some p) o k 0 n)
+      (λ n. ranked_resting r r' q (Some p) o k 0 n)

@@ -1,7 +1,6 @@
 -- Rows in use after a store, an addition and a removal.
-use Rattle.std.specs.Prelude.{ℕ, ◌+◌, ◌<◌, ◌≡◌, refl, false, List, [], ◌∷◌, map, eqb, length}
+use Rattle.std.specs.Prelude.{ℕ, ◌+◌, ◌<◌, ◌≡◌, refl, false, List, [], ◌∷◌, map, eqb, length, Some, None}
 use Rattle.std.proofs.Common.{arith, ap, ◌∙◌, inl, inr, eqb-true}
-use Rattle.std.proofs.Math.Option.{none, some}
 use Rattle.rules.specs.Basics.{sum, twice}
 use Rattle.rules.specs.Holds.{Plugin, Places, held, rows_of, sum_rows}
 use Rattle.rules.specs.Outcomes.{stored_at, freed_at, at_lowest_free}
@@ -15,8 +14,8 @@ use Rattle.rules_laws.specs.Kept.Places.{held_freed}
 pub rows_stored : (ps : Places) (q : Plugin) → ((s : Plugin) → In s (held ps) → s.id ≡ q.id → rows_of q ≡ rows_of s)
     → sum_rows (held (map (stored_at q) ps)) ≡ sum_rows (held ps)
 rows_stored [] q f = refl
-rows_stored (none ∷ ps) q f = rows_stored ps q f
-rows_stored (some s ∷ ps) q f =
+rows_stored (None ∷ ps) q f = rows_stored ps q f
+rows_stored (Some s ∷ ps) q f =
     let e = rows_stored ps q (λ a m. f a (inr m)) in
     by_test (eqb s.id q.id)
     (λ y. let h = f s (inl refl) (eqb-true s.id q.id y) in rw y (omega arith))
@@ -27,7 +26,7 @@ sum_rows_lem [] = refl
 sum_rows_lem (p ∷ l) = ap (λ n. rows_of p + n) (sum_rows_lem l)
 
 -- a removed plugin's rows are given back, no more and no less
-pub rows_freed : (ps : Places) (id : ℕ) (p : Plugin) → twice (ids_of (held ps)) ≡ false → find id ps ≡ some p
+pub rows_freed : (ps : Places) (id : ℕ) (p : Plugin) → twice (ids_of (held ps)) ≡ false → find id ps ≡ Some p
     → sum_rows (held (map (freed_at id) ps)) + rows_of p ≡ sum_rows (held ps)
 rows_freed ps id p h e =
     let a = sum_rows_lem (held (map (freed_at id) ps)) ∙ ap (sum rows_of) (held_freed ps id) in
@@ -38,5 +37,5 @@ rows_freed ps id p h e =
 -- there is a free place where fewer plugins are held than there are places
 pub rows_added : (ps : Places) (q : Plugin) → length (held ps) < length ps → sum_rows (held (at_lowest_free q ps)) ≡ sum_rows (held ps) + rows_of q
 rows_added [] q l = let z : ◌≡◌ {A = ℕ} 0 1 = omega arith in omega arith
-rows_added (none ∷ ps) q l = omega arith
-rows_added (some s ∷ ps) q l = let e = rows_added ps q (omega arith) in omega arith
+rows_added (None ∷ ps) q l = omega arith
+rows_added (Some s ∷ ps) q l = let e = rows_added ps q (omega arith) in omega arith

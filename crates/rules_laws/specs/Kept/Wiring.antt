@@ -1,7 +1,6 @@
 -- How a change of one plugin keeps the wiring: every dependency of a running plugin served, two providers of a port one.
-use Rattle.std.specs.Prelude.{ℕ, ◌≡◌, true, false, ◌⊎◌, eqb}
+use Rattle.std.specs.Prelude.{ℕ, ◌≡◌, true, false, ◌⊎◌, eqb, Option, Some, None}
 use Rattle.std.proofs.Common.{sym, ap, ◌∙◌, subst, ⊎_elim, eqb-true}
-use Rattle.std.proofs.Math.Option.{Option, none, some}
 use Rattle.rules_types.specs.declared.Port.{Port}
 use Rattle.rules_types.specs.declared.Phase.TheVariants.{Active}
 use Rattle.rules.specs.Holds.{Plugin, Registry, lookup, provides, running}
@@ -12,8 +11,8 @@ use Rattle.rules_laws.specs.Kept.Places.{Only}
 
 -- an Active provider of the port
 abbrev pub Serves : Port → Option Plugin → Type 0
-Serves k none = ⊥
-Serves k (some p) = (p.phase ≡ Active) × (provides p k ≡ true)
+Serves k None = ⊥
+Serves k (Some p) = (p.phase ≡ Active) × (provides p k ≡ true)
 
 -- where the plugin runs, its dependencies were wanted before, or are served by another than id
 abbrev pub Starts : Registry → ℕ → Plugin → Type 0
@@ -25,12 +24,12 @@ Stays r u' p = p.phase ≡ Active → (k : Port) → provides p k ≡ true → W
 
 -- what the plugin provides none does but id
 abbrev pub Claims : Registry → ℕ → Plugin → Type 0
-Claims r id q = (k : Port) → provides q k ≡ true → (y : ℕ) (b : Plugin) → lookup r y ≡ some b → provides b k ≡ true → eqb id y ≡ false → ⊥
+Claims r id q = (k : Port) → provides q k ≡ true → (y : ℕ) (b : Plugin) → lookup r y ≡ Some b → provides b k ≡ true → eqb id y ≡ false → ⊥
 
 -- true of the plugin, if there is one
 abbrev pub IfSome : (Plugin → Type 0) → Option Plugin → Type 0
-IfSome f none = Unit {0}
-IfSome f (some p) = f p
+IfSome f None = Unit {0}
+IfSome f (Some p) = f p
 
 -- What a change of the plugin id has to meet: before it is u, afterwards u'.
 pub record Rewired (r : Registry) (id : ℕ) (u u' : Option Plugin) : Type 0 where
@@ -40,7 +39,7 @@ pub record Rewired (r : Registry) (id : ℕ) (u u' : Option Plugin) : Type 0 whe
 
 module _ (r r' : Registry) (id : ℕ) (u u' : Option Plugin) (w : Wired r) (o : Only r r' id u u') (c : Rewired r id u u') where
   -- what is found under id afterwards
-  here : (x : ℕ) (q : Plugin) → eqb id x ≡ true → lookup r' x ≡ some q → u' ≡ some q
+  here : (x : ℕ) (q : Plugin) → eqb id x ≡ true → lookup r' x ≡ Some q → u' ≡ Some q
   here x q y e = sym o.now ∙ ap (lookup r') (eqb-true id x y) ∙ e
 
   served_elsewhere : (k : Port) (v : Served r k) → eqb id v.id ≡ false → Served r' k
@@ -53,14 +52,14 @@ module _ (r r' : Registry) (id : ℕ) (u u' : Option Plugin) (w : Wired r) (o : 
   }
 
   served_here : (k : Port) (v : Option Plugin) → lookup r' id ≡ v → Serves k v → Served r' k
-  served_here k none e s = absurd s
-  served_here k (some q) e s = record { id = id; plugin = q; registered = e; active = s.0; gives = s.1 }
+  served_here k None e s = absurd s
+  served_here k (Some q) e s = record { id = id; plugin = q; registered = e; active = s.0; gives = s.1 }
 
   still_served : (k : Port) → Wanted r k → Served r' k
   still_served k want =
       let v = w.served k want in
       by_test (eqb id v.id)
-      (λ y. let e : u ≡ some v.plugin = sym o.was ∙ ap (lookup r) (eqb-true id v.id y) ∙ v.registered in
+      (λ y. let e : u ≡ Some v.plugin = sym o.was ∙ ap (lookup r) (eqb-true id v.id y) ∙ v.registered in
       served_here k u' o.now (subst (IfSome (Stays r u')) e c.stay v.active k v.gives want))
       (λ n. served_elsewhere k v n)
 
@@ -77,11 +76,11 @@ module _ (r r' : Registry) (id : ℕ) (u u' : Option Plugin) (w : Wired r) (o : 
       }))
 
   -- what stands under id and what stands under another id don't both provide a port
-  apart : (x y : ℕ) (p q : Plugin) (k : Port) → eqb id x ≡ true → eqb id y ≡ false → lookup r' x ≡ some p → lookup r' y ≡ some q
+  apart : (x y : ℕ) (p q : Plugin) (k : Port) → eqb id x ≡ true → eqb id y ≡ false → lookup r' x ≡ Some p → lookup r' y ≡ Some q
       → provides p k ≡ true → provides q k ≡ true → ⊥
   apart x y p q k i n f g a b = subst (IfSome (Claims r id)) (here x p i f) c.claim k a y q (sym (o.other y n) ∙ g) b n
 
-  sole_after : (x y : ℕ) (p q : Plugin) (k : Port) → lookup r' x ≡ some p → lookup r' y ≡ some q → provides p k ≡ true → provides q k ≡ true → x ≡ y
+  sole_after : (x y : ℕ) (p q : Plugin) (k : Port) → lookup r' x ≡ Some p → lookup r' y ≡ Some q → provides p k ≡ true → provides q k ≡ true → x ≡ y
   sole_after x y p q k f g a b = by_test (eqb id x)
       (λ i. by_test (eqb id y)
       (λ j. sym (eqb-true id x i) ∙ eqb-true id y j)

@@ -1,10 +1,9 @@
 -- What `id_from` answers: the lowest registered id at or above a number, and none exactly if there is none.
-use Rattle.std.specs.Prelude.{ℕ, ◌<◌, ◌≤◌, true, ◌⊎◌, eqb, ltb, leb}
+use Rattle.std.specs.Prelude.{ℕ, ◌<◌, ◌≤◌, true, ◌⊎◌, eqb, ltb, leb, Option, Some, None}
 use native.Mathlib.Omega.{arith}
 use Rattle.std.proofs.Math.Path.{◌≡◌, refl, subst}
 use Rattle.std.proofs.Common.{sym, true≢false, inl, inr, ⊎_elim, leb-true, leb-false, ltb-true, ltb-false, eqb-true, eq-eqb}
 use mathlib.Core.List.{List, [], ◌∷◌}
-use Rattle.std.proofs.Math.Option.{Option, none, some}
 use Rattle.rules.specs.Basics.{one, is_some, first}
 use Rattle.rules.specs.Holds.{Plugin, Registry, plugins, lookup}
 use Rattle.rules.specs.Outcomes.{answers}
@@ -22,26 +21,26 @@ pub record Lowest (Kind : ℕ → Type 0) (n x : ℕ) : Type 0 where
 
 -- The lowest, or none at or above n.
 abbrev Says : (ℕ → Type 0) → ℕ → Option ℕ → Type 0
-Says Kind n none = (y : ℕ) → Kind y → y < n
-Says Kind n (some x) = Lowest Kind n x
+Says Kind n None = (y : ℕ) → Kind y → y < n
+Says Kind n (Some x) = Lowest Kind n x
 
 -- One number more.
 module _ (n i : ℕ) (Old New : ℕ → Type 0) (here : New i) (there : (y : ℕ) → Old y → New y) (either : (y : ℕ) → New y → (i ≡ y) ⊎ Old y) where
   passed : i < n → (o : Option ℕ) → Says Old n o → Says New n o
-  passed h none s = λ y w. ⊎_elim (λ e. subst (λ x. x < n) e h) (s y) (either y w)
-  passed h (some x) s = record {
+  passed h None s = λ y w. ⊎_elim (λ e. subst (λ x. x < n) e h) (s y) (either y w)
+  passed h (Some x) s = record {
     one_of = there x s.one_of;
     from = s.from;
     least = λ y w l. ⊎_elim (λ e. absurd (omega arith)) (λ v. s.least y v l) (either y w);
   }
 
   lowered : n ≤ i → (o : Option ℕ) → Says Old n o → Says New n (lower i o)
-  lowered h none s = record {
+  lowered h None s = record {
     one_of = here;
     from = h;
     least = λ y w l. ⊎_elim (λ e. omega arith) (λ v. let b = s y v in omega arith) (either y w);
   }
-  lowered h (some x) s = by_test (ltb i x)
+  lowered h (Some x) s = by_test (ltb i x)
       (λ t. let b = ltb-true i x t in rw t (record {
         one_of = here;
         from = h;
@@ -84,16 +83,16 @@ module _ (r : Registry) (n : ℕ) where
   id_lowest x e = go (lowest_from n (plugins r)) told e
     where
       go : (o : Option ℕ) → Says (Registered r) n o → answers (one o) ≡ answers (x ∷ []) → Lowest (Registered r) n x
-      go none t i = let z : ◌≡◌ {A = ℕ} 0 1 = cc in absurd (omega arith)
-      go (some y) t i = let j : y ≡ x = cc in subst (Lowest (Registered r) n) j t
+      go None t i = let z : ◌≡◌ {A = ℕ} 0 1 = cc in absurd (omega arith)
+      go (Some y) t i = let j : y ≡ x = cc in subst (Lowest (Registered r) n) j t
 
   pub lowest_id : (x : ℕ) → Lowest (Registered r) n x → id_from r n ≡ answers (x ∷ [])
   unfolding id_from
   lowest_id x w = go (lowest_from n (plugins r)) told
     where
       go : (o : Option ℕ) → Says (Registered r) n o → answers (one o) ≡ answers (x ∷ [])
-      go none t = let i = t x w.one_of in let j = w.from in absurd (omega arith)
-      go (some y) t =
+      go None t = let i = t x w.one_of in let j = w.from in absurd (omega arith)
+      go (Some y) t =
           let i = t.least x w.one_of w.from in
           let j = w.least y t.one_of t.from in
           let e : y ≡ x = omega arith in
@@ -104,13 +103,13 @@ module _ (r : Registry) (n : ℕ) where
   none_below e = go (lowest_from n (plugins r)) told e
     where
       go : (o : Option ℕ) → Says (Registered r) n o → answers (one o) ≡ answers [] → (y : ℕ) → Registered r y → y < n
-      go none t i = t
-      go (some x) t i = let z : ◌≡◌ {A = ℕ} 0 1 = cc in absurd (omega arith)
+      go None t i = t
+      go (Some x) t i = let z : ◌≡◌ {A = ℕ} 0 1 = cc in absurd (omega arith)
 
   pub below_none : ((y : ℕ) → Registered r y → y < n) → id_from r n ≡ answers []
   unfolding id_from
   below_none h = go (lowest_from n (plugins r)) told
     where
       go : (o : Option ℕ) → Says (Registered r) n o → answers (one o) ≡ answers []
-      go none t = refl
-      go (some x) t = let i = h x t.one_of in let j = t.from in absurd (omega arith)
+      go None t = refl
+      go (Some x) t = let i = h x t.one_of in let j = t.from in absurd (omega arith)

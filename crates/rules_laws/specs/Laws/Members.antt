@@ -1,8 +1,7 @@
 -- Which plugins stand in the places, and what a test over a list says of its members.
-use Rattle.std.specs.Prelude.{ℕ, ◌≡◌, refl, Bool, true, false, ◌||◌, List, [], ◌∷◌, ◌++◌, map, ◌⊎◌, eqb}
+use Rattle.std.specs.Prelude.{ℕ, ◌≡◌, refl, Bool, true, false, ◌||◌, List, [], ◌∷◌, ◌++◌, map, ◌⊎◌, eqb, Some, None}
 use Rattle.std.proofs.Common.{arith, sym, ap, ◌∙◌, subst, true≢false, inl, inr, ⊎_elim, eqb-true, eq-eqb, ne_eqb}
 use Rattle.std.proofs.Math.Bool.{or-false, or_assoc}
-use Rattle.std.proofs.Math.Option.{none, some}
 use Rattle.std.proofs.lemmas.Bool.{eqb-false}
 use Rattle.rules.specs.Basics.{any, all, first}
 use Rattle.rules_types.specs.declared.Port.{Port}
@@ -15,19 +14,19 @@ In a [] = ⊥
 In a (x ∷ l) = (x ≡ a) ⊎ In a l
 
 -- tests over lists
-pub first_in_lem : {A : Type 0} (f : A → Bool) (l : List A) (a : A) → first f l ≡ some a → In a l × (f a ≡ true)
+pub first_in_lem : {A : Type 0} (f : A → Bool) (l : List A) (a : A) → first f l ≡ Some a → In a l × (f a ≡ true)
 first_in_lem f [] a e = let z : ◌≡◌ {A = ℕ} 0 1 = cc in absurd (omega arith)
 first_in_lem f (x ∷ l) a e = by_test (f x)
-    (λ y. let i : some x ≡ some a = rw y at e in let j : x ≡ a = cc in (inl j, subst (λ v. f v ≡ true) j y))
+    (λ y. let i : Some x ≡ Some a = rw y at e in let j : x ≡ a = cc in (inl j, subst (λ v. f v ≡ true) j y))
     (λ n. let r = first_in_lem f l a (rw n at e) in (inr r.0, r.1))
 
-pub first_none : {A : Type 0} (f : A → Bool) (l : List A) (a : A) → first f l ≡ none → In a l → f a ≡ false
+pub first_none : {A : Type 0} (f : A → Bool) (l : List A) (a : A) → first f l ≡ None → In a l → f a ≡ false
 first_none {A = A} f [] a e h = elim h [ ]
 first_none f (x ∷ l) a e (inl i) = by_test (f x)
-    (λ y. let j : some x ≡ none = rw y at e in cc)
+    (λ y. let j : Some x ≡ None = rw y at e in cc)
     (λ n. subst (λ v. f v ≡ false) i n)
 first_none f (x ∷ l) a e (inr m) = by_test (f x)
-    (λ y. let j : some x ≡ none = rw y at e in cc)
+    (λ y. let j : Some x ≡ None = rw y at e in cc)
     (λ n. first_none f l a (rw n at e) m)
 
 -- a test of a list that starts with a
@@ -92,23 +91,23 @@ pub in_behind : (p q : Port) (l : List Port) → is_in p (l ++ q ∷ []) ≡ (is
 in_behind p q l = any_append (same_port p) l (q ∷ []) ∙ ap (λ b. is_in p l || b) (or-false _)
 
 -- the places
-pub lookup_in : (r : Registry) (x : ℕ) (p : Plugin) → lookup r x ≡ some p → In p (plugins r)
+pub lookup_in : (r : Registry) (x : ℕ) (p : Plugin) → lookup r x ≡ Some p → In p (plugins r)
 unfolding lookup
 lookup_in r x p e = (first_in_lem (λ (q : Plugin). eqb q.id x) (plugins r) p e).0
 
 pub stored_in : (ps : Places) (q a : Plugin) → In a (held (map (stored_at q) ps)) → (a ≡ q) ⊎ (In a (held ps) × (eqb q.id a.id ≡ false))
 stored_in [] q a h = elim h [ ]
-stored_in (none ∷ ps) q a m = stored_in ps q a m
-stored_in (some s ∷ ps) q a (inl i) = by_test (eqb s.id q.id)
+stored_in (None ∷ ps) q a m = stored_in ps q a m
+stored_in (Some s ∷ ps) q a (inl i) = by_test (eqb s.id q.id)
     (λ y. let j : q ≡ a = rw y at i in inl (sym j))
     (λ n. let j : s ≡ a = rw n at i in
     inr (inl j, ne_eqb q.id a.id (λ h. eqb-false s.id q.id n (ap (λ (v : Plugin). v.id) j ∙ sym h))))
-stored_in (some s ∷ ps) q a (inr m) = ⊎_elim inl (λ w. inr (inr w.0, w.1)) (stored_in ps q a m)
+stored_in (Some s ∷ ps) q a (inr m) = ⊎_elim inl (λ w. inr (inr w.0, w.1)) (stored_in ps q a m)
 
 pub freed_in : (ps : Places) (x : ℕ) (a : Plugin) → In a (held (map (freed_at x) ps)) → In a (held ps) × (eqb x a.id ≡ false)
 freed_in [] x a h = elim h [ ]
-freed_in (none ∷ ps) x a m = freed_in ps x a m
-freed_in (some s ∷ ps) x a m = by_test (eqb s.id x)
+freed_in (None ∷ ps) x a m = freed_in ps x a m
+freed_in (Some s ∷ ps) x a m = by_test (eqb s.id x)
     (λ y. let w = freed_in ps x a (rw y at m) in (inr w.0, w.1))
     (λ n. go n (freed_in ps x a) (rw n at m))
   where
@@ -119,7 +118,7 @@ freed_in (some s ∷ ps) x a m = by_test (eqb s.id x)
 
 pub added_in : (ps : Places) (q a : Plugin) → In a (held (at_lowest_free q ps)) → (a ≡ q) ⊎ In a (held ps)
 added_in [] q a h = elim h [ ]
-added_in (none ∷ ps) q a (inl i) = inl (sym i)
-added_in (none ∷ ps) q a (inr m) = inr m
-added_in (some s ∷ ps) q a (inl i) = inr (inl i)
-added_in (some s ∷ ps) q a (inr m) = ⊎_elim inl (λ w. inr (inr w)) (added_in ps q a m)
+added_in (None ∷ ps) q a (inl i) = inl (sym i)
+added_in (None ∷ ps) q a (inr m) = inr m
+added_in (Some s ∷ ps) q a (inl i) = inr (inl i)
+added_in (Some s ∷ ps) q a (inr m) = ⊎_elim inl (λ w. inr (inr w)) (added_in ps q a m)

@@ -1,7 +1,6 @@
 -- Lists of things that have a number each: where no number stands twice, and what is left without one.
-use Rattle.std.specs.Prelude.{ℕ, ◌+◌, ◌≡◌, refl, false, List, [], ◌∷◌, map, eqb}
+use Rattle.std.specs.Prelude.{ℕ, ◌+◌, ◌≡◌, refl, false, List, [], ◌∷◌, map, eqb, Some, None}
 use Rattle.std.proofs.Common.{arith, sym, ap, ◌∙◌, inl, inr, eqb-true, eq-eqb, ne_eqb}
-use Rattle.std.proofs.Math.Option.{none, some}
 use Rattle.std.proofs.lemmas.Bool.{eqb-false}
 use Rattle.rules.specs.Basics.{pick, any, first, twice, sum}
 use Rattle.rules_laws.specs.Laws.Tests.{by_test, neither}
@@ -13,7 +12,7 @@ module _ {A : Type 0} (key : A → ℕ) where
   without x [] = []
   without x (a ∷ l) = pick (eqb (key a) x) (without x l) (a ∷ without x l)
 
-  pub without_same : (x : ℕ) (l : List A) → first (λ a. eqb (key a) x) (without x l) ≡ none
+  pub without_same : (x : ℕ) (l : List A) → first (λ a. eqb (key a) x) (without x l) ≡ None
   without_same x [] = refl
   without_same x (a ∷ l) =
       let r = without_same x l in
@@ -28,10 +27,10 @@ module _ {A : Type 0} (key : A → ℕ) where
       (λ f. rw f (rw r))
 
   -- a number that is not found does not stand there, and one that does not stand there is nothing to be without
-  pub absent : (x : ℕ) (l : List A) → first (λ a. eqb (key a) x) l ≡ none → any (eqb x) (map key l) ≡ false
+  pub absent : (x : ℕ) (l : List A) → first (λ a. eqb (key a) x) l ≡ None → any (eqb x) (map key l) ≡ false
   absent x [] e = refl
   absent x (a ∷ l) e = by_test (eqb (key a) x)
-      (λ t. let i : some a ≡ none = rw t at e in cc)
+      (λ t. let i : Some a ≡ None = rw t at e in cc)
       (λ f. rw (ne_eqb x (key a) (λ i. eqb-false (key a) x f (sym i)), absent x l (rw f at e)))
 
   whole : (x : ℕ) (l : List A) → any (eqb x) (map key l) ≡ false → without x l ≡ l
@@ -60,21 +59,21 @@ module _ {A : Type 0} (key : A → ℕ) where
   stands x (b ∷ l) a e (inr m) = stands x l a (neither (eqb x (key b)) (any (eqb x) (map key l)) e).1 m
 
   -- where no number stands twice, each is found by its own
-  pub found_once : (l : List A) (a : A) → twice (map key l) ≡ false → In a l → first (λ b. eqb (key b) (key a)) l ≡ some a
+  pub found_once : (l : List A) (a : A) → twice (map key l) ≡ false → In a l → first (λ b. eqb (key b) (key a)) l ≡ Some a
   found_once [] a e h = elim h [ ]
-  found_once (b ∷ l) a e (inl i) = rw (eq-eqb (key b) (key a) (ap key i)) (ap some i)
+  found_once (b ∷ l) a e (inl i) = rw (eq-eqb (key b) (key a) (ap key i)) (ap Some i)
   found_once (b ∷ l) a e (inr m) =
       let h = neither (any (eqb (key b)) (map key l)) (twice (map key l)) e in
       rw (stands (key b) l a h.0 m) (found_once l a h.1 m)
 
   -- and without it the sum is less by just that one
-  pub sum_without : (f : A → ℕ) (x : ℕ) (l : List A) (a : A) → twice (map key l) ≡ false → first (λ b. eqb (key b) x) l ≡ some a
+  pub sum_without : (f : A → ℕ) (x : ℕ) (l : List A) (a : A) → twice (map key l) ≡ false → first (λ b. eqb (key b) x) l ≡ Some a
       → sum f (without x l) + f a ≡ sum f l
   sum_without f x [] a e i = let z : ◌≡◌ {A = ℕ} 0 1 = cc in omega arith
   sum_without f x (b ∷ l) a e i =
       let h = neither (any (eqb (key b)) (map key l)) (twice (map key l)) e in
       by_test (eqb (key b) x)
-      (λ t. let j : some b ≡ some a = rw t at i in
+      (λ t. let j : Some b ≡ Some a = rw t at i in
       let k : f b ≡ f a = cc in
       let m = ap (λ y. any (eqb y) (map key l)) (sym (eqb-true (key b) x t)) ∙ h.0 in
       let w : sum f (without x l) ≡ sum f l = ap (sum f) (whole x l m) in

@@ -8,6 +8,13 @@ use Rattle.rules_types.specs.declared.Port.{Port}
 use Rattle.rules.specs.Holds.{port}
 use Rattle.rules.specs.Ports.{pairs, odd_length, flat}
 
+-- a chunk of two numbers at a list's front is its first port
+pub pairs_chunk : (p l : List ℕ) → length p ≡ 2 → pairs (p ++ l) ≡ port (get_or p 0 0) (get_or p 1 0) ∷ pairs l
+pairs_chunk [] l e = absurd (omega arith)
+pairs_chunk (k ∷ []) l e = absurd (omega arith)
+pairs_chunk (k ∷ r ∷ []) l e = refl
+pairs_chunk (k ∷ r ∷ x ∷ p) l e = absurd (omega arith)
+
 -- the port at a place, and the rest
 pub pairs_at : (l : List ℕ) (n : ℕ) → n + 1 < length l → pairs (drop n l) ≡ port (get_or l n 0) (get_or l (n + 1) 0) ∷ pairs (drop (n + 2) l)
 pairs_at l n h =

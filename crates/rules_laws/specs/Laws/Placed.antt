@@ -1,7 +1,6 @@
 -- Plugins from the lowest place on: those held, how many places there are, and one plugin more.
-use Rattle.std.specs.Prelude.{ℕ, zero, suc, ◌≤◌, ◌<◌, ◌≡◌, refl, List, [], ◌∷◌, ◌++◌, length}
+use Rattle.std.specs.Prelude.{ℕ, zero, suc, ◌≤◌, ◌<◌, ◌≡◌, refl, List, [], ◌∷◌, ◌++◌, length, Some}
 use Rattle.std.proofs.Common.{arith, ap}
-use Rattle.std.proofs.Math.Option.{some}
 use Rattle.rules.specs.Holds.{Plugin, held}
 use Rattle.rules.specs.Outcomes.{at_lowest_free}
 use Rattle.rules.specs.Load.{placed}
@@ -20,4 +19,4 @@ length_placed (suc n) (p ∷ ps) = ap suc (length_placed n ps)
 pub placed_more : (n : ℕ) (ps : List Plugin) (p : Plugin) → length ps < n → at_lowest_free p (placed n ps) ≡ placed n (ps ++ p ∷ [])
 placed_more zero ps p h = absurd (omega arith)
 placed_more (suc n) [] p h = refl
-placed_more (suc n) (q ∷ ps) p h = ap (λ l. some q ∷ l) (placed_more n ps p (omega arith))
+placed_more (suc n) (q ∷ ps) p h = ap (λ l. Some q ∷ l) (placed_more n ps p (omega arith))

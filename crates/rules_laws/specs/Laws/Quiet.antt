@@ -1,6 +1,5 @@
 -- What is written to a lent buffer refuses, answers or writes, whatever the registry: nothing else changes.
-use Rattle.std.specs.Prelude.{ℕ, List}
-use Rattle.std.proofs.Math.Option.{Option, none, some}
+use Rattle.std.specs.Prelude.{ℕ, List, Option, Some, None}
 use Rattle.rules.specs.Holds.{Plugin, Registry, lookup}
 use Rattle.rules.specs.Outcomes.{Outcome, tells, writes, stores, adds, removes, Check, checked, known}
 use Rattle.rules.specs.Lists.{listing, list}
@@ -23,8 +22,8 @@ quiet_known : (r : Registry) (id : ℕ) (f : Plugin → Outcome) → ((p : Plugi
 quiet_known r id f h = found_elim Quiet (lookup r id) f tt (λ p _. h p)
 
 quiet_planned : (u : Option (List ℕ)) → Quiet (planned u)
-quiet_planned none = tt
-quiet_planned (some order) = tt
+quiet_planned None = tt
+quiet_planned (Some order) = tt
 
 pub writing_quiet : (r : Registry) (w : Writing) (buffer : List ℕ) → Quiet (writing r w buffer)
 unfolding list listing write_text plan_order

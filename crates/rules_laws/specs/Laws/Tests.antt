@@ -1,6 +1,5 @@
 -- Checks: what passed ones say, and what comes of a list of them.
-use Rattle.std.specs.Prelude.{◌≡◌, refl, Bool, true, false, List, [], ◌∷◌}
-use Rattle.std.proofs.Math.Option.{Option, none, some}
+use Rattle.std.specs.Prelude.{◌≡◌, refl, Bool, true, false, List, [], ◌∷◌, Option, Some, None}
 pub use Rattle.rules_basics.specs.Tests.{by_test, both, neither}
 use Rattle.rules.specs.Basics.{pick}
 use Rattle.rules.specs.Holds.{Plugin}
@@ -21,8 +20,8 @@ checked_elim P (c ∷ cs) o f g = go c.test refl (λ h. checked_elim P cs o f h)
     go true e k = f c.refusal
     go false e k = k (λ h. g (e, h))
 
-pub found_elim : (P : Outcome → Type 0) (q : Option Plugin) (f : Plugin → Outcome) → P (refuses Unknown []) → ((p : Plugin) → q ≡ some p → P (f p))
+pub found_elim : (P : Outcome → Type 0) (q : Option Plugin) (f : Plugin → Outcome) → P (refuses Unknown []) → ((p : Plugin) → q ≡ Some p → P (f p))
     → P (found q f)
 unfolding found
-found_elim P none f a b = a
-found_elim P (some p) f a b = b p refl
+found_elim P None f a b = a
+found_elim P (Some p) f a b = b p refl

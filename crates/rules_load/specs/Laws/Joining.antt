@@ -1,7 +1,6 @@
 -- Plugins before, one, and plugins behind: what ids that rise, rows and a search in the whole list say of the parts.
-use Rattle.std.specs.Prelude.{ℕ, ◌+◌, ◌≤◌, ◌<◌, ◌≡◌, refl, Bool, true, ◌&&◌, List, [], ◌∷◌, ◌++◌, eqb, ltb, leb, length}
+use Rattle.std.specs.Prelude.{ℕ, ◌+◌, ◌≤◌, ◌<◌, ◌≡◌, refl, Bool, true, ◌&&◌, List, [], ◌∷◌, ◌++◌, eqb, ltb, leb, length, Option, Some, None}
 use Rattle.std.proofs.Common.{arith, le_refl, sym, ap, ◌∙◌, inl, inr, ne_eqb, leb-true, ltb-true, ltb-false}
-use Rattle.std.proofs.Math.Option.{Option, none, some}
 use Rattle.rules.specs.Basics.{is_some, or_none}
 use Rattle.rules.specs.Limits.{max_plugins}
 use Rattle.rules.specs.Holds.{Plugin, Registry, plugins, lookup, sum_rows}
@@ -28,8 +27,8 @@ unfolding ports_fit lookup
 ports_among_lem r p = rw (parent p.parent)
   where
     parent : (v : Option ℕ) → parent_of r v ≡ parent_in (plugins r) v
-    parent none = refl
-    parent (some x) = refl
+    parent None = refl
+    parent (Some x) = refl
 
 pub ports_standing : (done : List Plugin) → length done ≤ max_plugins → (p : Plugin) → ports_join (standing done) p ≡ ports_among done p
 ports_standing done h p = ports_among_lem (standing done) p ∙ ap (λ l. ports_among l p) (standing_plugins done h)
@@ -68,7 +67,7 @@ rises_below f n (p ∷ l) m e a (inl i) =
 rises_below f n (p ∷ l) m e a (inr k) = rises_below (p.id + 1) n l m (both (leb f p.id) (ids_rise (p.id + 1) n (l ++ m)) e).1 a k
 
 -- no one behind has the id
-among_none : (l : List Plugin) (x : ℕ) → ((a : Plugin) → In a l → x ≡ a.id → ⊥) → among l x ≡ none
+among_none : (l : List Plugin) (x : ℕ) → ((a : Plugin) → In a l → x ≡ a.id → ⊥) → among l x ≡ None
 among_none [] x h = refl
 among_none (p ∷ l) x h = rw (ne_eqb p.id x (λ i. h p (inl refl) (sym i))) (among_none l x (λ a m. h a (inr m)))
 
@@ -91,7 +90,7 @@ module _ (f n : ℕ) (done : List Plugin) (p : Plugin) (rest : List Plugin) (e :
           let k = rises_above (p.id + 1) n rest w.1 a m in
           omega arith
 
-  higher_none : (x : ℕ) → p.id ≤ x → among done x ≡ none
+  higher_none : (x : ℕ) → p.id ≤ x → among done x ≡ None
   higher_none x h = among_none done x λ a m i.
       let j = rises_below f n done (p ∷ rest) e a m in
       let k = next_above in
@@ -99,13 +98,13 @@ module _ (f n : ℕ) (done : List Plugin) (p : Plugin) (rest : List Plugin) (e :
 
   -- a parent that stands before is a lower one of the text
   pub parent_before : (v : Option ℕ) → or_none (λ x. is_some (among done x)) v ≡ or_none (λ x. ltb x p.id && is_some (among (done ++ p ∷ rest) x)) v
-  parent_before none = refl
-  parent_before (some x) = by_test (ltb x p.id)
+  parent_before None = refl
+  parent_before (Some x) = by_test (ltb x p.id)
       (λ y. rw (y, lower_before x (ltb-true x p.id y)))
       (λ h. rw (h, higher_none x (ltb-false x p.id h)))
 
   -- and its list is found there
   pub list_before : (v : Option ℕ) → or_none (λ x. is_some (among done x)) v ≡ true → parent_in (done ++ p ∷ rest) v ≡ parent_in done v
-  list_before none h = refl
-  list_before (some x) h = lower_before x
-      (ltb-true x p.id (both (ltb x p.id) (is_some (among (done ++ p ∷ rest) x)) (sym (parent_before (some x)) ∙ h)).0)
+  list_before None h = refl
+  list_before (Some x) h = lower_before x
+      (ltb-true x p.id (both (ltb x p.id) (is_some (among (done ++ p ∷ rest) x)) (sym (parent_before (Some x)) ∙ h)).0)

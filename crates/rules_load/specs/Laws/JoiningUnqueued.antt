@@ -1,7 +1,6 @@
 -- A Queued root that loads as Unissued changes nothing that is asked of the ports of the next plugin.
-use Rattle.std.specs.Prelude.{ℕ, ◌≤◌, ◌≡◌, refl, List, map, length}
+use Rattle.std.specs.Prelude.{ℕ, ◌≤◌, ◌≡◌, refl, List, map, length, Option, Some, None}
 use Rattle.std.proofs.Common.{sym, ap, ◌∙◌}
-use Rattle.std.proofs.Math.Option.{Option, none, some}
 use Rattle.rules.specs.Basics.{is_some, or_none}
 use Rattle.rules.specs.Limits.{max_plugins}
 use Rattle.rules.specs.Holds.{Plugin, Registry, plugins}
@@ -15,8 +14,8 @@ ports_unqueued : (ps : List Plugin) (p : Plugin) → ports_among (map unqueued p
 ports_unqueued ps p = rw (parent p.parent, parents_unqueued ps p.parent)
   where
     parent : (v : Option ℕ) → or_none (λ x. is_some (among (map unqueued ps) x)) v ≡ or_none (λ x. is_some (among ps x)) v
-    parent none = refl
-    parent (some x) = there_unqueued ps x
+    parent None = refl
+    parent (Some x) = there_unqueued ps x
 
 -- A registry of the plugins so far, as they load, asks the same of the next one.
 pub unqueued_same : (r : Registry) (done : List Plugin) (p : Plugin) → plugins r ≡ map unqueued done → length done ≤ max_plugins

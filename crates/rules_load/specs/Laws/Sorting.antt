@@ -1,7 +1,6 @@
 -- Ids that rise: what the test says, and that the plugins by rising id are a registry's plugins.
-use Rattle.std.specs.Prelude.{ℕ, ◌+◌, ◌≤◌, ◌<◌, ◌≡◌, refl, true, false, List, [], ◌∷◌, eqb, leb, ltb, length}
+use Rattle.std.specs.Prelude.{ℕ, ◌+◌, ◌≤◌, ◌<◌, ◌≡◌, refl, true, false, List, [], ◌∷◌, eqb, leb, ltb, length, Option, Some, None}
 use Rattle.std.proofs.Common.{arith, sym, ap, ◌∙◌, inl, inr, eqb-true, ne_eqb, leb-true, le-leb}
-use Rattle.std.proofs.Math.Option.{Option, none, some}
 use Rattle.rules.specs.Basics.{any, twice}
 use Rattle.rules.specs.Holds.{Plugin, Registry, plugins, lookup, rows_of, sum_rows, rows_in_use}
 use Rattle.rules.specs.Text.{insert, by_id}
@@ -62,20 +61,20 @@ pub rises_sorted : (l : List Plugin) → Rises l → by_id l ≡ l
 rises_sorted l h = sym (by_id_only l l h (λ x. refl))
 
 -- The rows of all are the rows of each, where no id stands twice.
-rows_insert : (p : Plugin) (l : List Plugin) → among l p.id ≡ none → sum_rows (insert p l) ≡ rows_of p + sum_rows l
+rows_insert : (p : Plugin) (l : List Plugin) → among l p.id ≡ None → sum_rows (insert p l) ≡ rows_of p + sum_rows l
 unfolding insert
 rows_insert p [] e = refl
 rows_insert p (q ∷ l) e = by_test (eqb q.id p.id)
-    (λ y. let i : some q ≡ none = rw y at e in let z : ◌≡◌ {A = ℕ} 0 1 = cc in absurd (omega arith))
+    (λ y. let i : Some q ≡ None = rw y at e in let z : ◌≡◌ {A = ℕ} 0 1 = cc in absurd (omega arith))
     (λ n. let more = rows_insert p l (rw n at e) in
     by_test (ltb q.id p.id) (λ y. rw y (omega arith)) (λ m. rw (m, n)))
 
-absent : (x : ℕ) (l : List Plugin) → any (eqb x) (ids_of l) ≡ false → among l x ≡ none
+absent : (x : ℕ) (l : List Plugin) → any (eqb x) (ids_of l) ≡ false → among l x ≡ None
 absent x l e = go (among l x) refl
   where
-    go : (u : Option Plugin) → among l x ≡ u → u ≡ none
-    go none i = refl
-    go (some a) i =
+    go : (u : Option Plugin) → among l x ≡ u → u ≡ None
+    go None i = refl
+    go (Some a) i =
         let m = first_in_lem (λ (p : Plugin). eqb p.id x) l a i in
         absurd (not_among x l a e m.0 (sym (eqb-true a.id x m.1)))
 

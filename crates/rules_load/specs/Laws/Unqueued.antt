@@ -1,7 +1,6 @@
 -- Where Queued roots become Unissued, every condition that was met is met.
-use Rattle.std.specs.Prelude.{ℕ, zero, suc, ◌+◌, ◌≤◌, ◌≡◌, refl, Bool, true, not, ◌&&◌, List, [], ◌∷◌, map, eqb, ltb}
+use Rattle.std.specs.Prelude.{ℕ, zero, suc, ◌+◌, ◌≤◌, ◌≡◌, refl, Bool, true, not, ◌&&◌, List, [], ◌∷◌, map, eqb, ltb, Option, Some, None}
 use Rattle.std.proofs.Common.{sym, ap, ◌∙◌, subst, true≢false, inl, inr}
-use Rattle.std.proofs.Math.Option.{Option, none, some}
 use Rattle.std.proofs.lemmas.List.{length-map}
 use Rattle.rules_types.specs.declared.Port.{Port}
 use Rattle.rules_types.specs.declared.Root.{Root}
@@ -37,8 +36,8 @@ still f g h (p ∷ l) e = let w = both (f p) (all f l) e in rw (h p w.0, still f
 
 -- the plugin without its queue, if there is one
 abbrev pub if_unqueued : Option Plugin → Option Plugin
-if_unqueued none = none
-if_unqueued (some p) = some (unqueued p)
+if_unqueued None = None
+if_unqueued (Some p) = Some (unqueued p)
 
 pub among_unqueued : (l : List Plugin) (x : ℕ) → among (map unqueued l) x ≡ if_unqueued (among l x)
 among_unqueued [] x = refl
@@ -48,16 +47,16 @@ pub there_unqueued : (l : List Plugin) (x : ℕ) → is_some (among (map unqueue
 there_unqueued l x = rw (among_unqueued l x) (go (among l x))
   where
     go : (u : Option Plugin) → is_some (if_unqueued u) ≡ is_some u
-    go none = refl
-    go (some p) = refl
+    go None = refl
+    go (Some p) = refl
 
 pub parents_unqueued : (l : List Plugin) (v : Option ℕ) → inherited_from (parent_in (map unqueued l) v) ≡ inherited_from (parent_in l v)
-parents_unqueued l none = refl
-parents_unqueued l (some x) = rw (among_unqueued l x) (go (among l x))
+parents_unqueued l None = refl
+parents_unqueued l (Some x) = rw (among_unqueued l x) (go (among l x))
   where
     go : (u : Option Plugin) → inherited_from (if_unqueued u) ≡ inherited_from u
-    go none = refl
-    go (some p) = refl
+    go None = refl
+    go (Some p) = refl
 
 rise_unqueued : (f n : ℕ) (l : List Plugin) → ids_rise f n (map unqueued l) ≡ ids_rise f n l
 rise_unqueued f n [] = refl
@@ -75,8 +74,8 @@ lower_unqueued : (l : List Plugin) (a : Plugin) → parent_lower l a ≡ true �
 lower_unqueued l a e = go a.parent e
   where
     go : (v : Option ℕ) → or_none (λ x. ltb x a.id && is_some (among l x)) v ≡ true → or_none (λ x. ltb x a.id && is_some (among (map unqueued l) x)) v ≡ true
-    go none h = refl
-    go (some x) h = rw (there_unqueued l x) h
+    go None h = refl
+    go (Some x) h = rw (there_unqueued l x) h
 
 clean_unqueued : (a : Plugin) → idle_clean a ≡ true → idle_clean (unqueued a) ≡ true
 clean_unqueued a e = by_test (is_idle a.phase)

@@ -13,5 +13,5 @@ returns-then-not-is_of c = stranger _ _ _ (sym c.is_of.ensures ∙ c.if-not-is_o
 
 pub returns : goal.returns
 returns c =
-    let one = ap (λ (x : Slot). rules.assign (slot_of x) (identity_of c.args.child)) c.load-held.ensures in
+    let one = ap (λ (x : Slot). rules.assign (slot_of x) (identity_of c.args.child)) c.load.ensures in
     decides _ _ _ _ _ (c.assign.ensures ∙ one) c.decided.ensures

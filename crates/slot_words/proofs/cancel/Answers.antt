@@ -7,5 +7,5 @@ use Rattle.slot_words.specs.Words.{decides}
 use Rattle.slot_words.proofs.cancel.Goals as goal
 
 pub returns : goal.returns
-returns c = decides _ _ _ _ _ (c.cancel.ensures ∙ ap (λ (x : Slot). rules.cancel (slot_of x)) c.load-held.ensures)
+returns c = decides _ _ _ _ _ (c.cancel.ensures ∙ ap (λ (x : Slot). rules.cancel (slot_of x)) c.load.ensures)
     c.decided.ensures

@@ -4,4 +4,4 @@ use Rattle.slot_words.proofs.load.Goals as goal
 
 pub returns : goal.returns
 unfolding slot_at
-returns c = simp (c.generation_of-generation.ensures, c.decision_of-decision.ensures)
+returns c = simp (c.generation_of.ensures, c.decision_of.ensures)

@@ -7,5 +7,5 @@ use Rattle.slot_words.specs.Words.{decides}
 use Rattle.slot_words.proofs.reject.Goals as goal
 
 pub returns : goal.returns
-returns c = decides _ _ _ _ _ (c.reject.ensures ∙ ap (λ (x : Slot). rules.reject (slot_of x)) c.load-held.ensures)
+returns c = decides _ _ _ _ _ (c.reject.ensures ∙ ap (λ (x : Slot). rules.reject (slot_of x)) c.load.ensures)
     c.decided.ensures

@@ -1,5 +1,5 @@
 -- What laying the provisions that are left comes to, laying all of them comes to.
-use Rattle.std.proofs.Common.{ℕ, ◌-◌, ◌/◌, ◌%◌, ◌≤◌, ◌≡◌, List, length}
+use Rattle.std.proofs.Common.{ℕ, ◌%◌, ◌≤◌, ◌≡◌, List, length}
 use Rattle.memory.specs.Layout.{places}
 use Rattle.rules.specs.Basics.{last}
 use Rattle.text_lines.specs.Laid.{Laid}
@@ -11,6 +11,3 @@ invariant-loop-j l =
     (l.behind ≤ last)
     × (length l.text ≡ length l.initial.text)
     × ((v : List ℕ) (r : ℕ) → Laid (provs_from l.m (l.place % places) l.j l.words) l.behind l.text v r → Laid (provs_from l.m (l.place % places) 0 l.words) l.initial.behind l.initial.text v r)
-
-abbrev pub decreases-loop-j : goal.decreases-loop-j
-decreases-loop-j l = length l.words / 2 - l.j

@@ -1,23 +1,21 @@
--- The digits from place i on, behind the number so far, are the whole word's.
-use Rattle.std.proofs.Common.{refl, sym, ◌∙◌, arith}
+-- The digits from the index on, behind the number so far, are the whole word's.
+use Rattle.std.proofs.Common.{sym, ◌∙◌, arith, ⊎_elim}
 use Rattle.text_form.specs.Reading.{value_end, value_low, value_high, value_over, value_next}
 use Rattle.text_decimal.proofs.read_digits.Goals as goal
 
-pub loop-i-init : goal.loop-i-init
-loop-i-init c = refl
-
-pub returns-then-b-lt48 : goal.returns-then-b-lt48
-returns-then-b-lt48 c = sym (c.loop-i.invariant ∙ value_low c.args.word.now c.loop-i.i c.loop-i.n (omega arith) c.if-b-lt48.true)
-
-pub returns-then-b-gt57 : goal.returns-then-b-gt57
-returns-then-b-gt57 c = sym (c.loop-i.invariant ∙ value_high c.args.word.now c.loop-i.i c.loop-i.n (omega arith) c.if-b-gt57.true)
+pub returns-then-not-is_ascii_digit : goal.returns-then-not-is_ascii_digit
+returns-then-not-is_ascii_digit c =
+    let l = c.loop-byte in
+    let none_of = ⊎_elim (value_low c.args.word.now l.byte-index l.n (omega arith)) (value_high c.args.word.now l.byte-index l.n (omega arith)) in
+    sym (l.invariant ∙ none_of c.if-not-is_ascii_digit.ensures.cases)
 
 pub returns-then-digit-n : goal.returns-then-digit-n
-returns-then-digit-n c = sym (c.loop-i.invariant ∙ value_over c.args.word.now c.loop-i.i c.loop-i.n (omega arith) (omega arith))
+returns-then-digit-n c = sym (c.loop-byte.invariant ∙ value_over c.args.word.now c.loop-byte.byte-index c.loop-byte.n (omega arith) (omega arith))
 
-pub loop-i-preserved : goal.loop-i-preserved
-loop-i-preserved c =
-    c.loop-i.invariant ∙ value_next c.args.word.now c.loop-i.i c.loop-i.n (omega arith) (omega arith) (omega arith) (omega arith)
+pub loop-byte-preserved : goal.loop-byte-preserved
+loop-byte-preserved c =
+    let digit = c.if-not-is_ascii_digit.ensures.cases in
+    c.loop-byte.invariant ∙ value_next c.args.word.now c.loop-byte.byte-index c.loop-byte.n (omega arith) digit.0 digit.1 (omega arith)
 
 pub returns : goal.returns
-returns c = sym (c.loop-i.invariant ∙ value_end c.args.word.now c.loop-i.i c.loop-i.n (omega arith))
+returns c = sym (c.loop-byte.invariant ∙ value_end c.args.word.now c.loop-byte.byte-index c.loop-byte.n (omega arith))

@@ -3,6 +3,6 @@ use Rattle.std.proofs.Common.{arith, []}
 use Rattle.text_length.proofs.Laws.{number_length}
 use Rattle.text_length.proofs.number_or_none.Goals as goal
 
-pub returns-in-Is : goal.returns-in-Is
-returns-in-Is c =
-    rw c.in-Is.is (omega (arith, number_length [] c.in-Is.n), omega arith)
+pub returns-in-Some : goal.returns-in-Some
+returns-in-Some c =
+    rw c.in-Some.is (omega (arith, number_length [] c.in-Some.n), omega arith)

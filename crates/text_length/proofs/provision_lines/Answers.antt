@@ -9,7 +9,7 @@ pub loop-j-init : goal.loop-j-init
 loop-j-init c =
     let w = c.provision_words-words in
     let a = c.args in
-    (omega arith, omega arith, omega (arith, provisions_start a.m.now (a.place % places) w.ensures))
+    (omega arith, omega (arith, provisions_start a.m.now (a.place % places) w.ensures))
 
 pub overflow_add-total-in-loop-j : goal.overflow_add-total-in-loop-j
 overflow_add-total-in-loop-j c =
@@ -22,7 +22,7 @@ loop-j-preserved c =
     let l = c.loop-j in
     let w = c.provision_words-words in
     let a = c.args in
-    (omega arith, omega arith, omega (arith, provisions_next a.m.now (a.place % places) l.j w.ensures (omega arith)))
+    (omega arith, omega (arith, provisions_next a.m.now (a.place % places) l.j w.ensures (omega arith)))
 
 pub returns : goal.returns
 returns c =

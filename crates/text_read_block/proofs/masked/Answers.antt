@@ -1,5 +1,5 @@
 -- A bit of the first 15 is never cut off.
-use Rattle.std.proofs.Common.{arith, ℕ, ◌*◌, ◌%◌, ◌^◌, ◌<◌, ◌≡◌, lt-ltb, le-ltb, eq-eqb, ne_eqb}
+use Rattle.std.proofs.Common.{arith, ℕ, ◌*◌, ◌%◌, ◌^◌, ◌<◌, ◌≡◌, lt-ltb, le-ltb}
 use lib.Pow.{pow-lt}
 use Rattle.rules.specs.Limits.{max_provision_keys}
 use Rattle.text_read_block.specs.Lists.{mask_with}
@@ -11,23 +11,20 @@ below i h = pow-lt h
 whole : (i : ℕ) → i < 15 → (1 * 2 ^ i) % 2 ^ 64 ≡ 2 ^ i
 whole i h = let p = below i h in omega arith
 
-pub returns-then-absent : goal.returns-then-absent
+pub returns-then-valued : goal.returns-then-valued
 unfolding mask_with
-returns-then-absent c =
+returns-then-valued c =
     let a = c.args in
-    rw (lt-ltb a.i max_provision_keys c.if-i.true, eq-eqb a.tag 0 c.if-absent.true)
+    rw (whole a.i c.if-i.true, lt-ltb a.i max_provision_keys c.if-i.true, c.if-valued.true)
 
-pub overflow_add-result : goal.overflow_add-result
-overflow_add-result c = let a = c.args in omega (arith, c.requires, below a.i (omega arith))
-
-pub returns-then-i : goal.returns-then-i
+pub returns-else-valued : goal.returns-else-valued
 unfolding mask_with
-returns-then-i c =
+returns-else-valued c =
     let a = c.args in
-    rw (whole a.i c.if-i.true, lt-ltb a.i max_provision_keys c.if-i.true, ne_eqb a.tag 0 c.if-absent.false)
+    rw (lt-ltb a.i max_provision_keys c.if-i.true, c.if-valued.false)
 
-pub returns : goal.returns
+pub returns-else-i : goal.returns-else-i
 unfolding mask_with
-returns c =
+returns-else-i c =
     let a = c.args in
     rw (le-ltb a.i max_provision_keys c.if-i.false)

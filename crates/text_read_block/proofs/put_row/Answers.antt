@@ -1,10 +1,7 @@
 -- The two stores, or none.
-use Rattle.std.proofs.Common.{arith, ◌/◌, length, length-set, lt-ltb, le-ltb}
+use Rattle.std.proofs.Common.{arith, ◌/◌, length, lt-ltb, le-ltb}
 use Rattle.text_read_block.specs.Rows.{row_put}
 use Rattle.text_read_block.proofs.put_row.Goals as goal
-
-pub bounds-into-i-then-i-into : goal.bounds-into-i-then-i-into
-bounds-into-i-then-i-into c = simp length-set (omega arith)
 
 pub returns-then-i-into : goal.returns-then-i-into
 unfolding row_put

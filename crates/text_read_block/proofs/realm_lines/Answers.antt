@@ -5,4 +5,5 @@ use Rattle.text_read_block.proofs.realm_lines.Goals as goal
 pub returns : goal.returns
 returns c =
     let a = c.args in
-    realms_read a.text.now a.at a.into.now _ _ _ _ c.edition_lines-first.ensures c.put_row.ensures c.ports.ensures
+    realms_read a.text.now a.at a.into.now _ _ _ c.in_ok-edition.ensures (rw (c.new.ensures, c.number.ensures, c.default.ensures) at c.put_row.ensures)
+    c.ports.ensures

@@ -1,75 +1,41 @@
 -- The digits from place i on, behind the number so far, are those from the first place on.
-use Rattle.std.proofs.Common.{◌-◌, refl, ◌∙◌, get_or, arith}
-use Rattle.text_read_number.specs.declared.Next.TheVariants.{At}
+use Rattle.std.proofs.Common.{◌-◌, ◌∙◌, get_or, arith}
 use Rattle.text_read_number.specs.Numbers.{stop_at, value_to}
 use Rattle.text_read_number.specs.Reads.{reads_torn}
-use Rattle.text_read_number.proofs.Laws.{value_end, value_low, value_high, value_over, value_next, past, not_past, number_from}
+use Rattle.text_read_number.proofs.Laws.{outside, value_end, value_stops, value_over, value_next, past, not_past, number_from}
 use Rattle.text_read_number.proofs.digits.Goals as goal
 
-pub loop-i-init : goal.loop-i-init
-loop-i-init c = (omega arith, refl)
-
-pub returns-then-byte-lt48 : goal.returns-then-byte-lt48
-returns-then-byte-lt48 c =
+pub returns-then-not-is_ascii_digit : goal.returns-then-not-is_ascii_digit
+returns-then-not-is_ascii_digit c =
     let t = c.args.text.now in
     let stop = c.args.stop in
-    let from = c.args.from in
     let i = c.loop-i.i in
     let n = c.loop-i.n in
-    number_from (stop_at stop n) (value_to stop c.args.value) t i from (At from) _ c.ended.ensures refl (omega arith) (omega arith)
-    (c.loop-i.invariant.1 ∙ value_low stop t i n (omega arith) c.if-byte-lt48.true)
-
-pub returns-then-byte-gt57 : goal.returns-then-byte-gt57
-returns-then-byte-gt57 c =
-    let t = c.args.text.now in
-    let stop = c.args.stop in
-    let from = c.args.from in
-    let i = c.loop-i.i in
-    let n = c.loop-i.n in
-    number_from (stop_at stop n) (value_to stop c.args.value) t i from (At from) _ c.ended-then-byte-gt57.ensures refl (omega arith) (omega arith)
-    (c.loop-i.invariant.1 ∙ value_high stop t i n (omega arith) c.if-byte-gt57.true)
+    number_from (stop_at stop n) (value_to stop c.args.value) t i c.args.from c.ended.ensures (omega arith) c.requires.inside
+    (c.loop-i.invariant ∙ value_stops stop t i n (omega arith) (outside (get_or t i 0) c.if-not-is_ascii_digit.ensures.cases))
 
 pub returns-then-is_past : goal.returns-then-is_past
 returns-then-is_past c =
     let t = c.args.text.now in
-    let stop = c.args.stop in
-    let from = c.args.from in
     let i = c.loop-i.i in
     let n = c.loop-i.n in
-    let over = value_over stop t i n (omega arith) c.if-byte-lt48.false c.if-byte-gt57.false c.requires.stops
+    let digit = c.if-not-is_ascii_digit.ensures.cases in
+    let over = value_over c.args.stop t i n (omega arith) digit.0 digit.1 c.requires.stops
     (omega (arith, past n (get_or t i 0 - 48) c.is_past.ensures c.if-is_past.true)) in
-    record { reads = reads_torn (value_to stop c.args.value) t (At from) 0 from refl (omega arith) (c.loop-i.invariant.1 ∙ over); one = refl }
-
-pub overflow_mul-n : goal.overflow_mul-n
-overflow_mul-n c =
-    let i = c.loop-i.i in
-    let t = c.args.text.now in
-    record { fits = omega (arith, not_past c.loop-i.n (get_or t i 0 - 48) c.is_past.ensures c.if-is_past.false) }
-
-pub overflow_add-n : goal.overflow_add-n
-overflow_add-n c =
-    let i = c.loop-i.i in
-    let t = c.args.text.now in
-    record { fits = omega (arith, not_past c.loop-i.n (get_or t i 0 - 48) c.is_past.ensures c.if-is_past.false) }
+    reads_torn (value_to c.args.stop c.args.value) t c.args.from c.requires.inside (c.loop-i.invariant ∙ over)
 
 pub loop-i-preserved : goal.loop-i-preserved
 loop-i-preserved c =
     let t = c.args.text.now in
-    let stop = c.args.stop in
     let i = c.loop-i.i in
-    let n = c.loop-i.n in (
-      omega arith,
-      c.loop-i.invariant.1
-          ∙ value_next stop t i n (omega arith) c.if-byte-lt48.false c.if-byte-gt57.false c.requires.stops
-          (omega (arith, not_past n (get_or t i 0 - 48) c.is_past.ensures c.if-is_past.false)),
-    )
+    let n = c.loop-i.n in
+    let digit = c.if-not-is_ascii_digit.ensures.cases in
+    c.loop-i.invariant
+    ∙ value_next c.args.stop t i n (omega arith) digit.0 digit.1 c.requires.stops
+    (omega (arith, not_past n (get_or t i 0 - 48) c.is_past.ensures c.if-is_past.false))
 
 pub returns : goal.returns
 returns c =
     let t = c.args.text.now in
-    let stop = c.args.stop in
-    let from = c.args.from in
-    let i = c.loop-i.i in
-    let n = c.loop-i.n in
-    let over = value_end stop t i n (omega arith) in
-    record { reads = reads_torn (value_to stop c.args.value) t (At from) 0 from refl (omega arith) (c.loop-i.invariant.1 ∙ over); one = refl }
+    reads_torn (value_to c.args.stop c.args.value) t c.args.from c.requires.inside
+    (c.loop-i.invariant ∙ value_end c.args.stop t c.loop-i.i c.loop-i.n (omega arith))

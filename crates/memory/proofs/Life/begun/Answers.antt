@@ -2,4 +2,4 @@
 use Rattle.memory.proofs.Life.begun.Goals as goal
 
 pub returns : goal.returns
-returns c = simp (c.changed.ensures, c.next.ensures)
+returns c = simp c.next.ensures

@@ -1,7 +1,0 @@
--- `bad` meets its contract: byte 10 stands behind the word.
-use Rattle.std.proofs.Common.{ap, ◌∙◌}
-use Rattle.console_line.specs.Lines.{line_end}
-use Rattle.console_line.proofs.bad.Goals as goal
-
-pub returns : goal.returns
-returns c = c.end.ensures ∙ ap line_end c.put.ensures

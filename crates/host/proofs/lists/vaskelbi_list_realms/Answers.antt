@@ -1,9 +1,0 @@
--- `vaskelbi_list_realms` meets its contract. Assumes nothing.
-use Rattle.host.specs.Tells.{heard}
-use Rattle.host.proofs.lists.vaskelbi_list_realms.Goals as goal
-
-pub returns : goal.returns
-returns c = (
-  heard _ _ _ _ _ c.list_realms.ensures.0 c.number.ensures,
-  c.list_realms.ensures.1,
-)
