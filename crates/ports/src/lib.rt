@@ -10,11 +10,11 @@ ghost use Rattle.ports.specs.Answers.{first_from};
 
 use rules::Port;
 
-// Whether a port is in the list.
+// Whether a port is in the list. From the last to the first: a loop that counts down to 0 is a step less a turn.
 pub fn has_port(ports: &[u64], port: Port) -> bool
     ensures { result ≡ is_in port (pairs ports.now) }
 {
-    for pair in ports.chunks_exact(2) {
+    for pair in ports[..ports.len() / 2 * 2].rchunks_exact(2) {
         if pair[0] == port.key && pair[1] == port.realm {
             return true;
         }
@@ -22,11 +22,16 @@ pub fn has_port(ports: &[u64], port: Port) -> bool
     false
 }
 
-// Whether a number is among these: a key, or an id.
+// Whether a number is among these: a key, or an id. From the last to the first: an order's check looks for the id right before.
 pub fn has_number(numbers: &[u64], n: u64) -> bool
     ensures { result ≡ any (eqb n) numbers.now }
 {
-    numbers.contains(&n)
+    for i in (0..numbers.len()).rev() {
+        if numbers[i] == n {
+            return true;
+        }
+    }
+    false
 }
 
 // The port of a row of the list, and (0, 0) past its end.
