@@ -1,12 +1,16 @@
 -- Lists stored word by word, and the writer's steps.
 use Prim.Native.Nat.{ℕ, zero, suc, ◌+◌, ◌-◌, ◌*◌, ◌<◌, ◌≤◌, min}
 use native.Mathlib.Omega.{arith}
+use native.Mathlib.Nat.{zero-add}
+use native.Mathlib.Numerals.{add-one}
 use mathlib.Core.Path.{◌≡◌, refl, sym, ap, ◌∙◌}
 use mathlib.Core.List.{List, [], ◌∷◌, ◌++◌, append-nil}
-use lib.ListN.{length, take, set, drop, length-drop, drop_of_length-le}
-use lib.Seq.{take_all}
+use lib.ListN.{length, get_or, take, set, drop, length-drop, drop_of_length-le}
+use lib.Seq.{drop-cons, take_all}
 use borrow.Rule.Slice.PartMut.{mid_of, put_mid}
-use borrow.Author.Tests.{le-leb, lt-leb}
+use lib.Dec.{leb}
+use borrow.Author.Tests.{le-leb, lt-leb, leb-true, leb-false}
+use Rattle.rules_laws.specs.Laws.Tests.{by_test}
 use Rattle.rules.specs.Limits.{max_rows, max_dependencies}
 use Rattle.memory.specs.Layout.{row_word, place_words, next_word, id_word, edition_word, row_words}
 use Rattle.memory.specs.Writes.{puts}
@@ -25,6 +29,22 @@ puts_past [] m b k h = refl
 puts_past (v ∷ vs) m b k h =
     let e = set_past m (b + k) v h in
     rw e (puts_past vs m b (k + 1) (omega arith))
+
+-- the loop that stores a list at the front
+pub puts_next : (m ws : List ℕ) (k : ℕ) → k < length ws → puts m 0 k (drop k ws) ≡ puts (set m k (get_or ws k 0)) 0 (k + 1) (drop (k + 1) ws)
+puts_next m ws k h =
+    ap (λ l. puts m 0 k l) (drop-cons ws k 0 h)
+    ∙ ap (λ i. puts (set m i (get_or ws k 0)) 0 (k + 1) (drop (suc k) ws)) (zero-add k)
+    ∙ ap (λ n. puts (set m k (get_or ws k 0)) 0 (k + 1) (drop n ws)) (sym (add-one k))
+
+puts_end : (m ws : List ℕ) (k : ℕ) → length ws ≤ k → puts m 0 k (drop k ws) ≡ m
+puts_end m ws k h = rw (drop_of_length-le ws h)
+
+-- where all are stored, or there is no room for more
+pub puts_full : (m ws : List ℕ) (k : ℕ) → min (length ws) (length m) ≤ k → puts m 0 k (drop k ws) ≡ m
+puts_full m ws k h = by_test (leb (length ws) k)
+    (λ y. puts_end m ws k (leb-true _ _ y))
+    (λ n. puts_past (drop k ws) m 0 k (omega (arith, leb-false (length ws) k n)))
 
 -- numbers stored in the tail from p on, in its place in the whole
 puts_cons : (vs m : List ℕ) (x p k : ℕ) → puts (x ∷ m) (suc p) k vs ≡ x ∷ puts m p k vs
@@ -53,14 +73,6 @@ puts_later (v ∷ vs) m a k j =
     ap (λ i. puts (set m i v) (a + k) (j + 1) vs) e
     ∙ puts_later vs (set m (a + (k + j)) v) a k (j + 1)
     ∙ ap (λ n. puts (set m (a + (k + j)) v) a n vs) f
-
--- as many numbers as there is room for, copied to the front
-pub puts_copied : (ws m : List ℕ) (n : ℕ) → n ≡ min (length ws) (length m) → take n ws ++ drop n m ≡ puts m 0 0 ws
-puts_copied [] m n e = let z : n ≡ 0 = omega arith in rw z
-puts_copied (w ∷ ws) [] n e = let z : n ≡ 0 = omega arith in rw z (sym (puts_past (w ∷ ws) [] 0 0 (omega arith)))
-puts_copied (w ∷ ws) (x ∷ m) n e =
-    let s : n ≡ suc (min (length ws) (length m)) = omega arith in
-    rw s (ap (λ l. w ∷ l) (puts_copied ws m _ refl) ∙ sym (puts_cons ws m w 0 0) ∙ puts_later ws (w ∷ m) 0 1 0)
 
 pub puts_led : (m rows : List ℕ) (b v w : ℕ)
     → puts (set (set m (b + edition_word) v) (b + (edition_word + 1)) w) (b + (edition_word + 2)) 0 rows ≡ puts m (b + edition_word) 0 (v ∷ w ∷ rows)

@@ -29,12 +29,15 @@ pub struct Entry {
     pub next: u64,
 }
 
-// Numbers to the front of a lent part; what has no room there is left out.
+// Numbers to the front of a lent part; what has no room there is left out. A loop, for `copy_from_slice` would make the archive need
+// `memmove`.
 fn put_front(out: &mut [u64], words: &[u64])
     ensures { out.new ≡ puts out.old 0 0 words.now }
 {
     let count = words.len().min(out.len());
-    out[..count].copy_from_slice(&words[..count]);
+    for k in 0..count {
+        out[k] = words[k];
+    }
 }
 
 // Numbers from a word on: the tail is lent, so that no word asks for its room.

@@ -29,12 +29,15 @@ fn put_byte(text: &mut [u8], at: usize, byte: u8) -> usize
     behind(at, 1)
 }
 
-// All of the bytes, where each has a place. Their count is known where a name is put, so that the compiler stores it whole.
+// All of the bytes, where each has a place. Their count is known where a name is put, so that the compiler stores it whole. A loop, for
+// `copy_from_slice` would make the archive need `memmove`.
 fn put_whole(text: &mut [u8], at: usize, bytes: &[u8])
     requires { at + length bytes.now ≤ length text.old }
     ensures { text.new ≡ laid text.old at bytes.now }
 {
-    text[at..at + bytes.len()].copy_from_slice(bytes);
+    for i in 0..bytes.len() {
+        text[at + i] = bytes[i];
+    }
 }
 
 // Each of the bytes that has a place.
