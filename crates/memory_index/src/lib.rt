@@ -5,15 +5,17 @@
 ghost use Rattle.std.specs.Prelude.{◌≡◌, ◌<◌, ◌^◌};
 ghost use Rattle.rules.specs.Ports.{pairs};
 ghost use Rattle.memory.specs.Layout.{places};
-ghost use Rattle.memory_providers.specs.Providers.{provider_at};
-ghost use Rattle.memory_index.specs.Index.{remainders, word_for, noted, index_of};
-ghost use Rattle.memory_index.specs.Indexed.{Indexed};
+ghost use Rattle.memory_index.specs.Index.{remainders, word_for, noted, index_of, provider_by};
 
 use memory::WORDS;
 use memory::layout::PLACES;
 use rules::Port;
 
-const REMAINDERS: usize = 64;
+mod lookup;
+
+pub use lookup::Index;
+
+pub const REMAINDERS: usize = 64;
 
 // The word of a key: its remainder, with that of its quotient, so that keys a power of 2 apart do not share one.
 fn word_for(key: u64) -> usize
@@ -34,6 +36,19 @@ fn note(index: &mut [u32; REMAINDERS], place: usize, ports: &[u64])
     }
 }
 
+// The words of an index of all places that are taken.
+pub fn index(memory: &[u64; WORDS]) -> [u32; REMAINDERS]
+    ensures { result ≡ index_of memory.now }
+{
+    let mut words = [0u32; REMAINDERS];
+    for i in 0..PLACES {
+        if memory::is_taken(memory, i) {
+            note(&mut words, i, memory_providers::offered_words(memory, i));
+        }
+    }
+    words
+}
+
 // What the type of a word says of it, for a proof. It compiles to nothing.
 fn bounded(word: u32) -> u32
     ensures { (result ≡ word) × (result < 2 ^ 32) }
@@ -41,40 +56,17 @@ fn bounded(word: u32) -> u32
     word
 }
 
-// An index of a memory's taken places. What a lookup finds by it is what a search of all places finds.
-#[derive(Clone, Copy)]
-pub struct Index<'a> {
-    pub memory: &'a [u64; WORDS],
-    words: [u32; REMAINDERS],
-    ghost finds: { Indexed memory.now words },
-}
-
-impl<'a> Index<'a> {
-    pub fn new(memory: &'a [u64; WORDS]) -> Index<'a>
-        ensures memory { result.memory.now ≡ memory.now }
-        ensures words { result.words ≡ index_of memory.now }
-    {
-        let mut words = [0u32; REMAINDERS];
-        for i in 0..PLACES {
-            if memory::is_taken(memory, i) {
-                note(&mut words, i, memory_providers::offered_words(memory, i));
-            }
+// The first of the places that an index's words have for the key whose plugin provides the port, whatever index that is.
+pub fn provider_by(memory: &[u64; WORDS], index: &[u32; REMAINDERS], port: Port) -> Option<usize>
+    ensures { result ≡ provider_by memory.now index.now port }
+{
+    let mut left = bounded(index[word_for(port.key)]);
+    while left != 0 {
+        let i = u32::trailing_zeros(left) as usize;
+        if memory_providers::provides(memory, i, port) {
+            return Some(i);
         }
-        Index { memory, words }
+        left = left & (left - 1);
     }
-
-    // The place of the port's provider: the first of those that the index has for the key whose plugin provides it.
-    pub fn provider(&self, port: Port) -> Option<usize>
-        ensures { result ≡ provider_at self.now.memory.now port }
-    {
-        let mut left = bounded(self.words[word_for(port.key)]);
-        while left != 0 {
-            let i = u32::trailing_zeros(left) as usize;
-            if memory_providers::provides(self.memory, i, port) {
-                return Some(i);
-            }
-            left = left & (left - 1);
-        }
-        None
-    }
+    None
 }

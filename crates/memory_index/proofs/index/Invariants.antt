@@ -2,7 +2,7 @@
 use Rattle.std.proofs.Common.{◌-◌, ◌≡◌}
 use Rattle.memory.specs.Layout.{places}
 use Rattle.memory_index.specs.Index.{index_from, index_of}
-use Rattle.memory_index.proofs.Index.new.Given as goal
+use Rattle.memory_index.proofs.index.Given as goal
 
 abbrev pub invariant-loop-i : goal.invariant-loop-i
 invariant-loop-i l =

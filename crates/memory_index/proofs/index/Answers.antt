@@ -1,10 +1,9 @@
 -- `index` meets its contract: the places from i on, noted in the index so far, give the whole.
 use Rattle.std.proofs.Common.{refl, sym, ◌∙◌}
 use Rattle.memory_index.specs.Index.{index_of}
-use Rattle.memory_index.specs.Indexed.{index_finds}
 use Rattle.memory_index.proofs.Laws.{index_taken, index_free, index_end}
-use Rattle.memory_index.proofs.Index.new.Goals as goal
-use Rattle.memory_index.proofs.Index.new.Goals.{then-is_taken, else-is_taken}
+use Rattle.memory_index.proofs.index.Goals as goal
+use Rattle.memory_index.proofs.index.Goals.{then-is_taken, else-is_taken}
 
 pub loop-i-init : goal.loop-i-init
 unfolding index_of
@@ -19,9 +18,5 @@ loop-i-preserved c =
       | else-is_taken w ↦ index_free _ _ _ l (sym k ∙ w.if-is_taken.false) w.words-is
     ])
 
-pub invariant_of-result : goal.invariant_of-result
-invariant_of-result c =
-    record { finds = index_finds c.args.memory.now _ c.told-memory (sym (c.loop-i.invariant ∙ index_end _ _ _ c.loop-i-test.false)) }
-
-pub returns-clause-words : goal.returns-clause-words
-returns-clause-words c = sym (c.loop-i.invariant ∙ index_end _ _ _ c.loop-i-test.false)
+pub returns : goal.returns
+returns c = sym (c.loop-i.invariant ∙ index_end _ _ _ c.loop-i-test.false)
