@@ -1,3 +1,4 @@
+pub mod Numbers
 pub mod Lives
 pub mod Blocks
 pub mod Joins

@@ -28,7 +28,7 @@ use Rattle.text_form.specs.Forms.{Read, found, torn, and_then, read_many}
 use Rattle.text_form.proofs.Forms.{torn_found, many_exact}
 use Rattle.rules.proofs.Text.{block_lawful}
 use Rattle.text_read_number.specs.Reads.{read_from, read_at, Reads}
-use Rattle.text_read.specs.Lists.{many_none, many_more, many_torn, many_left}
+use Rattle.text_read.specs.Lists.{many_none, many_more, line_torn, many_left}
 use Rattle.registry_block.specs.declared.Joined.{Joined}
 use Rattle.registry_load.specs.Joined.{fits, fits_passes, unfit_refused}
 
@@ -96,7 +96,7 @@ module _ (t : List ℕ) (at domain first next : ℕ) where
 
     pub plugins_stop : Apart t place w from next rows → Unfit t at count first next
     plugins_stop (torn_block x) s rest a b e =
-        let none = many_torn block k f.reads count h x in
+        let none = line_torn block k f.reads count h x in
         torn_found s.plugins rest (none.said ∙ e)
     plugins_stop (unfit_block p n x u) s rest a b e =
         let left = many_left block (k + 1) (many_more block k f.reads x) count (omega arith) in

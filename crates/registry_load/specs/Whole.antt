@@ -98,10 +98,10 @@ module _ (t : List ℕ) (h : Header) (x : HeaderStands t h) where
       ≡ and_then (and_then (read_from (read_many block h.count) t at) (λ ps r. found ((h.domain, (h.first, h.next)), ps) r))
       (λ a r. found (to_said a) r)
   text_left =
-      from_then (header then with_count block).read (λ a r. found (to_said a) r) t 0
+      from_then (header then with_count block).read (λ a r. found (to_said a) r) t (Some 0)
       ∙ ap (λ z. and_then z (λ a r. found (to_said a) r))
       (read_on header.read (λ a r. and_then ((with_count block).read r) (λ b s. found (a, b) s)) t head
-      ∙ from_then (with_count block).read (λ b s. found ((h.domain, (h.first, h.next)), b) s) t x.next_end
+      ∙ from_then (with_count block).read (λ b s. found ((h.domain, (h.first, h.next)), b) s) t (Some x.next_end)
       ∙ ap (λ z. and_then z (λ b s. found ((h.domain, (h.first, h.next)), b) s))
       (read_on (line "plugins" number).read (λ k r. read_many block k r) t x.count_read))
 

@@ -15,7 +15,7 @@ ghost use Rattle.registry_load.specs.Whole.{HeaderRead, TextRead};
 ghost use Rattle.registry_load.specs.Words.{Opens};
 
 use memory::WORDS;
-use registry_block::Joined;
+use registry_block::{Joined, Numbers};
 use rules::{Refusal, limits};
 use text_read_block::Lists;
 
@@ -58,8 +58,16 @@ fn join(
     ensures { JoinRead text.now so_far.next w.old place so_far.from next so_far.rows result w.new }
 {
     rooms(lists);
-    let b = text_read_block::read_block(text, so_far.next, lists)?;
-    registry_block::join(w, &b, lists, place, so_far.rows, so_far.from, next)
+    let b = text_read_block::read_block(text, Some(so_far.next), lists)?;
+    registry_block::join(
+        w,
+        &Numbers::of(&b),
+        lists,
+        place,
+        so_far.rows,
+        so_far.from,
+        next,
+    )
 }
 
 // So many blocks, from a place on: the place behind them.
@@ -92,10 +100,10 @@ fn plugins(
 fn read_header(text: &[u8]) -> Option<Header>
     ensures { HeaderRead text.now result }
 {
-    let (domain, at) = text_read::number_line(text, 0, b"domain=")?;
-    let (first, at) = text_read::number_line(text, at, b"first=")?;
-    let (next, at) = text_read::number_line(text, at, b"next=")?;
-    let (count, behind) = text_read::number_line(text, at, b"plugins=")?;
+    let (domain, at) = text_read::number_line(text, Some(0), b"domain=")?;
+    let (first, at) = text_read::number_line(text, Some(at), b"first=")?;
+    let (next, at) = text_read::number_line(text, Some(at), b"next=")?;
+    let (count, behind) = text_read::number_line(text, Some(at), b"plugins=")?;
     Some(Header {
         domain,
         first,

@@ -1,5 +1,5 @@
 -- A form whose values are some of another's, each by the same bytes: it is read where the other reads one of those. Assumes nothing.
-use Rattle.std.specs.Prelude.{Some, None}
+use Rattle.std.specs.Prelude.{Option, Some, None}
 use Prim.Native.Nat.{ℕ, ◌≤◌, ◌<◌}
 use native.Mathlib.Omega.{arith}
 use mathlib.Core.Path.{◌≡◌, refl, sym, ap, ◌∙◌}
@@ -19,7 +19,7 @@ use Rattle.text_form.specs.Forms.{Read, found, torn, Form, Lawful}
 use Rattle.text_form.proofs.Forms.{torn_found}
 use Rattle.text_form.proofs.Lines.{line_lawful, number_lawful}
 use Rattle.rules.proofs.Text.Values.{phase_lawful, zero_or_one_lawful}
-use Rattle.text_read_number.specs.Reads.{Reads}
+use Rattle.text_read_number.specs.Reads.{ReadsFrom}
 
 module _ {A B : Type 0} (f : Form A) (g : Form B) (k : Lawful f) (l : Lawful g) (code : A → B)
     (same : (a : A) → f.write a ≡ g.write (code a)) (fit : (a : A) → f.Fits a × g.Fits (code a)) where
@@ -52,14 +52,17 @@ module _ {A B : Type 0} (f : Form A) (g : Form B) (k : Lawful f) (l : Lawful g) 
   pick_other false s b rest n e = sym (none_found s (λ a r h. n a (cc)))
 
   -- One of the values, another, and nothing.
-  pub fewer_next : {t : List ℕ} {at : ℕ} {a : A} {n : ℕ} → Reads g.read t at (Some (code a, n)) → Reads f.read t at (Some (a, n))
-  fewer_next {t} {at} {a} {n} x = record { said = pick_one (ltb (length t) at) (drop at t) a (drop n t) x.said; fits = x.fits }
+  pub fewer_next : {t : List ℕ} {at : Option ℕ} {a : A} {n : ℕ} → ReadsFrom g.read t at (Some (code a, n)) → ReadsFrom f.read t at (Some (a, n))
+  fewer_next {t} {at = Some at} {a} {n} x = record { said = pick_one (ltb (length t) at) (drop at t) a (drop n t) x.said; fits = x.fits }
+  fewer_next {t} {at = None} {a} {n} x = torn_found (code a) (drop n t) (sym x.said)
 
-  pub fewer_torn : {t : List ℕ} {at : ℕ} → Reads g.read t at None → Reads f.read t at None
-  fewer_torn {t} {at} x = record { said = pick_torn (ltb (length t) at) (drop at t) x.said; fits = tt }
+  pub fewer_torn : {t : List ℕ} {at : Option ℕ} → ReadsFrom g.read t at None → ReadsFrom f.read t at None
+  fewer_torn {t} {at = Some at} x = record { said = pick_torn (ltb (length t) at) (drop at t) x.said; fits = tt }
+  fewer_torn {at = None} x = record { said = refl; fits = tt }
 
-  pub fewer_other : {t : List ℕ} {at : ℕ} {b : B} {n : ℕ} → ((a : A) → code a ≡ b → ⊥) → Reads g.read t at (Some (b, n)) → Reads f.read t at None
-  fewer_other {t} {at} {b} {n} o x = record { said = pick_other (ltb (length t) at) (drop at t) b (drop n t) o x.said; fits = tt }
+  pub fewer_other : {t : List ℕ} {at : Option ℕ} {b : B} {n : ℕ} → ((a : A) → code a ≡ b → ⊥) → ReadsFrom g.read t at (Some (b, n)) → ReadsFrom f.read t at None
+  fewer_other {t} {at = Some at} {b} {n} o x = record { said = pick_other (ltb (length t) at) (drop at t) b (drop n t) o x.said; fits = tt }
+  fewer_other {at = None} o x = record { said = refl; fits = tt }
 
 -- 0 to 3 are the phases.
 phase_digit : (p : Phase) → (line "phase" phase).write p ≡ (line "phase" number).write (phase_number p)
@@ -84,14 +87,14 @@ phases = line_lawful "phase" phase_lawful
 numbers : Lawful (line "phase" number)
 numbers = line_lawful "phase" number_lawful
 
-module _ {t : List ℕ} {at : ℕ} where
-  pub phase_next : (p : Phase) {n : ℕ} → Reads (line "phase" number).read t at (Some (phase_number p, n)) → Reads (line "phase" phase).read t at (Some (p, n))
+module _ {t : List ℕ} {at : Option ℕ} where
+  pub phase_next : (p : Phase) {n : ℕ} → ReadsFrom (line "phase" number).read t at (Some (phase_number p, n)) → ReadsFrom (line "phase" phase).read t at (Some (p, n))
   phase_next p x = fewer_next (line "phase" phase) (line "phase" number) phases numbers phase_number phase_digit phase_fits x
 
-  pub phase_torn : Reads (line "phase" number).read t at None → Reads (line "phase" phase).read t at None
+  pub phase_torn : ReadsFrom (line "phase" number).read t at None → ReadsFrom (line "phase" phase).read t at None
   phase_torn x = fewer_torn (line "phase" phase) (line "phase" number) phases numbers phase_number phase_digit phase_fits x
 
-  pub phase_over : {k n : ℕ} → 3 < k → Reads (line "phase" number).read t at (Some (k, n)) → Reads (line "phase" phase).read t at None
+  pub phase_over : {k n : ℕ} → 3 < k → ReadsFrom (line "phase" number).read t at (Some (k, n)) → ReadsFrom (line "phase" phase).read t at None
   phase_over h x =
       fewer_other (line "phase" phase) (line "phase" number) phases numbers phase_number phase_digit phase_fits (λ p e. omega (arith, phase_low p)) x
 
@@ -114,13 +117,13 @@ marks = line_lawful "retired" zero_or_one_lawful
 counts : Lawful (line "retired" number)
 counts = line_lawful "retired" number_lawful
 
-module _ {t : List ℕ} {at : ℕ} where
-  pub mark_next : (b : Bool) {n : ℕ} → Reads (line "retired" number).read t at (Some (yes_no b, n)) → Reads (line "retired" zero_or_one).read t at (Some (b, n))
+module _ {t : List ℕ} {at : Option ℕ} where
+  pub mark_next : (b : Bool) {n : ℕ} → ReadsFrom (line "retired" number).read t at (Some (yes_no b, n)) → ReadsFrom (line "retired" zero_or_one).read t at (Some (b, n))
   mark_next b x = fewer_next (line "retired" zero_or_one) (line "retired" number) marks counts yes_no mark_digit mark_fits x
 
-  pub mark_torn : Reads (line "retired" number).read t at None → Reads (line "retired" zero_or_one).read t at None
+  pub mark_torn : ReadsFrom (line "retired" number).read t at None → ReadsFrom (line "retired" zero_or_one).read t at None
   mark_torn x = fewer_torn (line "retired" zero_or_one) (line "retired" number) marks counts yes_no mark_digit mark_fits x
 
-  pub mark_over : {k n : ℕ} → 1 < k → Reads (line "retired" number).read t at (Some (k, n)) → Reads (line "retired" zero_or_one).read t at None
+  pub mark_over : {k n : ℕ} → 1 < k → ReadsFrom (line "retired" number).read t at (Some (k, n)) → ReadsFrom (line "retired" zero_or_one).read t at None
   mark_over h x =
       fewer_other (line "retired" zero_or_one) (line "retired" number) marks counts yes_no mark_digit mark_fits (λ b e. omega (arith, mark_low b)) x

@@ -14,7 +14,7 @@ use Rattle.rules.specs.Text.Values.{key_realm, key_realm_value, root_and_queued,
 use Rattle.text_form.specs.Bytes.{bytes}
 use Rattle.text_form.specs.Forms.{Form, ◌then◌}
 use Rattle.text_form.specs.Lines.{line, list, number, number_or_none}
-use Rattle.text_read_number.specs.Reads.{Reads}
+use Rattle.text_read_number.specs.Reads.{Reads, ReadsFrom}
 use Rattle.text_read.specs.Ways.{then_torn, then_none, then_next, like_next}
 use Rattle.text_read_block.specs.declared.Head.{Head}
 use Rattle.text_read_block.specs.declared.Provided.{Provided}
@@ -48,8 +48,8 @@ abbrev from_parent : Form (Option ℕ × (Phase × (Bool × (ℕ × (ℕ × (ℕ
 from_parent = line "parent" number_or_none then from_phase
 
 -- What the lines before the lists say, each from the place behind the one before it.
-module _ {t : List ℕ} {at m1 m2 m3 m4 m5 m6 m7 m8 : ℕ} (h : Head)
-    (x1 : Reads (line "id" number).read t at (Some (h.id, m1)))
+module _ {t : List ℕ} {at : Option ℕ} {m1 m2 m3 m4 m5 m6 m7 m8 : ℕ} (h : Head)
+    (x1 : ReadsFrom (line "id" number).read t at (Some (h.id, m1)))
     (x2 : Reads (line "parent" number_or_none).read t m1 (Some (h.parent, m2)))
     (x3 : Reads (line "phase" values.phase).read t m2 (Some (h.phase, m3)))
     (x4 : Reads (line "retired" zero_or_one).read t m3 (Some (h.retired, m4)))
@@ -85,18 +85,18 @@ module _ {t : List ℕ} {at m1 m2 m3 m4 m5 m6 m7 m8 : ℕ} (h : Head)
 abbrev from_dependencies : Form (List Port × List Provision)
 from_dependencies = list "deps" "dep" key_realm then list "provs" "prov" key_realm_value
 
-module _ {t : List ℕ} {at : ℕ} {h : Head} (x : HeadRead t at (Some h)) where
-  pub realms_torn : Reads realms.read t h.next None → Reads block.read t at None
+module _ {t : List ℕ} {at : Option ℕ} {h : Head} (x : HeadRead t at (Some h)) where
+  pub realms_torn : Reads realms.read t h.next None → ReadsFrom block.read t at None
   realms_torn z = like_next lines plugin_of (x None (then_torn realms from_dependencies z))
 
   module _ {before : List ℕ} {n m : ℕ} {after : List ℕ} (z : RealmsStand t h.next before n m after) where
-    pub dependencies_torn : Reads (list "deps" "dep" key_realm).read t m None → Reads block.read t at None
+    pub dependencies_torn : Reads (list "deps" "dep" key_realm).read t m None → ReadsFrom block.read t at None
     dependencies_torn d =
         like_next lines plugin_of (x None
         (then_none realms from_dependencies z.reads (then_torn (list "deps" "dep" key_realm) (list "provs" "prov" key_realm_value) d)))
 
     module _ {before' : List ℕ} {n' m' : ℕ} {after' : List ℕ} (d : PortsStand (bytes "deps=") (bytes "dep=") t m before' 0 n' m' after') where
-      pub provisions_torn : Reads (list "provs" "prov" key_realm_value).read t m' None → Reads block.read t at None
+      pub provisions_torn : Reads (list "provs" "prov" key_realm_value).read t m' None → ReadsFrom block.read t at None
       provisions_torn v =
           like_next lines plugin_of (x None
           (then_none realms from_dependencies z.reads (then_none (list "deps" "dep" key_realm) (list "provs" "prov" key_realm_value) d.reads v)))

@@ -14,7 +14,7 @@ use Rattle.text_form.specs.Forms.{Form, behind, ◌then◌, read_many}
 use Rattle.text_form.specs.Lines.{list, number}
 use Rattle.text_read_number.specs.Reads.{Reads}
 use Rattle.text_read.specs.Ways.{then_torn, then_none, then_next, like_next}
-use Rattle.text_read.specs.Lists.{many_none, many_more, many_torn, counted_torn, counted_next}
+use Rattle.text_read.specs.Lists.{many_none, many_more, line_torn, counted_torn, counted_next}
 use Rattle.text_read_block.specs.Lists.{PortsRead, RealmsRead}
 use Rattle.text_read_block.specs.Rows.{row_put, rows_put, rows_snoc}
 
@@ -42,7 +42,7 @@ module _ (plural key t : List ℕ) (at : ℕ) (before : List ℕ) (row : ℕ) wh
 
     module _ {after : List ℕ} {place i : ℕ} (f : PortsSoFar key t first before row after place i) where
       pub ports_torn : (after' : List ℕ) → i < count → Reads item.read t place None → PortsRead plural key t at before row None after'
-      ports_torn after' h x = counted_next lines item head (many_torn item i f.reads count h x)
+      ports_torn after' h x = counted_next lines item head (line_torn item i f.reads count h x)
 
       pub ports_more : {p : Port} {n : ℕ} → Reads item.read t place (Some (p, n))
           → PortsSoFar key t first before row (row_put after (row + i) p.key p.realm) n (i + 1)

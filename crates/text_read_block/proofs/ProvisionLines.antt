@@ -19,7 +19,7 @@ use Rattle.rules_laws.specs.Laws.Tests.{by_test}
 use Rattle.text_form.specs.Forms.{Form, read_many}
 use Rattle.text_form.specs.Lines.{line, number}
 use Rattle.text_read_number.specs.Reads.{Reads}
-use Rattle.text_read.specs.Lists.{many_none, many_more, many_torn, counted_torn, counted_next}
+use Rattle.text_read.specs.Lists.{many_none, many_more, line_torn, counted_torn, counted_next}
 use Rattle.memory_values.specs.Values.{mask_of, values_of}
 use Rattle.memory_values.specs.Given.{mask_below, mask_none, mask_some, values_more}
 use Rattle.text_read_block.specs.Lists.{ProvisionsRead, mask_with, ports_of}
@@ -94,7 +94,7 @@ module _ (t : List ℕ) (at : ℕ) (claims values : List ℕ) where
     module _ {claims' values' : List ℕ} {place i valued mask : ℕ} (f : ProvisionsSoFar t first claims values claims' values' place i valued mask) where
       pub provisions_torn : (claims'' values'' : List ℕ) → i < count → Reads item.read t place None
           → ProvisionsRead t at claims values None claims'' values''
-      provisions_torn claims'' values'' h x = counted_next lines item head (many_torn item i f.reads count h x)
+      provisions_torn claims'' values'' h x = counted_next lines item head (line_torn item i f.reads count h x)
 
       abbrev vs : List holds.Provision
       vs = f.provisions

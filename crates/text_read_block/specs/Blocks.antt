@@ -12,7 +12,7 @@ use Rattle.rules.specs.Text.Values.{key_realm, key_realm_value}
 use Rattle.text_form.specs.Forms.{Form, ◌then◌}
 use Rattle.text_form.specs.Lines.{list}
 use Rattle.memory_values.specs.Values.{mask_of, values_of}
-use Rattle.text_read_number.specs.Reads.{Reads, said_as, reads_one}
+use Rattle.text_read_number.specs.Reads.{Reads, ReadsFrom, said_as, reads_none, reads_one}
 use Rattle.text_read_block.specs.declared.Head.{Head}
 use Rattle.text_read_block.specs.declared.Lists.{Lists}
 use Rattle.text_read_block.specs.declared.Block.{Block}
@@ -31,9 +31,9 @@ abbrev pub told : Head → Listed → Lines
 told h l = (h.id, (h.parent, (h.phase, (h.retired, (h.generation, (h.revision, (h.payload, (h.root, (h.anchor, l)))))))))
 
 -- The lines before the lists: what is read of the lists from the place behind them is read of all.
-abbrev pub HeadRead : List ℕ → ℕ → Option Head → Type 0
-HeadRead t at None = Reads lines.read t at None
-HeadRead t at (Some h) = (r : Option (Listed × ℕ)) → Reads listed.read t h.next r → Reads lines.read t at (said_as (told h) r)
+abbrev pub HeadRead : List ℕ → Option ℕ → Option Head → Type 0
+HeadRead t at None = ReadsFrom lines.read t at None
+HeadRead t at (Some h) = (r : Option (Listed × ℕ)) → Reads listed.read t h.next r → ReadsFrom lines.read t at (said_as (told h) r)
 
 -- the words that a torn block leaves
 abbrev pub empty : Lists
@@ -68,19 +68,19 @@ lists_of before p = record {
 }
 
 -- A plugin that was read.
-pub record Whole (t : List ℕ) (at : ℕ) (before : Lists) (b : Block) (after : Lists) : Type 0 where
+pub record Whole (t : List ℕ) (at : Option ℕ) (before : Lists) (b : Block) (after : Lists) : Type 0 where
   pub plugin : Plugin
-  pub reads : Reads block.read t at (Some (plugin, b.next))
+  pub reads : ReadsFrom block.read t at (Some (plugin, b.next))
   pub says : b ≡ block_of plugin b.next
   pub stored : after ≡ lists_of before plugin
 
-abbrev pub LinesRead : List ℕ → ℕ → Lists → Option Block → Lists → Type 0
-LinesRead t at before None after = Reads block.read t at None
+abbrev pub LinesRead : List ℕ → Option ℕ → Lists → Option Block → Lists → Type 0
+LinesRead t at before None after = ReadsFrom block.read t at None
 LinesRead t at before (Some b) after = Whole t at before b after
 
--- Of a torn block nothing is told: what was read before the tear is cleared.
-abbrev pub BlockRead : List ℕ → ℕ → Lists → Option Block → Lists → Type 0
-BlockRead t at before None after = Reads block.read t at None × (after ≡ empty)
+-- Of a torn block nothing is told: what was read before the tear is cleared. So it is of none, where what was to be read before is torn.
+abbrev pub BlockRead : List ℕ → Option ℕ → Lists → Option Block → Lists → Type 0
+BlockRead t at before None after = ReadsFrom block.read t at None × (after ≡ empty)
 BlockRead t at before (Some b) after = Whole t at before b after
 
 -- Two outcomes that the promise allows are equal.
@@ -89,7 +89,7 @@ some_both {A} {a} {b} {m} {n} e =
     let p : ◌≡◌ {A = A × ℕ} (a, m) (b, n) = cc in
     (ap (λ (q : A × ℕ). q.0) p, ap (λ (q : A × ℕ). q.1) p)
 
-module _ (t : List ℕ) (at : ℕ) (before : Lists) where
+module _ (t : List ℕ) (at : Option ℕ) (before : Lists) where
   pub block_one : (a b : Option Block) {x y : Lists} → BlockRead t at before a x → BlockRead t at before b y → (a ≡ b) × (x ≡ y)
   block_one None None x y = (refl, x.1 ∙ sym y.1)
   block_one None (Some b) x y = let e = reads_one x.0 y.reads in let z : ◌≡◌ {A = ℕ} 0 1 = cc in absurd (omega arith)
@@ -99,6 +99,10 @@ module _ (t : List ℕ) (at : ℕ) (before : Lists) where
         ap Some (x.says ∙ ap (block_of x.plugin) e.1 ∙ ap (λ (p : Plugin). block_of p b.next) e.0 ∙ sym y.says),
         x.stored ∙ ap (lists_of before) e.0 ∙ sym y.stored,
       )
+
+-- Of none, none is answered, and all is cleared.
+pub block_none : (t : List ℕ) (before : Lists) (r : Option Block) {after : Lists} → BlockRead t None before r after → (r ≡ None) × (after ≡ empty)
+block_none t before r x = block_one t None before r None x (reads_none block.read t None refl, refl)
 
 -- Lists that have room stand in front of their words.
 module _ (p : Plugin) (into : List ℕ) where

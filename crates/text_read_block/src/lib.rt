@@ -111,9 +111,9 @@ fn ports(
     requires { row ≤ 1 }
     ensures { PortsRead plural.now key.now text.now at into.old row result into.new }
 {
-    let (lines, mut behind) = text_read::number_line(text, at, plural)?;
+    let (lines, mut behind) = text_read::number_line(text, Some(at), plural)?;
     for i in 0..lines {
-        let (port, next) = text_read::pair_line(text, behind, key)?;
+        let (port, next) = text_read::pair_line(text, Some(behind), key)?;
         put_row(into, row + i, port);
         behind = next;
     }
@@ -124,7 +124,7 @@ fn ports(
 fn realm_lines(text: &[u8], at: usize, into: &mut [u64]) -> Option<(u64, usize)>
     ensures { RealmsRead text.now at into.old result into.new }
 {
-    let (edition, at) = text_read::edition_lines(text, at)?;
+    let (edition, at) = text_read::edition_lines(text, Some(at))?;
     put_row(into, 0, Port::new(edition.number(), edition.default()));
     ports(text, at, b"realms=", b"realm=", into, 1)
 }
@@ -146,11 +146,11 @@ fn masked(mask: u64, i: u64, valued: bool) -> u64
 fn provisions(text: &[u8], at: usize, claims: &mut [u64], values: &mut [u64]) -> Option<Provided>
     ensures { ProvisionsRead text.now at claims.old values.old result claims.new values.new }
 {
-    let (count, mut next) = text_read::number_line(text, at, b"provs=")?;
+    let (count, mut next) = text_read::number_line(text, Some(at), b"provs=")?;
     let mut valued: u64 = 0;
     let mut mask: u64 = 0;
     for i in 0..count {
-        let (provision, behind) = text_read::provision_line(text, next, b"prov=")?;
+        let (provision, behind) = text_read::provision_line(text, Some(next), b"prov=")?;
         let value = provision.value;
         put_row(claims, i + 1, provision.port);
         let has_value = value.is_some();
@@ -168,18 +168,18 @@ fn provisions(text: &[u8], at: usize, claims: &mut [u64], values: &mut [u64]) ->
 }
 
 // The lines before the lists.
-fn before_lists(text: &[u8], at: usize) -> Option<Head>
+fn before_lists(text: &[u8], at: Option<usize>) -> Option<Head>
     ensures { HeadRead text.now at result }
 {
     let (id, at) = text_read::number_line(text, at, b"id=")?;
-    let (parent, at) = text_read::option_line(text, at, b"parent=")?;
-    let (phase, at) = text_read::phase_line(text, at)?;
-    let (retired, at) = text_read::mark_line(text, at)?;
-    let (generation, at) = text_read::number_line(text, at, b"generation=")?;
-    let (revision, at) = text_read::number_line(text, at, b"revision=")?;
-    let (payload, at) = text_read::number_line(text, at, b"payload=")?;
-    let (root, at) = text_read::root_lines(text, at)?;
-    let (anchor, next) = text_read::pair_line(text, at, b"anchor=")?;
+    let (parent, at) = text_read::option_line(text, Some(at), b"parent=")?;
+    let (phase, at) = text_read::phase_line(text, Some(at))?;
+    let (retired, at) = text_read::mark_line(text, Some(at))?;
+    let (generation, at) = text_read::number_line(text, Some(at), b"generation=")?;
+    let (revision, at) = text_read::number_line(text, Some(at), b"revision=")?;
+    let (payload, at) = text_read::number_line(text, Some(at), b"payload=")?;
+    let (root, at) = text_read::root_lines(text, Some(at))?;
+    let (anchor, next) = text_read::pair_line(text, Some(at), b"anchor=")?;
     Some(Head {
         id,
         parent,
@@ -195,7 +195,7 @@ fn before_lists(text: &[u8], at: usize) -> Option<Head>
 }
 
 // The lines, each read behind the one before; the lists go to the front of lent words, the anchor in front of the claims.
-fn read_lines(text: &[u8], at: usize, lists: &mut Lists) -> Option<Block>
+fn read_lines(text: &[u8], at: Option<usize>, lists: &mut Lists) -> Option<Block>
     ensures { LinesRead text.now at lists.old result lists.new }
 {
     let head = before_lists(text, at)?;
@@ -221,8 +221,8 @@ fn read_lines(text: &[u8], at: usize, lists: &mut Lists) -> Option<Block>
     })
 }
 
-// The block at a place. Where it is torn, what was read before the tear is cleared.
-pub fn read_block(text: &[u8], at: usize, lists: &mut Lists) -> Option<Block>
+// The block at a place. Where it is torn, what was read before the tear is cleared; of none, none is answered and all is cleared.
+pub fn read_block(text: &[u8], at: Option<usize>, lists: &mut Lists) -> Option<Block>
     ensures { BlockRead text.now at lists.old result lists.new }
 {
     let block = read_lines(text, at, lists);

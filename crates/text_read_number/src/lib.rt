@@ -1,4 +1,5 @@
-// Names and numbers of a text: what stands at a place of it, with the place behind.
+// Names and numbers of a text: what stands at a place of it, with the place behind. Where none goes in, as what was to be read before
+// it does not stand there, none comes out.
 #![tactic(auto)]
 
 ghost use Rattle.std.specs.Prelude.{◌≡◌, true, ◌≤◌, ◌<◌, ◌+◌, ◌*◌, ◌^◌, leb, length};
@@ -6,16 +7,17 @@ ghost use Rattle.text_form.specs.Forms.{expect};
 ghost use Rattle.text_form.specs.Words.{no_digit};
 ghost use Rattle.text_form.specs.Numbers.{read_number};
 ghost use Rattle.text_form.specs.Lines.{number, comma};
-ghost use Rattle.text_read_number.specs.Reads.{Reads, Stands};
+ghost use Rattle.text_read_number.specs.Reads.{Reads, ReadsFrom, StandsFrom};
 ghost use Rattle.text_read_number.specs.Numbers.{stop_at, value_to};
 
 // (2^64 − 1) / 10
 const LAST_TENTH: u64 = 1844674407370955161;
 
 // These bytes stand at the place. Where fewer are left, none is looked at.
-pub fn literal(text: &[u8], at: usize, name: &[u8]) -> Option<usize>
-    ensures { Stands (expect name.now) text.now at result }
+pub fn literal(text: &[u8], at: Option<usize>, name: &[u8]) -> Option<usize>
+    ensures { StandsFrom (expect name.now) text.now at result }
 {
+    let at = at?;
     let rest = text.get(at..)?;
     if rest.starts_with(name) {
         return Some(at + name.len());
@@ -87,15 +89,15 @@ fn number_to(text: &[u8], at: usize, stop: u8) -> Option<(u64, usize)>
 }
 
 // A number that ends its line.
-pub fn to_end(text: &[u8], at: usize) -> Option<(u64, usize)>
-    ensures { Reads number.read text.now at result }
+pub fn to_end(text: &[u8], at: Option<usize>) -> Option<(u64, usize)>
+    ensures { ReadsFrom number.read text.now at result }
 {
-    number_to(text, at, b'\n')
+    number_to(text, at?, b'\n')
 }
 
 // A number with a comma behind it.
-pub fn to_comma(text: &[u8], at: usize) -> Option<(u64, usize)>
-    ensures { Reads comma.read text.now at result }
+pub fn to_comma(text: &[u8], at: Option<usize>) -> Option<(u64, usize)>
+    ensures { ReadsFrom comma.read text.now at result }
 {
-    number_to(text, at, b',')
+    number_to(text, at?, b',')
 }

@@ -47,5 +47,5 @@ returns c =
     let a = c.args in
     fits_ports (view a.w.now) a.b.now a.lists.now a.from a.next a.rows
     (sym c.counts_fit.ensures ∙ c.if-not-counts_fit.false) (sym c.life_fits.ensures ∙ c.if-not-life_fits.false)
-    c.some_words-claimed.ensures c.port_at.ensures c.some_words.ensures
+    c.some_words-claimed.ensures c.parent_from.ensures c.port_at.ensures c.some_words.ensures
     c.some_words-2.ensures c.some_words-3.ensures c.ports_fit.ensures

@@ -11,4 +11,4 @@ pub returns : goal.returns
 returns c =
     let a = c.args in
     join_read a.text.now a.so_far.next a.w.now a.place a.so_far.from a.next a.so_far.rows a.lists.now c.rooms.ensures c.requires c.in_ok-b.ensures
-    c.join.ensures
+    (rw c.of.ensures at c.join.ensures)

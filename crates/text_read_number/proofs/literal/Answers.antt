@@ -6,11 +6,13 @@ pub returns-then-starts_with : goal.returns-then-starts_with
 returns-then-starts_with c =
     let a = c.args in
     let x = c.in_ok-rest.ensures.lookup.0 in
-    stands a.name.now a.text.now a.at c.in_ok-rest.rest.now x.0 x.2 c.starts_with.ensures.value (c.starts_with.ensures.bound (c.if-starts_with.true))
-    c.if-starts_with.true
+    rw c.in_ok-at.was
+    (stands a.name.now a.text.now c.in_ok-at.at c.in_ok-rest.rest.now x.0 x.2 c.starts_with.ensures.value (c.starts_with.ensures.bound (c.if-starts_with.true))
+    c.if-starts_with.true)
 
 pub returns : goal.returns
 returns c =
     let a = c.args in
     let x = c.in_ok-rest.ensures.lookup.0 in
-    stands_not a.name.now a.text.now a.at c.in_ok-rest.rest.now x.0 x.2 c.starts_with.ensures.value c.if-starts_with.false
+    rw c.in_ok-at.was
+    (stands_not a.name.now a.text.now c.in_ok-at.at c.in_ok-rest.rest.now x.0 x.2 c.starts_with.ensures.value c.if-starts_with.false)
