@@ -2,13 +2,14 @@
 #![tactic(auto)]
 
 ghost use Rattle.std.specs.Prelude.{◌≡◌, take};
-ghost use Rattle.slot_child.specs.Slots.{identity_of, decision_of, slot_of, decided_of};
+ghost use Rattle.slot_child.specs.Slots.{identity_of, decision_of, slot_of};
+ghost use Rattle.host_answers.specs.Answers.{done_by};
 ghost use Rattle.console_answer.specs.Pages.{empty_page, put_on, number_on, numbers_on};
 ghost use Rattle.console_answer.specs.Answers.{ok_word, told_in, answer_in, refusal_on, answer_on, or_none_on, answer_or_none_on, says_yes, answer_yes_no_on};
-ghost use Rattle.console_answer.specs.Slots.{generation_on, identity_on, decision_on, slot_on, decided_on};
+ghost use Rattle.console_answer.specs.Slots.{generation_on, identity_on, decision_on, slot_on, decided_as};
 
-use host_answers::ANSWER;
-use slot_child::{Decided, Decision, Identity, Slot};
+use host_answers::{ANSWER, Why};
+use slot_child::{Decision, Identity, Slot};
 
 // Room for the longest line of an answer: `ok`, a hundred numbers of 20 digits, each behind a space, and byte 10.
 const LINE_ROOM: usize = 2103;
@@ -183,12 +184,12 @@ impl Page {
     }
 
     // The line of a decision: the slot, or why it was refused.
-    pub fn shown(&mut self, decided: Decided)
-        ensures { self.new ≡ decided_on self.old (decided_of decided) }
+    pub fn shown<E: Why>(&mut self, slot: Slot, verdict: Result<(), E>)
+        ensures { self.new ≡ decided_as self.old (slot_of slot) (done_by E.told verdict) }
     {
-        match decided.verdict {
-            Ok(()) => self.ok(decided.slot),
-            Err(why) => self.no(why.number()),
+        match verdict {
+            Ok(()) => self.ok(slot),
+            Err(why) => self.no(why.status()),
         }
     }
 }

@@ -74,7 +74,7 @@ fn after(slot: Slot, decided: Option<Decided>, page: &mut Page) -> Slot
         page.put(b"bad");
         return slot;
     };
-    page.shown(decided);
+    page.shown(decided.slot, decided.verdict);
     decided.slot
 }
 
@@ -84,7 +84,7 @@ pub fn slot_line(slot: Slot, bytes: &[u8], from: usize, page: &mut Page) -> Slot
 {
     let word = console_words::next_word(bytes, from);
     let mut n = [0u64; 2048];
-    let Some(count) = console_names::numbers(bytes, word.stop, &mut n) else {
+    let Ok(count) = console_names::numbers(bytes, word.stop, &mut n) else {
         return after(slot, None, page);
     };
     let decided = decided_by(slot, &bytes[word.start..word.stop], &n[..count]);

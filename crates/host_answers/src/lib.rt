@@ -2,34 +2,32 @@
 #![tactic(auto, unfolding(crate::specs::Told::status_of, crate::specs::Told::words_of))]
 
 ghost use Rattle.std.specs.Prelude.{◌≡◌, ◌<◌, length};
-ghost use Rattle.rules.specs.Answers.{done_answer, whether_answer, number_answer, perhaps_answer, option_answer};
-ghost use Rattle.registry_queries.specs.Answers.{port_answer, root_answer, edition_answer};
-ghost use Rattle.ports_realms.specs.Answers.{resolved_answer};
-ghost use Rattle.registry_steps.specs.Answers.{begun_answer};
-ghost use Rattle.registry_replace.specs.Answers.{replaced_answer};
-ghost use Rattle.registry_admit.specs.Answers.{admitted_answer, admits_answer, called_answer};
-ghost use Rattle.registry_retire.specs.Answers.{child_answer};
-ghost use Rattle.registry_values.specs.Answers.{reading_answer};
+ghost use Rattle.rules.specs.Answers.{option_answer};
+ghost use Rattle.registry_admit.specs.Answers.{admits_answer};
 ghost use Rattle.host_answers.specs.Told.{status_of, counted, Tells};
+ghost use Rattle.host_answers.specs.Answers.{done_by, whether_by, number_by, perhaps_by, port_by, root_by, edition_by, resolved_by};
+ghost use Rattle.host_answers.specs.Answers.{begun_by, replaced_by, admitted_by, called_by, child_by, reading_by};
+
+mod why;
 
 use registry_admit::Receipt;
 use registry_live::Invocation;
-use registry_replace::Unreplaced;
 use registry_table::Ticket;
 use registry_values::Reading;
-use rules::{Edition, Port, Refusal, Root};
+use rules::{Edition, Port, Root};
 use slot_child::Identity;
+pub use why::{Offered, Why};
 
 // A count and up to six numbers.
 pub const ANSWER: usize = 7;
 
 // An answer without numbers: its status says all.
-pub fn done(a: Result<(), Refusal>) -> u64
-    ensures { result ≡ status_of (done_answer a) }
+pub fn done<E: Why>(a: Result<(), E>) -> u64
+    ensures { result ≡ status_of (done_by E.told a) }
 {
     match a {
         Ok(()) => 0,
-        Err(why) => why.number(),
+        Err(why) => why.status(),
     }
 }
 
@@ -45,70 +43,70 @@ fn tell(numbers: &[u64], out: &mut [u64; ANSWER]) -> u64
     0
 }
 
-pub fn whether(a: Result<bool, Refusal>, out: &mut [u64; ANSWER]) -> u64
-    ensures { Tells (whether_answer a) out.old result out.new }
+pub fn whether<E: Why>(a: Result<bool, E>, out: &mut [u64; ANSWER]) -> u64
+    ensures { Tells (whether_by E.told a) out.old result out.new }
 {
     match a {
         Ok(yes) => tell(&[yes as u64], out),
-        Err(why) => why.number(),
+        Err(why) => why.status(),
     }
 }
 
-pub fn number(a: Result<u64, Refusal>, out: &mut [u64; ANSWER]) -> u64
-    ensures { Tells (number_answer a) out.old result out.new }
+pub fn number<E: Why>(a: Result<u64, E>, out: &mut [u64; ANSWER]) -> u64
+    ensures { Tells (number_by E.told a) out.old result out.new }
 {
     match a {
         Ok(n) => tell(&[n], out),
-        Err(why) => why.number(),
+        Err(why) => why.status(),
     }
 }
 
-pub fn perhaps(a: Result<Option<u64>, Refusal>, out: &mut [u64; ANSWER]) -> u64
-    ensures { Tells (perhaps_answer a) out.old result out.new }
+pub fn perhaps<E: Why>(a: Result<Option<u64>, E>, out: &mut [u64; ANSWER]) -> u64
+    ensures { Tells (perhaps_by E.told a) out.old result out.new }
 {
     match a {
         Ok(Some(n)) => tell(&[n], out),
         Ok(None) => tell(&[], out),
-        Err(why) => why.number(),
+        Err(why) => why.status(),
     }
 }
 
-pub fn port(a: Result<Option<Port>, Refusal>, out: &mut [u64; ANSWER]) -> u64
-    ensures { Tells (port_answer a) out.old result out.new }
+pub fn port<E: Why>(a: Result<Option<Port>, E>, out: &mut [u64; ANSWER]) -> u64
+    ensures { Tells (port_by E.told a) out.old result out.new }
 {
     match a {
         Ok(Some(q)) => tell(&[q.key, q.realm], out),
         Ok(None) => tell(&[], out),
-        Err(why) => why.number(),
+        Err(why) => why.status(),
     }
 }
 
-pub fn root(a: Result<Root, Refusal>, out: &mut [u64; ANSWER]) -> u64
-    ensures { Tells (root_answer a) out.old result out.new }
+pub fn root<E: Why>(a: Result<Root, E>, out: &mut [u64; ANSWER]) -> u64
+    ensures { Tells (root_by E.told a) out.old result out.new }
 {
     match a {
         Ok(Root::Unissued) => tell(&[0], out),
         Ok(Root::Queued(revision, argument)) => tell(&[1, revision, argument], out),
         Ok(Root::Spent) => tell(&[2], out),
-        Err(why) => why.number(),
+        Err(why) => why.status(),
     }
 }
 
-pub fn edition(a: Result<Edition, Refusal>, out: &mut [u64; ANSWER]) -> u64
-    ensures { Tells (edition_answer a) out.old result out.new }
+pub fn edition<E: Why>(a: Result<Edition, E>, out: &mut [u64; ANSWER]) -> u64
+    ensures { Tells (edition_by E.told a) out.old result out.new }
 {
     match a {
         Ok(edition) => tell(&[edition.number(), edition.default()], out),
-        Err(why) => why.number(),
+        Err(why) => why.status(),
     }
 }
 
-pub fn resolved(a: Result<Port, Refusal>, out: &mut [u64; ANSWER]) -> u64
-    ensures { Tells (resolved_answer a) out.old result out.new }
+pub fn resolved<E: Why>(a: Result<Port, E>, out: &mut [u64; ANSWER]) -> u64
+    ensures { Tells (resolved_by E.told a) out.old result out.new }
 {
     match a {
         Ok(q) => tell(&[q.key, q.realm], out),
-        Err(why) => why.number(),
+        Err(why) => why.status(),
     }
 }
 
@@ -121,39 +119,40 @@ pub fn optional(a: Option<u64>, out: &mut [u64; ANSWER]) -> u64
     }
 }
 
-pub fn begun(a: Result<Ticket, Refusal>, out: &mut [u64; ANSWER]) -> u64
-    ensures { Tells (begun_answer a) out.old result out.new }
+pub fn begun<E: Why>(a: Result<Ticket, E>, out: &mut [u64; ANSWER]) -> u64
+    ensures { Tells (begun_by E.told a) out.old result out.new }
 {
     match a {
         Ok(t) => tell(&[t.domain, t.id, t.generation, t.kind], out),
-        Err(why) => why.number(),
+        Err(why) => why.status(),
     }
 }
 
 // A refused replacement answers the offered payload too.
-pub fn replaced(a: Result<u64, Unreplaced>, out: &mut [u64; ANSWER]) -> u64
-    ensures { Tells (replaced_answer a) out.old result out.new }
+pub fn replaced<E: Offered>(a: Result<u64, E>, out: &mut [u64; ANSWER]) -> u64
+    ensures { Tells (replaced_by E.told E.offered a) out.old result out.new }
 {
     match a {
         Ok(former) => tell(&[former], out),
         Err(refused) => {
-            tell(&[refused.payload], out);
-            refused.why.number()
+            let (status, payload) = refused.both();
+            tell(&[payload], out);
+            status
         }
     }
 }
 
-pub fn admitted(a: Result<Invocation, Refusal>, out: &mut [u64; ANSWER]) -> u64
-    ensures { Tells (admitted_answer a) out.old result out.new }
+pub fn admitted<E: Why>(a: Result<Invocation, E>, out: &mut [u64; ANSWER]) -> u64
+    ensures { Tells (admitted_by E.told a) out.old result out.new }
 {
     match a {
         Ok(t) => tell(&[t.domain, t.id, t.generation, t.revision, t.argument], out),
-        Err(why) => why.number(),
+        Err(why) => why.status(),
     }
 }
 
-pub fn called(a: Result<Receipt, Refusal>, out: &mut [u64; ANSWER]) -> u64
-    ensures { Tells (called_answer a) out.old result out.new }
+pub fn called<E: Why>(a: Result<Receipt, E>, out: &mut [u64; ANSWER]) -> u64
+    ensures { Tells (called_by E.told a) out.old result out.new }
 {
     match a {
         Ok(t) => tell(
@@ -167,26 +166,26 @@ pub fn called(a: Result<Receipt, Refusal>, out: &mut [u64; ANSWER]) -> u64
             ],
             out,
         ),
-        Err(why) => why.number(),
+        Err(why) => why.status(),
     }
 }
 
-pub fn child(a: Result<Option<Identity>, Refusal>, out: &mut [u64; ANSWER]) -> u64
-    ensures { Tells (child_answer a) out.old result out.new }
+pub fn child<E: Why>(a: Result<Option<Identity>, E>, out: &mut [u64; ANSWER]) -> u64
+    ensures { Tells (child_by E.told a) out.old result out.new }
 {
     match a {
         Ok(Some(c)) => tell(&[c.domain, c.parent, c.id], out),
         Ok(None) => tell(&[], out),
-        Err(why) => why.number(),
+        Err(why) => why.status(),
     }
 }
 
-pub fn reading(a: Result<Reading, Refusal>, out: &mut [u64; ANSWER]) -> u64
-    ensures { Tells (reading_answer a) out.old result out.new }
+pub fn reading<E: Why>(a: Result<Reading, E>, out: &mut [u64; ANSWER]) -> u64
+    ensures { Tells (reading_by E.told a) out.old result out.new }
 {
     match a {
         Ok(x) => tell(&[x.value, x.provider], out),
-        Err(why) => why.number(),
+        Err(why) => why.status(),
     }
 }
 

@@ -9,12 +9,12 @@ returns-in_default c =
     let x = c.args in
     let w = c.next_word-word in
     same_after _ _ _ _ (bad_line_lem x.page.now (slot_of x.slot) x.bytes.now x.from w.result w.ensures.word
-    (no_numbers x.bytes.now w.result.stop _ _ c.in_default.ensures)) c.after.ensures
+    (no_numbers x.bytes.now w.result.stop _ _ _ c.in_default.ensures)) c.after.ensures
 
 pub returns : goal.returns
 returns c =
     let x = c.args in
     let w = c.next_word-word in
     same_after _ _ _ _ (named_line_lem x.page.now (slot_of x.slot) x.bytes.now x.from w.result
-    w.ensures.word _ (all_numbers x.bytes.now w.result.stop _ _ c.in-Some.count c.in-Some.ensures)
+    w.ensures.word _ (all_numbers x.bytes.now w.result.stop _ _ c.in-Ok.count c.in-Ok.ensures)
     _ c.decided_by-decided.ensures) c.after-2.ensures

@@ -4,4 +4,4 @@ use Rattle.console_answer.proofs.Page.shown.Goals as goal
 
 pub returns-in-Err : goal.returns-in-Err
 unfolding numbers_on
-returns-in-Err c = rw (c.in-Err.is, ← c.number.ensures) c.no.ensures
+returns-in-Err g c = rw (c.in-Err.is, ← c.status.ensures) c.no.ensures
