@@ -1,5 +1,7 @@
 -- The line of a registration, behind its name: PARENT KEY REALM PAYLOAD EDITION DEFAULT realms N.. deps N.. provs N..
-use Rattle.std.specs.Prelude.{ℕ, List, ◌∷◌, eqb, length, Option, Some, None, option_map, option_and_then}
+use Rattle.std.specs.Prelude.{ℕ, Bool, ◌&&◌, List, ◌∷◌, eqb, length, Option, Some, None, option_map, option_and_then, Result, Ok, Err, ok_or}
+use Rattle.std.specs.Option.{is_some, unwrap_or}
+use Rattle.std.specs.Result.{result_ok}
 use Rattle.rules.specs.Basics.{pick, same_numbers}
 use Rattle.rules.specs.Holds.{port}
 use Rattle.rules.specs.Registration.{Definition}
@@ -24,38 +26,39 @@ parent_in line from = pick (same_numbers (word_from line from) (bytes "none")) (
 abbrev pub under : ℕ → Option ℕ → Under
 under stop parent = record { parent = parent; stop = stop }
 
-abbrev pub under_in : List ℕ → ℕ → Option Under
-under_in line from = option_map (under (past line from)) (parent_in line from)
+-- Of another word, the place behind it.
+abbrev pub under_in : List ℕ → ℕ → Result Under ℕ
+under_in line from = ok_or (option_map (under (past line from)) (parent_in line from)) (past line from)
 
-abbrev pub numbered : ℕ → ℕ → Number
-numbered stop value = record { value = value; stop = stop }
+-- The next word as a number, if it is one, and the place behind it.
+unfoldable pub number_in : List ℕ → ℕ → Number
+number_in line from = record { value = number_at line from; stop = past line from }
 
--- The next word as a number.
-unfoldable pub number_in : List ℕ → ℕ → Option Number
-number_in line from = option_map (numbered (past line from)) (number_at line from)
-
+-- A word that is no number is 0.
 abbrev pub headed : Number → Number → Number → Number → Number → Head
 headed key realm payload edition default = record {
-  key = key.value;
-  realm = realm.value;
-  payload = payload.value;
-  edition = edition.value;
-  default = default.value;
+  key = unwrap_or key.value 0;
+  realm = unwrap_or realm.value 0;
+  payload = unwrap_or payload.value 0;
+  edition = unwrap_or edition.value 0;
+  default = unwrap_or default.value 0;
   stop = default.stop;
 }
 
--- KEY REALM PAYLOAD EDITION DEFAULT are five numbers.
-unfoldable pub head_in : List ℕ → ℕ → Option Head
+abbrev pub five_numbers : Number → Number → Number → Number → Number → Bool
+five_numbers key realm payload edition default =
+    is_some key.value && is_some realm.value && is_some payload.value && is_some edition.value && is_some default.value
+
+-- KEY REALM PAYLOAD EDITION DEFAULT are five numbers; where one is none, all five are told as they were read.
+unfoldable pub head_in : List ℕ → ℕ → Result Head Head
 head_in line from =
-    option_and_then
-    (λ (key : Number). option_and_then
-    (λ (realm : Number). option_and_then
-    (λ (payload : Number). option_and_then
-    (λ (edition : Number). option_map (headed key realm payload edition) (number_in line edition.stop))
-    (number_in line payload.stop))
-    (number_in line realm.stop))
-    (number_in line key.stop))
-    (number_in line from)
+    let key = number_in line from in
+    let realm = number_in line key.stop in
+    let payload = number_in line realm.stop in
+    let edition = number_in line payload.stop in
+    let default = number_in line edition.stop in
+    let head = headed key realm payload edition default in
+    pick (five_numbers key realm payload edition default) (Ok head) (Err head)
 
 -- The numbers of a list, and where they stop, if its word comes next.
 unfoldable pub list_behind : List ℕ → ℕ → List ℕ → Option Numbers
@@ -107,5 +110,5 @@ definition_in line from =
     option_and_then
     (λ (u : Under). option_and_then
     (λ (h : Head). option_map (given u.parent h) (lists_in line h.stop))
-    (head_in line u.stop))
-    (under_in line from)
+    (result_ok (head_in line u.stop)))
+    (result_ok (under_in line from))

@@ -31,17 +31,17 @@ slot_ended t = record { page = line_end t.page; slot = t.slot }
 abbrev pub keeps_registry : List ℕ → List ℕ → SlotAfter → After
 keeps_registry m buffer t = record { page = t.page; memory = m; buffer = buffer; slot = t.slot }
 
--- What stands behind a name, by the operation's row.
-abbrev pub operate_by : Row → Page → List ℕ → List ℕ → Slot → List ℕ → ℕ → After
-operate_by row.Slot p m buffer s line from = keeps_registry m buffer (slot_ended (slot_line p s line from))
-operate_by row.Register p m buffer s line from = keeps_slot s (register_line p m buffer line from)
-operate_by row.Check p m buffer s line from = keeps_slot s (check_line p m buffer line from)
-operate_by (row.Takes count kind) p m buffer s line from = keeps_slot s (or_bad p m buffer count kind (numbers_behind line from))
-operate_by row.Unknown p m buffer s line from = keeps_slot s (bad_line p m buffer)
+-- What stands behind the name at a place, by the operation's row.
+abbrev pub operate_by : Row → Page → List ℕ → List ℕ → Slot → List ℕ → ℕ → ℕ → After
+operate_by row.Slot p m buffer s line place from = keeps_registry m buffer (slot_ended (slot_line p s line from))
+operate_by row.Register p m buffer s line place from = keeps_slot s (register_line p m buffer line from)
+operate_by row.Check p m buffer s line place from = keeps_slot s (check_line p m buffer line from)
+operate_by (row.Takes count kind) p m buffer s line place from = keeps_slot s (or_bad p m buffer place count kind (numbers_behind line from))
+operate_by row.Unknown p m buffer s line place from = keeps_slot s (bad_line p m buffer)
 
 -- The operation at a place among the names, with what stands behind its name.
 abbrev pub operate : Page → List ℕ → List ℕ → Slot → List ℕ → ℕ → ℕ → After
-operate p m buffer s line place from = operate_by (row_at place) p m buffer s line from
+operate p m buffer s line place from = operate_by (row_at place) p m buffer s line place from
 
 -- The first word is the operation's name.
 unfoldable pub answered : Page → List ℕ → List ℕ → Slot → List ℕ → After

@@ -16,7 +16,7 @@ use Rattle.console_names.specs.declared.Values.TheVariants.{Numbers, YesOrNo}
 use Rattle.console_names.specs.declared.Held.{Held}
 use Rattle.console_names.specs.declared.Kind.{Kind}
 use Rattle.console_names.specs.declared.Kind.TheVariants.{Show, Buffer, Lists, Registry, Text, Load, Plan}
-use Rattle.console_names.specs.Table.{Asked, Told, takes, first, second, rest, asked}
+use Rattle.console_names.specs.Table.{Asked, Told, takes, first, second, rest, asked_at}
 use Rattle.console_definition.specs.Definitions.{definition_in}
 pub use Rattle.console_show.specs.Spoken.{untold}
 use Rattle.console_show.specs.Spoken.{spoken_on}
@@ -68,23 +68,23 @@ lent_bytes size = take size (replicate text_room 0)
 
 -- Numbers, as many as are due: show ID, buffer FROM TO, a list, what the registry is asked for, write SIZE, or plan SIZE ID.. Of load
 -- DOMAIN LENGTH nothing is said before its text has come.
-abbrev pub numbers_line : Page → List ℕ → List ℕ → Kind → List ℕ → Done
-numbers_line p m buffer Show l = record { page = line_end (shown_on p m (first l)); memory = m; buffer = buffer }
-numbers_line p m buffer Buffer l = record
+abbrev pub numbers_line : Page → List ℕ → List ℕ → ℕ → Kind → List ℕ → Done
+numbers_line p m buffer place Show l = record { page = line_end (shown_on p m (first l)); memory = m; buffer = buffer }
+numbers_line p m buffer place Buffer l = record
     { page = line_end (numbers_on (put_on p ok_word) (between (first l) (second l) buffer)); memory = m; buffer = buffer }
-numbers_line p m buffer (Lists held) l = listed p m buffer held l
-numbers_line p m buffer (Registry r v) l = asked_done p m buffer v (asked r l)
-numbers_line p m buffer Text l = record { page = text_on p m (lent_bytes (first l)); memory = m; buffer = buffer }
-numbers_line p m buffer Load l = record { page = p; memory = m; buffer = buffer }
-numbers_line p m buffer Plan l = record { page = line_end (planned_on p m (rest l) (lent_ids (first l))); memory = m; buffer = buffer }
+numbers_line p m buffer place (Lists held) l = listed p m buffer held l
+numbers_line p m buffer place (Registry r v) l = asked_done p m buffer v (asked_at place l)
+numbers_line p m buffer place Text l = record { page = text_on p m (lent_bytes (first l)); memory = m; buffer = buffer }
+numbers_line p m buffer place Load l = record { page = p; memory = m; buffer = buffer }
+numbers_line p m buffer place Plan l = record { page = line_end (planned_on p m (rest l) (lent_ids (first l))); memory = m; buffer = buffer }
 
 abbrev pub bad_line : Page → List ℕ → List ℕ → Done
 bad_line p m buffer = record { page = bad p; memory = m; buffer = buffer }
 
 -- An operation whose words are all numbers.
-abbrev pub or_bad : Page → List ℕ → List ℕ → Count → Kind → Option (List ℕ) → Done
-or_bad p m buffer count kind None = bad_line p m buffer
-or_bad p m buffer count kind (Some l) = pick (takes count (length l)) (numbers_line p m buffer kind l) (bad_line p m buffer)
+abbrev pub or_bad : Page → List ℕ → List ℕ → ℕ → Count → Kind → Option (List ℕ) → Done
+or_bad p m buffer place count kind None = bad_line p m buffer
+or_bad p m buffer place count kind (Some l) = pick (takes count (length l)) (numbers_line p m buffer place kind l) (bad_line p m buffer)
 
 -- register
 abbrev pub register_line : Page → List ℕ → List ℕ → List ℕ → ℕ → Done

@@ -5,7 +5,7 @@ ghost use Rattle.std.specs.Prelude.{◌≡◌};
 ghost use Rattle.slot_child.specs.Slots.{slot_of};
 ghost use Rattle.console_answer.specs.Answers.{told_in};
 ghost use Rattle.console_names.specs.Behind.{numbers_behind};
-ghost use Rattle.console_names.specs.Table.{rest, asked};
+ghost use Rattle.console_names.specs.Table.{rest, asked_at};
 ghost use Rattle.console_names.specs.declared.Values.TheVariants.{YesOrNo};
 ghost use Rattle.console_order.specs.Checks.{sets_in, checking};
 ghost use Rattle.console_order.specs.Plans.{planned_on, lent_ids};
@@ -15,7 +15,7 @@ ghost use Rattle.console_line.specs.Lines.{line_end, bad, text_on, lent_bytes, l
 ghost use Rattle.console_line.specs.Console.{Leaves, keeps_slot, keeps_registry, slot_ended, operate, answered, line_ended};
 
 use console_answer::{Page, TEXT_ROOM};
-use console_names::{BUFFER_ROOM, Count, Held, Kind, Request, Row, Values};
+use console_names::{BUFFER_ROOM, Count, Held, Kind, Row, Values};
 use console_words::LINE;
 use host_answers::ANSWER;
 use memory::WORDS;
@@ -48,19 +48,19 @@ impl Console {
         said(page, Values::Numbers, status, &out);
     }
 
-    fn asked_line(&mut self, request: Request, values: Values, l: &[u64], page: &mut Page)
+    fn asked_line(&mut self, place: usize, values: Values, l: &[u64], page: &mut Page)
         ensures { Leaves (keeps_slot (slot_of self.old.slot)
-            (asked_done page.old self.old.memory self.old.buffer values (asked request l.now))) page.new self.new }
+            (asked_done page.old self.old.memory self.old.buffer values (asked_at place l.now))) page.new self.new }
     {
         let mut out = [0u64; ANSWER];
-        let status = console_operations::carried_out(&mut self.memory, request, l, &mut out);
+        let status = console_operations::carried_out(&mut self.memory, place, l, &mut out);
         said(page, values, status, &out);
     }
 
     // Numbers, as many as are due. Of a load nothing is said before its text has come.
-    fn numbers_line(&mut self, kind: Kind, l: &[u64], page: &mut Page)
+    fn numbers_line(&mut self, place: usize, kind: Kind, l: &[u64], page: &mut Page)
         ensures { Leaves (keeps_slot (slot_of self.old.slot)
-            (numbers_line page.old self.old.memory self.old.buffer kind l.now)) page.new self.new }
+            (numbers_line page.old self.old.memory self.old.buffer place kind l.now)) page.new self.new }
     {
         let a = console_names::nth(l, 0);
         let b = console_names::nth(l, 1);
@@ -74,7 +74,7 @@ impl Console {
                 end(page);
             }
             Kind::Lists(held) => self.list_line(held, l, page),
-            Kind::Registry(request, values) => self.asked_line(request, values, l, page),
+            Kind::Registry(_, values) => self.asked_line(place, values, l, page),
             Kind::Text => text_line(&self.memory, a, page),
             Kind::Load => (),
             Kind::Plan => plan_line(&self.memory, a, l, page),
@@ -82,12 +82,20 @@ impl Console {
     }
 
     // An operation whose words are all numbers.
-    fn behind_line(&mut self, count: Count, kind: Kind, bytes: &[u8], from: usize, page: &mut Page)
+    fn behind_line(
+        &mut self,
+        place: usize,
+        count: Count,
+        kind: Kind,
+        bytes: &[u8],
+        from: usize,
+        page: &mut Page,
+    )
         ensures { Leaves (keeps_slot (slot_of self.old.slot)
-            (or_bad page.old self.old.memory self.old.buffer count kind (numbers_behind bytes.now from))) page.new self.new }
+            (or_bad page.old self.old.memory self.old.buffer place count kind (numbers_behind bytes.now from))) page.new self.new }
     {
         let mut n = [0u64; 2048];
-        let Some(given) = console_names::numbers(bytes, from, &mut n) else {
+        let Ok(given) = console_names::numbers(bytes, from, &mut n) else {
             bad(page);
             return;
         };
@@ -95,7 +103,7 @@ impl Console {
             bad(page);
             return;
         }
-        self.numbers_line(kind, &n[..given], page);
+        self.numbers_line(place, kind, &n[..given], page);
     }
 
     fn register_line(&mut self, bytes: &[u8], from: usize, page: &mut Page)
@@ -125,7 +133,7 @@ impl Console {
             Row::Slot => self.slot_line(bytes, from, page),
             Row::Register => self.register_line(bytes, from, page),
             Row::Check => check_line(&self.memory, bytes, from, page),
-            Row::Takes(count, kind) => self.behind_line(count, kind, bytes, from, page),
+            Row::Takes(count, kind) => self.behind_line(place, count, kind, bytes, from, page),
             Row::Unknown => bad(page),
         }
     }

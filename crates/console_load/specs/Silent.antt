@@ -36,37 +36,37 @@ abbrev pub unchanged : Page → List ℕ → List ℕ → Slot → After
 unchanged p m buffer s = record { page = p; memory = m; buffer = buffer; slot = s }
 
 module _ (p : Page) (m buffer : List ℕ) (s : Slot) (domain size : ℕ) where
-  by_numbers : (count : Count) (u : Option (List ℕ)) → as_many count u ≡ Some (text domain size)
-      → keeps_slot s (or_bad p m buffer count kind.Load u) ≡ unchanged p m buffer s
-  by_numbers count None h = cc
-  by_numbers count (Some l) h =
+  by_numbers : (place : ℕ) (count : Count) (u : Option (List ℕ)) → as_many count u ≡ Some (text domain size)
+      → keeps_slot s (or_bad p m buffer place count kind.Load u) ≡ unchanged p m buffer s
+  by_numbers place count None h = cc
+  by_numbers place count (Some l) h =
       ap (keeps_slot s)
       (picked (takes count (length l)) (Some (text (first l) (second l))) (record { page = p; memory = m; buffer = buffer }) (bad_line p m buffer) domain size h)
 
-  by_kind : (line : List ℕ) (from : ℕ) (count : Count) (k : Kind) → awaited_from k count line from ≡ Some (text domain size)
-      → keeps_slot s (or_bad p m buffer count k (numbers_behind line from)) ≡ unchanged p m buffer s
-  by_kind line from count kind.Show h = cc
-  by_kind line from count kind.Buffer h = cc
-  by_kind line from count (kind.Lists held) h = cc
-  by_kind line from count (kind.Registry r v) h = cc
-  by_kind line from count kind.Text h = cc
-  by_kind line from count kind.Load h = by_numbers count (numbers_behind line from) h
-  by_kind line from count kind.Plan h = cc
+  by_kind : (line : List ℕ) (place from : ℕ) (count : Count) (k : Kind) → awaited_from k count line from ≡ Some (text domain size)
+      → keeps_slot s (or_bad p m buffer place count k (numbers_behind line from)) ≡ unchanged p m buffer s
+  by_kind line place from count kind.Show h = cc
+  by_kind line place from count kind.Buffer h = cc
+  by_kind line place from count (kind.Lists held) h = cc
+  by_kind line place from count (kind.Registry r v) h = cc
+  by_kind line place from count kind.Text h = cc
+  by_kind line place from count kind.Load h = by_numbers place count (numbers_behind line from) h
+  by_kind line place from count kind.Plan h = cc
 
-  by_row : (line : List ℕ) (from : ℕ) (r : Row) → awaited_by r line from ≡ Some (text domain size)
-      → operate_by r p m buffer s line from ≡ unchanged p m buffer s
-  by_row line from row.Slot h = cc
-  by_row line from row.Register h = cc
-  by_row line from row.Check h = cc
-  by_row line from (row.Takes count k) h = by_kind line from count k h
-  by_row line from row.Unknown h = cc
+  by_row : (line : List ℕ) (place from : ℕ) (r : Row) → awaited_by r line from ≡ Some (text domain size)
+      → operate_by r p m buffer s line place from ≡ unchanged p m buffer s
+  by_row line place from row.Slot h = cc
+  by_row line place from row.Register h = cc
+  by_row line place from row.Check h = cc
+  by_row line place from (row.Takes count k) h = by_kind line place from count k h
+  by_row line place from row.Unknown h = cc
 
   by_words : (line : List ℕ) → awaited_in line ≡ Some (text domain size) → answered p m buffer s line ≡ unchanged p m buffer s
   unfolding awaited_in answered
   by_words line h =
       let w = next_word line 0 in
       let place = place_among (bytes_of line w) names in
-      by_row line w.stop (row_at place) h
+      by_row line place w.stop (row_at place) h
 
   pub says_nothing : (line : List ℕ) (filled : ℕ) → awaited line filled ≡ Some (text domain size) → line_ended p m buffer s line filled ≡ unchanged p m buffer s
   unfolding awaited line_ended

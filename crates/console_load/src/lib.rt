@@ -24,7 +24,9 @@ fn numbers_await(count: Count, bytes: &[u8], from: usize) -> Option<Awaited>
     ensures { result ≡ as_many count (numbers_behind bytes.now from) }
 {
     let mut n = [0u64; 2048];
-    let given = console_names::numbers(bytes, from, &mut n)?;
+    let Ok(given) = console_names::numbers(bytes, from, &mut n) else {
+        return None;
+    };
     if !console_names::takes(count, given) {
         return None;
     }

@@ -44,7 +44,7 @@ plainly p m v (Told o) h = said p m v o h
 module _ (p : Page) (m : List ℕ) where
   -- A line of numbers says the rules' answer, with the row's values;
   pub numbers_said : (buffer : List ℕ) (place : ℕ) (count : Count) (r : Request) (v : Values) (l : List ℕ) → row_at place ≡ Takes count (Registry r v)
-      → (numbers_line p m buffer (Registry r v) l).page ≡ said_of p m v (asked_at place l)
+      → (numbers_line p m buffer place (Registry r v) l).page ≡ said_of p m v (asked_at place l)
   numbers_said buffer place count r v l e =
       rw e (plainly p m v (asked r l) (subst (λ (w : Row). Plain (values_by w) (asked_by w l)) e (plain_asked place l)))
 

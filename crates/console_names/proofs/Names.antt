@@ -1,5 +1,5 @@
 -- A word's place among names, one name at a time. Assumes nothing.
-use Rattle.std.specs.Prelude.{Some, None}
+use Rattle.std.specs.Prelude.{Ok, Err}
 use Prim.Native.Nat.{ℕ, suc, ◌+◌, ◌-◌, ◌≤◌, ◌<◌}
 use mathlib.Core.Path.{◌≡◌, refl, sym, ap, ◌∙◌}
 use mathlib.Core.Bool.{true, false}
@@ -62,12 +62,12 @@ not_before names at s e h =
     omega arith
 
 module _ (line : List ℕ) (from : ℕ) (before after : List ℕ) (run : Run) (g : Gathered line from before after run) where
-  pub other_behind : run.stop < length line → Numbered line from before after None
+  pub other_behind : run.stop < length line → Numbered line from before after (Err run.count)
   other_behind h =
       let b = lt-ltb (run_from 2048 line from).stop (length line) (rw g.stop at h) in
-      record { count = rw b; numbers = g.numbers; front = tt }
+      record { count = rw (b, g.count); numbers = g.numbers; front = fronted _ run.count before after g.count g.numbers }
 
-  pub none_behind : length line ≤ run.stop → Numbered line from before after (Some run.count)
+  pub none_behind : length line ≤ run.stop → Numbered line from before after (Ok run.count)
   none_behind h =
       let b = le-ltb (run_from 2048 line from).stop (length line) (rw g.stop at h) in
       record { count = rw (b, g.count); numbers = g.numbers; front = fronted _ run.count before after g.count g.numbers }

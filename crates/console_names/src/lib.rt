@@ -208,13 +208,13 @@ pub fn rest(l: &[u64]) -> &[u64]
     &l[1..]
 }
 
-// Numbers from a place on go to the front of n, whose rest stays: how many, if nothing else stands there.
-pub fn numbers(bytes: &[u8], from: usize, n: &mut [u64; 2048]) -> Option<usize>
+// Numbers from a place on go to the front of n, whose rest stays: how many, also where another word stands behind them.
+pub fn numbers(bytes: &[u8], from: usize, n: &mut [u64; 2048]) -> Result<usize, usize>
     ensures { Numbered bytes.now from n.old n.new result }
 {
     let run = console_words::numbers(bytes, from, n);
     if run.stop < bytes.len() {
-        return None;
+        return Err(run.count);
     }
-    Some(run.count)
+    Ok(run.count)
 }

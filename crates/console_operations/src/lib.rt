@@ -1,14 +1,14 @@
-// The console's operations on one registry. Each gives a status.
+// The console's operations on one registry. Each is told by its place among the names, and gives a status.
 #![tactic(auto)]
 
 ghost use Rattle.std.specs.Prelude.{◌≡◌, [], ◌∷◌};
 ghost use Rattle.host_answers.specs.Told.{counted as told};
 ghost use Rattle.demands.specs.Starts.{blank};
-ghost use Rattle.console_names.specs.Table.{asked};
+ghost use Rattle.console_names.specs.Table.{asked, asked_at};
 ghost use Rattle.console_operations.specs.Asked.{which_of};
 ghost use Rattle.console_operations.specs.Carried.{Carried, Lists};
 
-use console_names::{BUFFER_ROOM, Held, Request};
+use console_names::{BAD, BUFFER_ROOM, Held, Kind, Request, Row};
 use host_answers::ANSWER;
 use memory::WORDS;
 
@@ -29,7 +29,7 @@ fn opened(m: &mut [u64; WORDS], domain: u64, first: u64) -> u64
 }
 
 // What a request of the numbers l asks the registry for. A number that is missing is 0.
-pub fn carried_out(m: &mut [u64; WORDS], ask: Request, l: &[u64], out: &mut [u64; ANSWER]) -> u64
+fn requested(m: &mut [u64; WORDS], ask: Request, l: &[u64], out: &mut [u64; ANSWER]) -> u64
     ensures { Carried m.old (asked ask l.now) out.old result out.new m.new }
 {
     let a = console_names::nth(l, 0);
@@ -64,6 +64,17 @@ pub fn carried_out(m: &mut [u64; WORDS], ask: Request, l: &[u64], out: &mut [u64
         Request::Count => one(host::vaskelbi_count(m), out),
         Request::Next => one(host::vaskelbi_next(m), out),
         Request::Edition => host::vaskelbi_edition(m, a, out),
+    }
+}
+
+// What the numbers l behind the name at this place ask the registry for. A place whose row asks it for nothing is bad, and changes
+// nothing.
+pub fn carried_out(m: &mut [u64; WORDS], place: usize, l: &[u64], out: &mut [u64; ANSWER]) -> u64
+    ensures { Carried m.old (asked_at place l.now) out.old result out.new m.new }
+{
+    match console_names::row_at(place) {
+        Row::Takes(_, Kind::Registry(ask, _)) => requested(m, ask, l, out),
+        _ => BAD,
     }
 }
 

@@ -1,5 +1,5 @@
 -- The two lists of a check, found and not found, and what the line of a plan says by what was told.
-use Rattle.std.specs.Prelude.{Option, Some, None}
+use Rattle.std.specs.Prelude.{Option, Some, None, Ok, Err}
 use Prim.Native.Nat.{ℕ}
 use mathlib.Core.Path.{◌≡◌, sym, ap, ◌∙◌}
 use mathlib.Core.List.{List}
@@ -24,23 +24,23 @@ use Rattle.console_order.specs.Checks.{TwoLists, set_in, sets_in, checking, Fron
 use Rattle.console_order.specs.Plans.{planned_on}
 
 module _ (line : List ℕ) (from : ℕ) (a a' b b' : List ℕ) where
-  pub no_set : Behind (set_in line from) a a' None → sets_in line from ≡ None
+  pub no_set : (n : Run) → Behind (length line) (set_in line from) a a' (Err n) → sets_in line from ≡ None
   unfolding sets_in
-  no_set h = rw (behind_missing (set_in line from) a a' h)
+  no_set n h = rw (behind_missing _ (set_in line from) a a' n h)
 
-  module _ (r : Run) (h : Behind (set_in line from) a a' (Some r)) where
+  module _ (r : Run) (h : Behind (length line) (set_in line from) a a' (Ok r)) where
     first : Listed (set_in line from) a a' r
-    first = behind_listed (set_in line from) a a' r h
+    first = behind_listed _ (set_in line from) a a' r h
 
-    pub no_order : Behind (list_behind line r.stop (bytes "order")) b b' None → sets_in line from ≡ None
+    pub no_order : (n : Run) → Behind (length line) (list_behind line r.stop (bytes "order")) b b' (Err n) → sets_in line from ≡ None
     unfolding sets_in
-    no_order k =
-        let e : list_behind line first.numbers.stop (bytes "order") ≡ None = rw first.stop at (behind_missing _ b b' k) in
+    no_order n k =
+        let e : list_behind line first.numbers.stop (bytes "order") ≡ None = rw first.stop at (behind_missing _ _ b b' n k) in
         rw (first.is, e)
 
-    module _ (q : Run) (k : Behind (list_behind line r.stop (bytes "order")) b b' (Some q)) where
+    module _ (q : Run) (k : Behind (length line) (list_behind line r.stop (bytes "order")) b b' (Ok q)) where
       second : Listed (list_behind line r.stop (bytes "order")) b b' q
-      second = behind_listed _ b b' q k
+      second = behind_listed _ _ b b' q k
 
       order_is : list_behind line first.numbers.stop (bytes "order") ≡ Some second.numbers
       order_is = ap (λ (n : ℕ). list_behind line n (bytes "order")) (sym first.stop) ∙ second.is

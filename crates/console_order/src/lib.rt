@@ -28,8 +28,12 @@ fn two_lists(
 ) -> Option<Sets>
     ensures { Two bytes.now from set.old set.new order.old order.new result }
 {
-    let first = console_definition::list_behind(bytes, from, b"set", set)?;
-    let second = console_definition::list_behind(bytes, first.stop, b"order", order)?;
+    let Ok(first) = console_definition::list_behind(bytes, from, b"set", set) else {
+        return None;
+    };
+    let Ok(second) = console_definition::list_behind(bytes, first.stop, b"order", order) else {
+        return None;
+    };
     let ends = second.stop == bytes.len();
     if !ends {
         return None;

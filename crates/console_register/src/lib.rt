@@ -67,7 +67,7 @@ fn with_lists(
     let mut deps = [0u64; 2048];
     let mut provs = [0u64; 2048];
     let lists = console_definition::three_lists(bytes, head.stop, &mut rows, &mut deps, &mut provs);
-    let Some(all) = lists else {
+    let Ok(all) = lists else {
         return BAD;
     };
     let mut realms = [0u64; 2050];
@@ -88,10 +88,10 @@ pub fn registered(m: &mut [u64; WORDS], bytes: &[u8], from: usize, out: &mut [u6
     ensures { Carried m.old (registration (definition_in bytes.now from))
         out.old result out.new m.new }
 {
-    let Some(under) = console_definition::read_parent(bytes, from) else {
+    let Ok(under) = console_definition::read_parent(bytes, from) else {
         return BAD;
     };
-    let Some(head) = console_definition::read_head(bytes, under.stop) else {
+    let Ok(head) = console_definition::read_head(bytes, under.stop) else {
         return BAD;
     };
     with_lists(m, under.parent, head, bytes, out)

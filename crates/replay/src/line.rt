@@ -23,7 +23,7 @@ pub struct Replay {
 
 impl Replay {
     // A line is at its end: it is carried out, and its answer written. One that awaits a text is followed by it.
-    pub fn line_ended<W: Write>(&mut self, output: &mut Output<W>)
+    pub(crate) fn line_ended<W: Write>(&mut self, output: &mut Output<W>)
         ensures keeps { kept_of self.new ≡ end_line (kept_of self.old) }
         ensures says { Says W.contents output.old output.new (line_said (kept_of self.old)) }
     {
@@ -53,7 +53,7 @@ impl Replay {
     }
 
     // The bytes of one part of the input.
-    pub fn feed<W: Write>(&mut self, part: &[u8], output: &mut Output<W>)
+    pub(crate) fn feed<W: Write>(&mut self, part: &[u8], output: &mut Output<W>)
         ensures keeps { kept_of self.new ≡ fed (kept_of self.old) part.now }
         ensures says { Says W.contents output.old output.new (said (kept_of self.old) part.now) }
     {

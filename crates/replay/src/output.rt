@@ -15,7 +15,7 @@ pub struct Output<W> {
 
 impl<W: Write> Output<W> {
     // The whole answer, in one piece; none to a line that is passed over.
-    pub fn say(&mut self, page: &Page)
+    pub(crate) fn say(&mut self, page: &Page)
         ensures { Says W.contents self.old self.new (page_said page.now) }
     {
         if 0 < page.place && self.written.is_ok() {

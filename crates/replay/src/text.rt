@@ -19,7 +19,7 @@ pub struct Due {
 
 impl Due {
     // No text is due.
-    pub fn nothing() -> Due
+    pub(crate) fn nothing() -> Due
         ensures { result ≡ due_of 0 0 0 }
     {
         Due {
@@ -46,7 +46,7 @@ impl Replay {
     }
 
     // A text ends with its last byte,
-    pub fn whole_text<W: Write>(&mut self, output: &mut Output<W>)
+    pub(crate) fn whole_text<W: Write>(&mut self, output: &mut Output<W>)
         ensures keeps { kept_of self.new ≡ whole (kept_of self.old) }
         ensures says { Says W.contents output.old output.new (whole_text_said (kept_of self.old)) }
     {
@@ -57,7 +57,7 @@ impl Replay {
     }
 
     // or with the input.
-    pub fn cut_text<W: Write>(&mut self, output: &mut Output<W>)
+    pub(crate) fn cut_text<W: Write>(&mut self, output: &mut Output<W>)
         ensures keeps { kept_of self.new ≡ cut_off (kept_of self.old) }
         ensures says { Says W.contents output.old output.new (cut_off_said (kept_of self.old)) }
     {
@@ -67,7 +67,7 @@ impl Replay {
     }
 
     // One byte of a text.
-    pub fn text_byte<W: Write>(&mut self, byte: u8, output: &mut Output<W>)
+    pub(crate) fn text_byte<W: Write>(&mut self, byte: u8, output: &mut Output<W>)
         requires { self.old.due.came < self.old.due.awaited.length }
         ensures keeps { kept_of self.new ≡ text_byte (kept_of self.old) byte }
         ensures says { Says W.contents output.old output.new (text_byte_said (kept_of self.old) byte) }

@@ -1,41 +1,34 @@
--- `read_head` meets its contract: five numbers are read, each from where the last stopped; one that is missing is the definition's end.
-use Rattle.console_definition.specs.Definitions.{head_in}
+-- `read_head` meets its contract: five words are read, each from where the last stopped, and `five_numbers` says if each is a number.
+use Rattle.std.proofs.Common.{sym, ◌∙◌}
+use Rattle.console_definition.proofs.Definitions.{head_read, head_not}
 use Rattle.console_definition.proofs.read_head.Goals as goal
 
-pub returns-in_err-key : goal.returns-in_err-key
-unfolding head_in
-returns-in_err-key c = rw (c.from_residual.ensures, ← c.in_err-key.ensures)
-
-pub returns-in_err-realm : goal.returns-in_err-realm
-unfolding head_in
-returns-in_err-realm c = rw (c.from_residual-in_err-realm.ensures, ← c.in_ok-key.ensures, ← c.in_err-realm.ensures)
-
-pub returns-in_err-payload : goal.returns-in_err-payload
-unfolding head_in
-returns-in_err-payload c = rw
-    (c.from_residual-in_err-payload.ensures, ← c.in_ok-key.ensures, ← c.in_ok-realm.ensures, ← c.in_err-payload.ensures)
-
-pub returns-in_err-edition : goal.returns-in_err-edition
-unfolding head_in
-returns-in_err-edition c = rw (
-  c.from_residual-in_err-edition.ensures,
-  ← c.in_ok-key.ensures,
-  ← c.in_ok-realm.ensures,
-  ← c.in_ok-payload.ensures,
-  ← c.in_err-edition.ensures,
-)
-
-pub returns-in_err-default : goal.returns-in_err-default
-unfolding head_in
-returns-in_err-default c = rw (
-  c.from_residual-in_err-default.ensures,
-  ← c.in_ok-key.ensures,
-  ← c.in_ok-realm.ensures,
-  ← c.in_ok-payload.ensures,
-  ← c.in_ok-edition.ensures,
-  ← c.in_err-default.ensures,
-)
+pub returns-then-not-five_numbers : goal.returns-then-not-five_numbers
+returns-then-not-five_numbers c =
+    head_not c.args.bytes.now c.args.from c.read_number-key.result c.read_number-realm.result c.read_number-payload.result
+    c.read_number-edition.result c.read_number-default.result c.read_number-key.ensures c.read_number-realm.ensures
+    c.read_number-payload.ensures c.read_number-edition.ensures c.read_number-default.ensures _
+    (λ i. record {
+      key = c.unwrap_or.ensures i;
+      realm = c.unwrap_or-2.ensures i;
+      payload = c.unwrap_or-3.ensures i;
+      edition = c.unwrap_or-4.ensures i;
+      default = c.unwrap_or-5.ensures i;
+      stop = c.read_number-default.result.stop;
+    })
+    (sym c.five_numbers.ensures ∙ c.if-not-five_numbers.true)
 
 pub returns : goal.returns
-unfolding head_in
-returns c = rw (← c.in_ok-key.ensures, ← c.in_ok-realm.ensures, ← c.in_ok-payload.ensures, ← c.in_ok-edition.ensures, ← c.in_ok-default.ensures)
+returns c =
+    head_read c.args.bytes.now c.args.from c.read_number-key.result c.read_number-realm.result c.read_number-payload.result
+    c.read_number-edition.result c.read_number-default.result c.read_number-key.ensures c.read_number-realm.ensures
+    c.read_number-payload.ensures c.read_number-edition.ensures c.read_number-default.ensures _
+    (λ i. record {
+      key = c.unwrap_or.ensures i;
+      realm = c.unwrap_or-2.ensures i;
+      payload = c.unwrap_or-3.ensures i;
+      edition = c.unwrap_or-4.ensures i;
+      default = c.unwrap_or-5.ensures i;
+      stop = c.read_number-default.result.stop;
+    })
+    (sym c.five_numbers.ensures ∙ c.if-not-five_numbers.false)

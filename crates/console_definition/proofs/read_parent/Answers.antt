@@ -7,13 +7,12 @@ pub returns-then-is_word : goal.returns-then-is_word
 returns-then-is_word c =
     nobody c.args.bytes.now c.args.from c.next_word-word.result c.next_word-word.ensures.word (sym c.is_word.ensures ∙ c.if-is_word.true)
 
-pub returns-in_err-id : goal.returns-in_err-id
-returns-in_err-id c =
-    rw c.from_residual.ensures
-    (no_parent c.args.bytes.now c.args.from c.next_word-word.result c.next_word-word.ensures.word
-    (sym c.is_word.ensures ∙ c.if-is_word.false) c.in_err-id.ensures)
+pub returns-in_default : goal.returns-in_default
+returns-in_default c =
+    no_parent c.args.bytes.now c.args.from c.next_word-word.result c.next_word-word.ensures.word
+    (sym c.is_word.ensures ∙ c.if-is_word.false) c.in_default.ensures
 
 pub returns : goal.returns
 returns c =
     parent_of c.args.bytes.now c.args.from c.next_word-word.result c.next_word-word.ensures.word
-    (sym c.is_word.ensures ∙ c.if-is_word.false) c.in_ok-id.id c.in_ok-id.ensures
+    (sym c.is_word.ensures ∙ c.if-is_word.false) c.in-Some.id c.in-Some.ensures

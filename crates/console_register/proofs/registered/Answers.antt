@@ -8,17 +8,17 @@ use Rattle.console_register.proofs.registered.Goals as goal
 pub returns-in_default : goal.returns-in_default
 returns-in_default c =
     let x = c.args in
-    same x.m.now x.out.now _ _ _ _ _ (ap registration (no_parent x.bytes.now x.from c.in_default.ensures)) ((refl, refl), refl)
+    same x.m.now x.out.now _ _ _ _ _ (ap registration (no_parent x.bytes.now x.from _ c.in_default.ensures)) ((refl, refl), refl)
 
 pub returns-in_default-read_head : goal.returns-in_default-read_head
 returns-in_default-read_head c =
     let x = c.args in
     same x.m.now x.out.now _ _ _ _ _ (ap registration
-    (no_head x.bytes.now x.from c.in-Some.under c.in-Some.ensures c.in_default-read_head.ensures)) ((refl, refl), refl)
+    (no_head x.bytes.now x.from c.in-Ok.under c.in-Ok.ensures _ c.in_default-read_head.ensures)) ((refl, refl), refl)
 
 pub returns : goal.returns
 returns c =
     let x = c.args in
     same x.m.now x.out.now _ _ _ _ _ (ap registration
-    (parts x.bytes.now x.from c.in-Some.under c.in-Some.ensures c.in-Some-read_head.head c.in-Some-read_head.ensures))
+    (parts x.bytes.now x.from c.in-Ok.under c.in-Ok.ensures c.in-Ok-read_head.head c.in-Ok-read_head.ensures))
     c.with_lists.ensures

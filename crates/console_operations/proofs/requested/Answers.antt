@@ -1,10 +1,10 @@
--- `carried_out` meets its contract: the numbers of a question are the list's, and it leaves the memory as it was.
+-- `requested` meets its contract: the numbers of a question are the list's, and it leaves the memory as it was.
 use Rattle.std.proofs.Common.{refl}
 use Rattle.rules.specs.Queries.{RowsInUse, Registered, NextId}
 use Rattle.rules.specs.Steps.{Ask}
 use Rattle.rules.specs.Questions.{AskRegistry}
 use Rattle.console_operations.proofs.Laws.{one_told}
-use Rattle.console_operations.proofs.carried_out.Goals as goal
+use Rattle.console_operations.proofs.requested.Goals as goal
 
 pub returns-in-Fits : goal.returns-in-Fits
 returns-in-Fits c = rw (c.in-Fits.is, ← c.nth-a.ensures, ← c.nth-b.ensures) (c.vaskelbi_fits.ensures, refl)
