@@ -1,4 +1,5 @@
 -- Each promise of these crates allows one outcome: the console.
+use Rattle.std.specs.Prelude.{refl, Ok, Err}
 use Rattle.console_slot.specs.Exact.{decides_exact}
 use Rattle.console_words.specs.contracts as console_words
 use Rattle.console_words.proofs as console_words_tells
@@ -20,7 +21,7 @@ use Rattle.console_order.specs.contracts as console_order
 use Rattle.console_order.proofs as console_order_tells
 use Rattle.console_line.specs.contracts as console_line
 use Rattle.console_line.proofs as console_line_tells
-use Rattle.outcome.specs.One.{One, OneSeen}
+use Rattle.outcome.specs.One.{One, OneSeen, OneAtEach}
 use Rattle.outcome.specs.Equations.{by_equation, by_two, by_three, memory_alone, one_outcome}
 use Rattle.outcome.specs.Records.{behind_one, gathered_one, leaves_one, numbered_one, spanned_one, three_one, leaves_slot_one}
 
@@ -66,8 +67,9 @@ console_answer-Page-or_none κs a r s ms ns p q = memory_alone p q
 pub console_answer-Page-yes_no : One console_answer.Page.yes_no.ended console_answer_tells.Page.yes_no.Reads.Learnt
 console_answer-Page-yes_no κs a r s ms ns p q = memory_alone p q
 
-pub console_answer-Page-shown : One console_answer.Page.shown.ended console_answer_tells.Page.shown.Reads.Learnt
-console_answer-Page-shown κs a r s ms ns p q = memory_alone p q
+pub console_answer-Page-shown : OneAtEach _ console_answer.Page.shown.ended console_answer_tells.Page.shown.Reads.Learnt
+console_answer-Page-shown E l b d κs (page, (slot, (Ok v, rest))) r s ms ns p q = (refl, (by_equation p q, refl))
+console_answer-Page-shown E l b d κs (page, (slot, (Err w, rest))) r s ms ns p q = (refl, (by_equation p q, refl))
 
 pub console_answer_front : OneSeen console_answer.front.ended (λ κs r. r.now) console_answer_tells.front.Reads.Learnt
 console_answer_front κs a r s ms ns p q = by_equation p q

@@ -19,6 +19,10 @@ answer_alone e g = (by_equation e g, refl)
 pub by_two : {A B : Type 0} {x a b : A} {y c d : B} → (a ≡ x) × (c ≡ y) → (b ≡ x) × (d ≡ y) → (a ≡ b) × (c ≡ d)
 by_two p q = (by_equation p.0 q.0, by_equation p.1 q.1)
 
+-- the same, where an answer that is handed in leaves nothing between them
+pub by_two_handed : {A B C : Type 0} {x a b : A} {y c d : B} {m n : C} → m ≡ n → (a ≡ x) × (c ≡ y) → (b ≡ x) × (d ≡ y) → (a ≡ b) × ((m ≡ n) × (c ≡ d))
+by_two_handed e p q = (by_equation p.0 q.0, (e, by_equation p.1 q.1))
+
 -- `Tells` with a memory, `Carried` and `Lists`: a status, the words told, and what stands before them among the parameters
 pub by_three : {A B C : Type 0} {x a b : A} {y c d : B} {z m n : C}
     → ((a ≡ x) × (c ≡ y)) × (m ≡ z)

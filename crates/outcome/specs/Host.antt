@@ -1,55 +1,70 @@
 -- Each promise of these crates allows one outcome: what a host is told, and what it calls.
+use Rattle.std.specs.Prelude.{refl, Ok, Err}
 use Rattle.host_answers.specs.contracts as host_answers
 use Rattle.host_answers.proofs as host_answers_tells
 use Rattle.host.specs.contracts as host
 use Rattle.host.proofs as host_tells
-use Rattle.outcome.specs.One.{One}
-use Rattle.outcome.specs.Equations.{by_equation, by_three, by_two, memory_alone, one_number}
+use Rattle.outcome.specs.One.{One, OneAtEach}
+use Rattle.outcome.specs.Equations.{by_equation, by_three, by_two, by_two_handed, memory_alone, one_number}
 
-pub host_answers_done : One host_answers.done.ended host_answers_tells.done.Reads.Learnt
-host_answers_done κs a r s ms ns p q = by_equation p q
+pub host_answers_done : OneAtEach _ host_answers.done.ended host_answers_tells.done.Reads.Learnt
+host_answers_done E l b d κs (Ok v, rest) r s ms ns p q = (by_equation p q, refl)
+host_answers_done E l b d κs (Err w, rest) r s ms ns p q = (by_equation p q, refl)
 
-pub host_answers_whether : One host_answers.whether.ended host_answers_tells.whether.Reads.Learnt
-host_answers_whether κs a r s ms ns p q = by_two p q
+pub host_answers_whether : OneAtEach _ host_answers.whether.ended host_answers_tells.whether.Reads.Learnt
+host_answers_whether E l b d κs (Ok v, rest) r s ms ns p q = by_two_handed refl p q
+host_answers_whether E l b d κs (Err w, rest) r s ms ns p q = by_two_handed refl p q
 
-pub host_answers_number : One host_answers.number.ended host_answers_tells.number.Reads.Learnt
-host_answers_number κs a r s ms ns p q = by_two p q
+pub host_answers_number : OneAtEach _ host_answers.number.ended host_answers_tells.number.Reads.Learnt
+host_answers_number E l b d κs (Ok v, rest) r s ms ns p q = by_two_handed refl p q
+host_answers_number E l b d κs (Err w, rest) r s ms ns p q = by_two_handed refl p q
 
-pub host_answers_perhaps : One host_answers.perhaps.ended host_answers_tells.perhaps.Reads.Learnt
-host_answers_perhaps κs a r s ms ns p q = by_two p q
+pub host_answers_perhaps : OneAtEach _ host_answers.perhaps.ended host_answers_tells.perhaps.Reads.Learnt
+host_answers_perhaps E l b d κs (Ok v, rest) r s ms ns p q = by_two_handed refl p q
+host_answers_perhaps E l b d κs (Err w, rest) r s ms ns p q = by_two_handed refl p q
 
-pub host_answers_port : One host_answers.port.ended host_answers_tells.port.Reads.Learnt
-host_answers_port κs a r s ms ns p q = by_two p q
+pub host_answers_port : OneAtEach _ host_answers.port.ended host_answers_tells.port.Reads.Learnt
+host_answers_port E l b d κs (Ok v, rest) r s ms ns p q = by_two_handed refl p q
+host_answers_port E l b d κs (Err w, rest) r s ms ns p q = by_two_handed refl p q
 
-pub host_answers_edition : One host_answers.edition.ended host_answers_tells.edition.Reads.Learnt
-host_answers_edition κs a r s ms ns p q = by_two p q
+pub host_answers_edition : OneAtEach _ host_answers.edition.ended host_answers_tells.edition.Reads.Learnt
+host_answers_edition E l b d κs (Ok v, rest) r s ms ns p q = by_two_handed refl p q
+host_answers_edition E l b d κs (Err w, rest) r s ms ns p q = by_two_handed refl p q
 
-pub host_answers_root : One host_answers.root.ended host_answers_tells.root.Reads.Learnt
-host_answers_root κs a r s ms ns p q = by_two p q
+pub host_answers_root : OneAtEach _ host_answers.root.ended host_answers_tells.root.Reads.Learnt
+host_answers_root E l b d κs (Ok v, rest) r s ms ns p q = by_two_handed refl p q
+host_answers_root E l b d κs (Err w, rest) r s ms ns p q = by_two_handed refl p q
 
-pub host_answers_resolved : One host_answers.resolved.ended host_answers_tells.resolved.Reads.Learnt
-host_answers_resolved κs a r s ms ns p q = by_two p q
+pub host_answers_resolved : OneAtEach _ host_answers.resolved.ended host_answers_tells.resolved.Reads.Learnt
+host_answers_resolved E l b d κs (Ok v, rest) r s ms ns p q = by_two_handed refl p q
+host_answers_resolved E l b d κs (Err w, rest) r s ms ns p q = by_two_handed refl p q
 
 pub host_answers_optional : One host_answers.optional.ended host_answers_tells.optional.Reads.Learnt
 host_answers_optional κs a r s ms ns p q = by_two p q
 
-pub host_answers_begun : One host_answers.begun.ended host_answers_tells.begun.Reads.Learnt
-host_answers_begun κs a r s ms ns p q = by_two p q
+pub host_answers_begun : OneAtEach _ host_answers.begun.ended host_answers_tells.begun.Reads.Learnt
+host_answers_begun E l b d κs (Ok v, rest) r s ms ns p q = by_two_handed refl p q
+host_answers_begun E l b d κs (Err w, rest) r s ms ns p q = by_two_handed refl p q
 
-pub host_answers_replaced : One host_answers.replaced.ended host_answers_tells.replaced.Reads.Learnt
-host_answers_replaced κs a r s ms ns p q = by_two p q
+pub host_answers_replaced : OneAtEach _ host_answers.replaced.ended host_answers_tells.replaced.Reads.Learnt
+host_answers_replaced E l b d κs (Ok v, rest) r s ms ns p q = by_two_handed refl p q
+host_answers_replaced E l b d κs (Err w, rest) r s ms ns p q = by_two_handed refl p q
 
-pub host_answers_admitted : One host_answers.admitted.ended host_answers_tells.admitted.Reads.Learnt
-host_answers_admitted κs a r s ms ns p q = by_two p q
+pub host_answers_admitted : OneAtEach _ host_answers.admitted.ended host_answers_tells.admitted.Reads.Learnt
+host_answers_admitted E l b d κs (Ok v, rest) r s ms ns p q = by_two_handed refl p q
+host_answers_admitted E l b d κs (Err w, rest) r s ms ns p q = by_two_handed refl p q
 
-pub host_answers_called : One host_answers.called.ended host_answers_tells.called.Reads.Learnt
-host_answers_called κs a r s ms ns p q = by_two p q
+pub host_answers_called : OneAtEach _ host_answers.called.ended host_answers_tells.called.Reads.Learnt
+host_answers_called E l b d κs (Ok v, rest) r s ms ns p q = by_two_handed refl p q
+host_answers_called E l b d κs (Err w, rest) r s ms ns p q = by_two_handed refl p q
 
-pub host_answers_child : One host_answers.child.ended host_answers_tells.child.Reads.Learnt
-host_answers_child κs a r s ms ns p q = by_two p q
+pub host_answers_child : OneAtEach _ host_answers.child.ended host_answers_tells.child.Reads.Learnt
+host_answers_child E l b d κs (Ok v, rest) r s ms ns p q = by_two_handed refl p q
+host_answers_child E l b d κs (Err w, rest) r s ms ns p q = by_two_handed refl p q
 
-pub host_answers_reading : One host_answers.reading.ended host_answers_tells.reading.Reads.Learnt
-host_answers_reading κs a r s ms ns p q = by_two p q
+pub host_answers_reading : OneAtEach _ host_answers.reading.ended host_answers_tells.reading.Reads.Learnt
+host_answers_reading E l b d κs (Ok v, rest) r s ms ns p q = by_two_handed refl p q
+host_answers_reading E l b d κs (Err w, rest) r s ms ns p q = by_two_handed refl p q
 
 pub host_answers_yes_or_no : One host_answers.yes_or_no.ended host_answers_tells.yes_or_no.Reads.Learnt
 host_answers_yes_or_no κs a r s ms ns p q = by_two p q

@@ -74,6 +74,12 @@ memory_providers_key_bits κs a r s ms ns p q = by_equation p q
 pub memory_providers_meets : One memory_providers.meets.ended memory_providers_tells.meets.Reads.Learnt
 memory_providers_meets κs a r s ms ns p q = by_equation p q
 
+pub memory_index_index : One memory_index.index.ended memory_index_tells.index.Reads.Learnt
+memory_index_index κs a r s ms ns p q = by_equation p q
+
+pub memory_index_provider_by : One memory_index.provider_by.ended memory_index_tells.provider_by.Reads.Learnt
+memory_index_provider_by κs a r s ms ns p q = by_equation p q
+
 pub memory_index-Index-new : OneSeen memory_index.Index.new.ended {X = λ κs. List ℕ × List ℕ} (λ κs r. (r.memory.now, r.words)) memory_index_tells.Index.new.Reads.Learnt
 memory_index-Index-new κs a r s ms ns p q = λ i. (by_equation p.0 q.0 i, by_equation p.1 q.1 i)
 
@@ -139,6 +145,9 @@ text_read_root_lines κs a r s ms ns p q = reads_one p q
 
 pub text_read_block_read_block : One text_read_block.read_block.ended text_read_block_tells.read_block.Reads.Learnt
 text_read_block_read_block κs a r s ms ns p q = block_one _ _ _ r s p q
+
+pub registry_block-Numbers-of : One registry_block.Numbers.of.ended registry_block_tells.Numbers.of.Reads.Learnt
+registry_block-Numbers-of κs a r s ms ns p q = by_equation p q
 
 pub registry_block_join : One registry_block.join.ended registry_block_tells.join.Reads.Learnt
 registry_block_join κs a r s ms ns p q = by_two (p.answer, p.memory) (q.answer, q.memory)

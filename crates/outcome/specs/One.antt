@@ -4,7 +4,9 @@
 use Rattle.std.specs.Prelude.{ℕ, ◌≡◌, List, [], ◌∷◌}
 use contract.Lifetimes.{Lfts}
 use denote.Exit.{Exit, unchanged, leaves, Last}
-use denote.RattleType.{Denots}
+use denote.RattleType.{RattleType, Denots}
+use denote.Param.Laws.{Laws}
+use mir.Syntax.{Dict}
 use denote.Signature.{Slot, types_at}
 use denote.Triple.End.{Kepts, Fins}
 use denote.Triple.Entry.{Args, Res}
@@ -40,3 +42,8 @@ module _ (T : Ended) where
   -- All of the answer is seen. Of a part of a lent list it is what the part holds, `now`.
   abbrev pub One : Promise → Type 0
   One = OneSeen (λ κs r. r)
+
+-- Of a function over a type with a bound: so it is at every type that meets the bound.
+abbrev pub OneAtEach : (Bound : Type 0 → Type 1) (T : (E : RattleType) → Bound E.Denot → Dict → Ended)
+    → ((E : RattleType) → Laws E → (b : Bound E.Denot) (d : Dict) → Promise (T E b d)) → Type 2
+OneAtEach Bound T P = (E : RattleType) (l : Laws E) (b : Bound E.Denot) (d : Dict) → One (T E b d) (P E l b d)

@@ -1,5 +1,5 @@
 -- Any two outcomes of which such a record speaks are equal: the answer, then each lent memory in the order of the parameters.
-use Rattle.std.specs.Prelude.{ℕ, ◌≡◌, refl, List, Option}
+use Rattle.std.specs.Prelude.{ℕ, ◌≡◌, refl, List, Option, Result}
 use Rattle.slot_child.specs.Slots.{slot_of}
 use Rattle.slot_child.specs.declared.Slot.{Slot}
 use Rattle.slot_child.specs.Exact.{slot_exact}
@@ -38,17 +38,17 @@ gathered_one p q =
     let e = by_equation p.stop q.stop in
     (λ i. record { count = c i; stop = e i }, by_equation p.numbers q.numbers)
 
--- Numbers at the front of an array, and how many, if nothing else stands in the line.
-pub numbered_one : {line : List ℕ} {from : ℕ} {before o n : List ℕ} {r s : Option ℕ}
+-- Numbers at the front of an array, and how many, also where another word stands behind them.
+pub numbered_one : {line : List ℕ} {from : ℕ} {before o n : List ℕ} {r s : Result ℕ ℕ}
     → Numbered line from before o r → Numbered line from before n s → (r ≡ s) × (o ≡ n)
 numbered_one p q = (by_equation p.count q.count, by_equation p.numbers q.numbers)
 
 -- A list behind its word, or none.
-pub behind_one : {l : Option Numbers} {a x u : List ℕ} {r s : Option Run} → Behind l a x r → Behind l a u s → (r ≡ s) × (x ≡ u)
+pub behind_one : {size : ℕ} {l : Option Numbers} {a x u : List ℕ} {r s : Result Run Run} → Behind size l a x r → Behind size l a u s → (r ≡ s) × (x ≡ u)
 behind_one p q = (by_equation p.list q.list, by_equation p.numbers q.numbers)
 
 -- Three such lists, or what there is of them.
-pub three_one : {line : List ℕ} {from : ℕ} {a x u b y v c z w : List ℕ} {r s : Option Lists}
+pub three_one : {line : List ℕ} {from : ℕ} {a x u b y v c z w : List ℕ} {r s : Result Lists Lists}
     → Three line from a x b y c z r → Three line from a u b v c w s → (r ≡ s) × ((x ≡ u) × ((y ≡ v) × (z ≡ w)))
 three_one p q =
     (by_equation p.found q.found, (by_equation p.realms q.realms, (by_equation p.deps q.deps, by_equation p.provs q.provs)))
